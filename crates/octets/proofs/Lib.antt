@@ -1,0 +1,5 @@
+-- Laws that the crates above cite.
+pub mod Bools
+pub mod Lists
+pub mod Bytes
+pub mod Room

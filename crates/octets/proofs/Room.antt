@@ -1,0 +1,66 @@
+-- Laws of bytes put into room: what is put keeps the length, and adds to what a line holds. Assumes nothing.
+use mathlib.Core.Path.{_≡_, refl, sym, ap, _∙_}
+use mathlib.Core.Bool.{Bool, true, false}
+use mathlib.Core.List.{List, [], _++_, append-assoc}
+use Prim.Native.Nat.{ℕ, suc, _+_, _≤_, _<_}
+use native.Mathlib.Omega.{arith}
+use lib.ListN.{length, take, drop, length-append, length-drop}
+use lib.Seq.{take-at, length-take-le}
+use borrow.Author.Tests.{le-leb, leb-true, leb-false, lt-leb}
+use Rattle.octets.specs.Room.{fits, laid, endOf, Holds, Adds}
+
+-- ---- what is laid
+module _ (out : List ℕ) (at : ℕ) (p : List ℕ) where
+  pub laid-fits : at + length p ≤ length out → laid out at p ≡ take at out ++ p ++ drop (at + length p) out
+  unfolding laid
+  laid-fits h = rw (le-leb (at + length p) (length out) h)
+
+  pub laid-over : length out < at + length p → laid out at p ≡ out
+  unfolding laid
+  laid-over h = rw (lt-leb (at + length p) (length out) h)
+
+  pub end-fits : at + length p ≤ length out → endOf out at p ≡ at + length p
+  unfolding endOf
+  end-fits h = rw (le-leb (at + length p) (length out) h)
+
+  pub end-over : length out < at + length p → endOf out at p ≡ suc (length out)
+  unfolding endOf
+  end-over h = rw (lt-leb (at + length p) (length out) h)
+
+pub length-laid : (out : List ℕ) (at : ℕ) (p : List ℕ) → length (laid out at p) ≡ length out
+length-laid out at p = go (fits out at p) refl
+  where
+    go : (t : Bool) → fits out at p ≡ t → length (laid out at p) ≡ length out
+    go true e =
+        let h : at + length p ≤ length out = leb-true (at + length p) (length out) e in
+        rw (laid-fits out at p h) (simp length-append (omega (arith, length-take-le at out (omega arith), length-drop (at + length p) out)))
+    go false e = ap (λ (l : List ℕ). length l) (laid-over out at p (leb-false (at + length p) (length out) e))
+
+-- ---- what a line holds
+pub holds-nothing : (line : List ℕ) → Holds line 0 []
+holds-nothing line = record { counts = omega arith; begins = λ q. refl }
+
+-- what is put is added
+pub put-adds : (line : List ℕ) (at : ℕ) (p : List ℕ) → Adds line at (laid line at p) (endOf line at p) p
+put-adds line at p = record { keeps = length-laid line at p; adds = λ w h. go w h (fits line at p) refl }
+  where
+    go : (w : List ℕ) → Holds line at w → (t : Bool) → fits line at p ≡ t → Holds (laid line at p) (endOf line at p) (w ++ p)
+    go w h true e =
+        let room : at + length p ≤ length line = leb-true (at + length p) (length line) e in
+        rw (laid-fits line at p room, end-fits line at p room) (record {
+          counts = omega (arith, h .counts, length-append w p, ap (λ (l : List ℕ). length l) (sym (laid-fits line at p room)), length-laid line at p);
+          begins = λ q. take-at (take at line ++ p) (drop (at + length p) line) (at + length p) (omega (arith, length-append (take at line) p, length-take-le at line (omega arith))) ∙ rw (h .begins (omega arith));
+        })
+    go w h false e =
+        let over : length line < at + length p = leb-false (at + length p) (length line) e in
+        rw (laid-over line at p over, end-over line at p over) (record {
+          counts = omega (arith, h .counts, length-append w p);
+          begins = λ q. absurd (omega arith);
+        })
+
+-- what is added first and then
+pub adds-then : (line next last : List ℕ) (at r s : ℕ) (p q : List ℕ) → Adds line at next r p → Adds next r last s q → Adds line at last s (p ++ q)
+adds-then line next last at r s p q f g = record {
+  keeps = g .keeps ∙ f .keeps;
+  adds = λ w h. rw (append-assoc w p q) at (g .adds (w ++ p) (f .adds w h));
+}

@@ -1,0 +1,57 @@
+-- `is_in` meets its contract: the class that an arm took decides which test is meant. Assumes nothing.
+use mathlib.Core.Path.{sym, ap, _∙_}
+use borrow.Author.Needs.{needs}
+use Rattle.octets.specs.declared.Class.{Class}
+use Rattle.octets.specs.Bytes.{inClass, isDigit}
+use Rattle.octets.proofs.is_in.Statement.{statement}
+use Rattle.octets.proofs.is_in.Tie as tie
+
+enum-told : tie.Need-enum-told
+enum-told c = search needs
+
+is-plain-requires : tie.Need-is-plain-requires
+is-plain-requires c κs = search needs
+
+enum-told-2 : tie.Need-enum-told-2
+enum-told-2 c = search needs
+
+enum-told-3 : tie.Need-enum-told-3
+enum-told-3 c = search needs
+
+is-letter-requires : tie.Need-is-letter-requires
+is-letter-requires c κs = search needs
+
+enum-told-4 : tie.Need-enum-told-4
+enum-told-4 c = search needs
+
+between-requires : tie.Need-between-requires
+between-requires c κs = search needs
+
+returns : tie.Need-returns
+returns c = c .is-plain .ensures ∙ ap (λ (k : Class). inClass k (c .before .before .before .args .b)) (sym (c .before .enum-told .given .1))
+
+returns-2 : tie.Need-returns-2
+returns-2 c = ap (λ (k : Class). inClass k (c .before .before .args .b)) (sym (c .enum-told2 .given .1))
+
+returns-3 : tie.Need-returns-3
+returns-3 c = c .is-letter .ensures ∙ ap (λ (k : Class). inClass k (c .before .before .before .args .b)) (sym (c .before .enum-told3 .given .1))
+
+returns-4 : tie.Need-returns-4
+unfolding isDigit
+returns-4 c = c .between .ensures ∙ ap (λ (k : Class). inClass k (c .before .before .before .args .b)) (sym (c .before .enum-told4 .given .1))
+
+pub is-in-spec : {M : Type 1} → statement M
+is-in-spec =
+    tie.close
+    (tie.spec
+    enum-told
+    is-plain-requires
+    enum-told-2
+    enum-told-3
+    is-letter-requires
+    enum-told-4
+    between-requires
+    returns
+    returns-2
+    returns-3
+    returns-4)

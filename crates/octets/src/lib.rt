@@ -1,0 +1,151 @@
+// Bytes: their classes, a part of a lent slice, bytes put into lent room, and capital letters.
+// Every function takes any bytes and refuses nothing.
+ghost use mathlib.Core.Path.{_≡_};
+ghost use mathlib.Core.List.{map};
+ghost use Prim.Native.Nat.{_+_, _≤_, min};
+ghost use lib.ListN.{length};
+ghost use lib.Seq.{paste};
+ghost use denote.Ref.{ptr};
+ghost use Rattle.octets.specs.Bytes.{within, isPlain, isLetter, inClass, capital as capitalOf};
+ghost use Rattle.octets.specs.Lists.{all};
+ghost use Rattle.octets.specs.Room.{part as partOf, placeIn, laid, endOf};
+
+// What a byte may be, for `all_in`.
+pub enum Class {
+    // any but NUL, CR and LF
+    Plain,
+    // any but SPACE
+    NonSpace,
+    // 'A' to 'Z' or 'a' to 'z'
+    Letter,
+    // '0' to '9'
+    Digit,
+}
+
+// Whether lo ≤ b ≤ hi.
+fn between(b: u8, lo: u8, hi: u8) -> bool
+    ensures { λ r. ⌜ r ≡ within lo b hi ⌝ }
+{
+    if b < lo {
+        return false;
+    }
+    b <= hi
+}
+
+// Whether the byte is none of NUL, CR and LF.
+fn is_plain(b: u8) -> bool
+    ensures { λ r. ⌜ r ≡ isPlain b ⌝ }
+{
+    if b == 0 {
+        return false;
+    }
+    if b == b'\n' {
+        return false;
+    }
+    b != b'\r'
+}
+
+// Whether the byte is an ASCII letter.
+fn is_letter(b: u8) -> bool
+    ensures { λ r. ⌜ r ≡ isLetter b ⌝ }
+{
+    if between(b, b'A', b'Z') {
+        return true;
+    }
+    between(b, b'a', b'z')
+}
+
+// Whether the byte is of the class.
+fn is_in(b: u8, class: Class) -> bool
+    ensures { λ r. ⌜ r ≡ inClass class b ⌝ }
+{
+    match class {
+        Class::Plain => is_plain(b),
+        Class::NonSpace => b != b' ',
+        Class::Letter => is_letter(b),
+        Class::Digit => between(b, b'0', b'9'),
+    }
+}
+
+// Whether every byte is of the class.
+pub fn all_in(s: &[u8], class: Class) -> bool
+    ensures { λ r. ⌜ r ≡ all (inClass class) (now (s .entry)) ⌝ }
+{
+    let mut i = 0;
+    while i < s.len() {
+        if !is_in(s[i], class) {
+            return false;
+        }
+        i += 1;
+    }
+    true
+}
+
+// The lesser of two numbers.
+fn lesser(a: usize, b: usize) -> usize
+    ensures { λ r. ⌜ r ≡ min a b ⌝ }
+{
+    if a < b {
+        return a;
+    }
+    b
+}
+
+// The bytes from `start` up to, not including, `end`, as that part of the lent slice. What lies past the slice's end is left off.
+pub fn part(s: &[u8], start: usize, end: usize) -> &[u8]
+    ensures bytes { λ r. ⌜ now r ≡ partOf (now (s .entry)) start end ⌝ }
+    ensures place { λ r. ⌜ ptr r ≡ placeIn (s .entry) (min start (min end (length (now (s .entry))))) ⌝ }
+{
+    let stop = lesser(end, s.len());
+    let from = lesser(start, stop);
+    &s[from..stop]
+}
+
+// Copies p to the place `at`.
+fn copy_at(out: &mut [u8], at: usize, p: &[u8])
+    requires { ⌜ at + length (now p) ≤ length (now out) ⌝ }
+    ensures { λ _. ⌜ now (out .exit) ≡ paste (now (out .entry)) at (now (p .entry)) (length (now (p .entry))) ⌝ }
+{
+    let mut i = 0;
+    while i < p.len() {
+        out[at + i] = p[i];
+        i += 1;
+    }
+}
+
+// Puts p at the place `at` and answers where it ends. If there isn't room for all of it, nothing is put, and the answer is one past the room.
+pub fn put(out: &mut [u8], at: usize, p: &[u8]) -> usize
+    ensures place { λ r. ⌜ r ≡ endOf (now (out .entry)) at (now (p .entry)) ⌝ }
+    ensures bytes { λ _. ⌜ now (out .exit) ≡ laid (now (out .entry)) at (now (p .entry)) ⌝ }
+{
+    let room = out.len();
+    if room < at {
+        return room + 1;
+    }
+    if room - at < p.len() {
+        return room + 1;
+    }
+    copy_at(out, at, p);
+    at + p.len()
+}
+
+// The byte, or its capital where it is a small letter.
+fn capital(b: u8) -> u8
+    ensures { λ r. ⌜ r ≡ capitalOf b ⌝ }
+{
+    if between(b, b'a', b'z') {
+        return b - 32;
+    }
+    b
+}
+
+// Puts every small letter in capitals, in place.
+pub fn capitalize(s: &mut [u8])
+    ensures { λ _. ⌜ now (s .exit) ≡ map capitalOf (now (s .entry)) ⌝ }
+{
+    let mut i = 0;
+    while i < s.len() {
+        s[i] = capital(s[i]);
+        i += 1;
+    }
+}

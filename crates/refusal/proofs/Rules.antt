@@ -1,0 +1,54 @@
+-- Laws of ordered rules: what is known where none applies, and that ascending numbers make the first the lowest. Assumes nothing.
+use mathlib.Core.Path.{_≡_, refl, sym, _∙_}
+use mathlib.Core.Bool.{Bool, true, false, true≢false, cond}
+use mathlib.Core.Logic.{_⊎_, inl, inr}
+use mathlib.Core.List.{List, [], _∷_, List·Memᴰ, List·Memᴰ·cases-cons, List·Memᴰ·not-nil}
+use Prim.Native.Nat.{ℕ, _≤_, _<_}
+use native.Mathlib.Omega.{arith}
+use lib.Dec.{ltb}
+use borrow.Author.Tests.{ltb-true}
+use Rattle.refusal.specs.Numbers.{accepted}
+use Rattle.refusal.specs.Rules.{Rule, firstOf, ascendFrom, ascend}
+
+-- ---- where none applies
+pub first-none : (r : Rule) (rs : List Rule) → (r .number ≡ accepted → ⊥) → firstOf (r ∷ rs) ≡ accepted → (r .applies ≡ false) × (firstOf rs ≡ accepted)
+unfolding firstOf
+first-none r rs ne e = go (r .applies) refl
+  where
+    go : (t : Bool) → r .applies ≡ t → (r .applies ≡ false) × (firstOf rs ≡ accepted)
+    go true h = absurd (ne (rw h at e))
+    go false h = (h, rw h at e)
+
+-- ---- the lowest number that applies
+above : (n : ℕ) (r : Rule) (rs : List Rule) → ascendFrom n (r ∷ rs) ≡ true → (n < r .number) × (ascendFrom (r .number) rs ≡ true)
+unfolding ascendFrom
+above n r rs e = go (ltb n (r .number)) refl
+  where
+    go : (t : Bool) → ltb n (r .number) ≡ t → (n < r .number) × (ascendFrom (r .number) rs ≡ true)
+    go true h = (ltb-true n (r .number) h, rw h at e)
+    go false h = absurd (true≢false (sym e ∙ rw h))
+
+member-above : (n : ℕ) (rs : List Rule) → ascendFrom n rs ≡ true → (r : Rule) → List·Memᴰ r rs → n < r .number
+member-above n [] a r m = absurd (List·Memᴰ·not-nil m)
+member-above n (x ∷ rs) a r m =
+    let h = above n x rs a in
+    go (List·Memᴰ·cases-cons m) (λ k. member-above (x .number) rs (h .1) r k)
+  where
+    go : (r ≡ x) ⊎ List·Memᴰ r rs → (List·Memᴰ r rs → x .number < r .number) → n < r .number
+    go (inl e) f = rw e (above n x rs a .0)
+    go (inr k) f = omega (arith, f k, above n x rs a .0)
+
+lowest-from : (n : ℕ) (rs : List Rule) → ascendFrom n rs ≡ true → (r : Rule) → List·Memᴰ r rs → r .applies ≡ true → firstOf rs ≤ r .number
+unfolding firstOf
+lowest-from n [] a r m t = absurd (List·Memᴰ·not-nil m)
+lowest-from n (x ∷ rs) a r m t = go (List·Memᴰ·cases-cons m) (x .applies) refl (λ k. lowest-from (x .number) rs (above n x rs a .1) r k t)
+  where
+    go : (r ≡ x) ⊎ List·Memᴰ r rs → (u : Bool) → x .applies ≡ u → (List·Memᴰ r rs → firstOf rs ≤ r .number) → cond (x .applies) (x .number) (firstOf rs) ≤ r .number
+    go (inl e) true h f = rw (h, e) (omega arith)
+    go (inl e) false h f = absurd (true≢false (sym t ∙ rw e h))
+    go (inr k) true h f = rw h (omega (arith, member-above (x .number) rs (above n x rs a .1) r k))
+    go (inr k) false h f = rw h (f k)
+
+-- Where the numbers ascend, the lowest that applies is given.
+pub lowest : (rs : List Rule) → ascend rs ≡ true → (r : Rule) → List·Memᴰ r rs → r .applies ≡ true → firstOf rs ≤ r .number
+lowest rs = lowest-from accepted rs

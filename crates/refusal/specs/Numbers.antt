@@ -1,0 +1,81 @@
+-- The numbers of document 01's table, under the names that src/lib.rt gives them there with the table's words.
+-- A contract that cites one here and a function that answers the constant agree, or the function isn't proved.
+use Prim.Native.Nat.{ℕ}
+
+abbrev pub accepted : ℕ
+accepted = 0
+
+abbrev pub notWellFormed : ℕ
+notWellFormed = 1
+
+abbrev pub outputTooShort : ℕ
+outputTooShort = 2
+
+abbrev pub badLink : ℕ
+badLink = 3
+
+abbrev pub lineTooLong : ℕ
+lineTooLong = 4
+
+abbrev pub noLineEnd : ℕ
+noLineEnd = 5
+
+abbrev pub controlByte : ℕ
+controlByte = 6
+
+abbrev pub emptyLine : ℕ
+emptyLine = 7
+
+abbrev pub emptyPrefix : ℕ
+emptyPrefix = 8
+
+abbrev pub badCommand : ℕ
+badCommand = 9
+
+abbrev pub tooManyParams : ℕ
+tooManyParams = 10
+
+abbrev pub unknownCommand : ℕ
+unknownCommand = 11
+
+abbrev pub wrongParamCount : ℕ
+wrongParamCount = 12
+
+abbrev pub badSource : ℕ
+badSource = 13
+
+abbrev pub badTime : ℕ
+badTime = 14
+
+abbrev pub zeroTime : ℕ
+zeroTime = 15
+
+abbrev pub badName : ℕ
+badName = 16
+
+abbrev pub badModes : ℕ
+badModes = 17
+
+abbrev pub badMembers : ℕ
+badMembers = 18
+
+abbrev pub noSuchChannel : ℕ
+noSuchChannel = 19
+
+abbrev pub notOnChannel : ℕ
+notOnChannel = 20
+
+abbrev pub noFreeSlot : ℕ
+noFreeSlot = 21
+
+abbrev pub tooManyMembers : ℕ
+tooManyMembers = 22
+
+abbrev pub textTooLong : ℕ
+textTooLong = 23
+
+abbrev pub unwritable : ℕ
+unwritable = 24
+
+abbrev pub noRoom : ℕ
+noRoom = 25
