@@ -1,13 +1,13 @@
 -- Laws of lists: a list at a place, tests of every element, equal lists, padding, and parts of lists. Assumes nothing.
-use mathlib.Core.Path.{_≡_, refl, sym, _∙_}
+use mathlib.Core.Path.{_≡_, refl, sym, ap, _∙_}
 use mathlib.Core.Bool.{Bool, true, false, true≢false}
 use mathlib.Core.List.{List, [], _∷_, _++_, map}
 use Prim.Native.Nat.{ℕ, zero, suc, _+_, _≤_, _<_}
 use native.Mathlib.Numerals.{add-one}
 use native.Mathlib.Omega.{arith}
-use lib.ListN.{length, take, drop, getD, drop-of-length-le, length-drop, length-map}
-use lib.Seq.{drop-cons, take-append-le, drop-append-le}
-use Rattle.octets.specs.Lists.{all, sameBy}
+use lib.ListN.{length, take, drop, getD, set, replicate, drop-of-length-le, length-append, length-drop, length-map, length-replicate, getD-replicate}
+use lib.Seq.{drop-cons, take-append-le, drop-append-le, take-append-seam, length-take-le, take-take, getD-take, sets}
+use Rattle.octets.specs.Lists.{all, sameBy, padded}
 use Rattle.octets.proofs.Bools.{and-left, and-right, and-intro}
 
 -- ---- a list at a place
@@ -96,3 +96,46 @@ module _ {A : Type 0} (t : A → A → Bool) where
   sameBy-true f [] (y ∷ m) e = absurd (true≢false (sym e))
   sameBy-true f (x ∷ l) [] e = absurd (true≢false (sym e))
   sameBy-true f (x ∷ l) (y ∷ m) e = rw (f x y (and-left (t x y) (sameBy t l m) e), sameBy-true f l m (and-right (t x y) (sameBy t l m) e))
+
+-- ---- padding
+module _ {A : Type 0} (x : A) where
+  take-replicate : (n m : ℕ) → n ≤ m → take n (replicate m x) ≡ replicate n x
+  take-replicate zero m = λ h. refl
+  take-replicate (suc n) zero = λ h. absurd (omega arith)
+  take-replicate (suc n) (suc m) = λ h. ap (λ (l : List A). x ∷ l) (take-replicate n m (omega arith))
+
+  getD-continued : (l : List A) (m k : ℕ) (d : A) → k < m → getD (l ++ replicate m x) k d ≡ getD l k x
+  getD-continued [] m k d = λ h. getD-replicate m k x d h
+  getD-continued (y ∷ l) m zero d = λ h. refl
+  getD-continued (y ∷ l) m (suc k) d = λ h. getD-continued l m k d (omega arith)
+
+  pub getD-padded : (n : ℕ) (l : List A) (k : ℕ) (d : A) → k < n → getD (padded n x l) k d ≡ getD l k x
+  unfolding padded
+  getD-padded n l k d h = getD-take n (l ++ replicate n x) k d h ∙ getD-continued l n k d h
+
+  pub length-padded : (n : ℕ) (l : List A) → length (padded n x l) ≡ n
+  unfolding padded
+  length-padded n l = length-take-le n (l ++ replicate n x) (omega (arith, length-append l (replicate n x), length-replicate n x))
+
+  -- a list that is no longer stands at the front
+  pub take-padded : (n : ℕ) (l : List A) → length l ≤ n → take (length l) (padded n x l) ≡ l
+  unfolding padded
+  take-padded n l h = take-take (length l) n (l ++ replicate n x) h ∙ take-append-seam l (replicate n x)
+
+  -- values set one after the other from the front, those past the end lost, are the padded list of them
+  sets-nil : (i : ℕ) (vs : List A) → sets [] i vs ≡ []
+  sets-nil i [] = refl
+  sets-nil i (v ∷ vs) = sets-nil (suc i) vs
+
+  sets-cons : (vs l : List A) (i : ℕ) (y : A) → sets (y ∷ l) (suc i) vs ≡ y ∷ sets l i vs
+  sets-cons [] l i y = refl
+  sets-cons (v ∷ vs) l i y = sets-cons vs (set l i v) (suc i) y
+
+  sets-continued : (vs : List A) (n m : ℕ) → n ≤ m → sets (replicate n x) 0 vs ≡ take n (vs ++ replicate m x)
+  sets-continued [] n m = λ h. sym (take-replicate n m h)
+  sets-continued (v ∷ vs) zero m = λ h. sets-nil 1 vs
+  sets-continued (v ∷ vs) (suc n) m = λ h. sets-cons vs (replicate n x) 0 v ∙ ap (λ (l : List A). v ∷ l) (sets-continued vs n m (omega arith))
+
+  pub sets-padded : (n : ℕ) (vs : List A) → sets (replicate n x) 0 vs ≡ padded n x vs
+  unfolding padded
+  sets-padded n vs = sets-continued vs n n (omega arith)

@@ -1,0 +1,183 @@
+-- Laws of spans: each span of a message in a line stands for the bytes that the grammar gives. Assumes nothing.
+use mathlib.Core.Path.{_≡_, refl, sym, ap, _∙_}
+use mathlib.Core.Bool.{Bool, true, false, false≢true}
+use mathlib.Core.List.{List, [], _∷_, _++_, map, append-nil}
+use Prim.Native.Nat.{ℕ, zero, suc, _+_, _-_, _≤_, _<_, min}
+use native.Mathlib.Omega.{arith}
+use lib.ListN.{length, take, drop, getD, length-append, length-drop, length-take, take-append-drop}
+use lib.Seq.{take-at, take-nil, drop-length, drop-drop}
+use lib.Dec.{eqb}
+use Rattle.octets.specs.Bytes.{space, colon}
+use Rattle.octets.specs.Room.{part}
+use Rattle.octets.proofs.Lists.{front-part, getD-padded}
+use Rattle.message.specs.declared.Span.{Span}
+use Rattle.message.specs.declared.Message.{Message}
+use Rattle.message.specs.Grammar.{Part, partAt, paramLimit, word, spaces, rest, middle, hasPrefix, prefix, prefixEnd, commandStart, command, commandEnd, params}
+use Rattle.message.specs.Content.{bytesOf}
+use Rattle.message.specs.Parts.{nowhere, bytesAt, spanOf, messageIn}
+use Rattle.message.proofs.Runs.{start-in, stop-in}
+
+-- The span lies in s, and has these bytes there.
+pub record Placed (s : List ℕ) (at : Span) (bytes : List ℕ) : Type 0 where
+  pub forward : at .start ≤ at .end
+  pub inside : at .end ≤ length s
+  pub same : bytesAt s at ≡ bytes
+
+-- a span that lies in s is not cut back
+pub placed-start : (s : List ℕ) (at : Span) (bytes : List ℕ) → Placed s at bytes → min (at .start) (min (at .end) (length s)) ≡ at .start
+placed-start s at bytes p = omega (arith, p .forward, p .inside)
+
+-- ---- a part with its bytes at a place
+-- bytes that stand at a place are the span from there on, of their length
+standing : (s : List ℕ) (at : ℕ) (bytes more : List ℕ) → at ≤ length s → drop at s ≡ bytes ++ more → Placed s (spanOf (partAt at bytes)) bytes
+unfolding part
+standing s at bytes more h e = record {
+  forward = omega arith;
+  inside = omega (arith, length-drop at s, length-append bytes more, ap (λ (l : List ℕ). length l) e);
+  same = rw e (take-at bytes more (at + length bytes - at) (omega arith));
+}
+
+word-split : (s : List ℕ) → s ≡ word s ++ drop (length (word s)) s
+unfolding word
+word-split [] = refl
+word-split (b ∷ s) = go (eqb b space) refl (word-split s)
+  where
+    go : (t : Bool) → eqb b space ≡ t → s ≡ word s ++ drop (length (word s)) s → b ∷ s ≡ word (b ∷ s) ++ drop (length (word (b ∷ s))) (b ∷ s)
+    go true e ih = rw e
+    go false e ih = rw e (ap (λ (l : List ℕ). b ∷ l) ih)
+
+word-placed : (s : List ℕ) (at : ℕ) → at ≤ length s → Placed s (spanOf (partAt at (word (drop at s)))) (word (drop at s))
+word-placed s at h = standing s at (word (drop at s)) (drop (length (word (drop at s))) (drop at s)) h (word-split (drop at s))
+
+pub nowhere-placed : (s : List ℕ) → Placed s (nowhere (length s)) []
+unfolding part
+nowhere-placed s = record {
+  forward = omega arith;
+  inside = omega arith;
+  same = rw (drop-length s) (take-nil (length s - length s));
+}
+
+-- what is placed in a beginning of s is placed in s
+placed-front : (s : List ℕ) (n : ℕ) (at : Span) (bytes : List ℕ) → Placed (take n s) at bytes → Placed s at bytes
+unfolding part
+placed-front s n at bytes p = record {
+  forward = p .forward;
+  inside = omega (arith, p .inside, length-take n s);
+  same =
+      ap (λ (l : List ℕ). take (at .end - at .start) (drop (at .start) l)) (sym (take-append-drop n s))
+      ∙ front-part (take n s) (drop n s) (at .start) (at .end - at .start) (omega (arith, p .forward, p .inside))
+      ∙ p .same;
+}
+
+-- ---- the prefix and the command
+pub prefix-long : (b : List ℕ) → hasPrefix b ≡ true → 1 ≤ length b
+unfolding hasPrefix
+prefix-long [] = λ e. absurd (false≢true e)
+prefix-long (x ∷ s) = λ e. omega arith
+
+module _ (b : List ℕ) where
+  prefix-end-in : hasPrefix b ≡ true → prefixEnd b ≤ length b
+  unfolding prefixEnd prefix
+  prefix-end-in h = rw h (stop-in b 1 (1 + length (word (drop 1 b))) (prefix-long b h) refl)
+
+  command-start-in : commandStart b ≤ length b
+  unfolding commandStart
+  command-start-in = go (hasPrefix b) refl
+    where
+      go : (t : Bool) → hasPrefix b ≡ t → commandStart b ≤ length b
+      go true h = rw h (start-in b (prefixEnd b) (prefixEnd b + spaces (drop (prefixEnd b) b)) (prefix-end-in h) refl)
+      go false h = rw h (omega arith)
+
+  pub command-placed : (n : ℕ) → Placed b (messageIn b n .command) (command b)
+  unfolding messageIn commandEnd command
+  command-placed n = word-placed b (commandStart b) command-start-in
+
+-- ---- every parameter
+abbrev pub Each : (Part → Type 0) → List Part → Type 0
+Each P [] = Unit {0}
+Each P (p ∷ ps) = P p × Each P ps
+
+each-imp : (P Q : Part → Type 0) → ((p : Part) → P p → Q p) → (ps : List Part) → Each P ps → Each Q ps
+each-imp P Q f [] e = tt
+each-imp P Q f (p ∷ ps) e = (f p (e .0), each-imp P Q f ps (e .1))
+
+-- a part has its bytes at its place in s
+abbrev pub In : List ℕ → Part → Type 0
+In s p = Placed s (spanOf p) (p .bytes)
+
+module _ (b : List ℕ) where
+  drop-next : (at x : ℕ) (s : List ℕ) → drop at b ≡ x ∷ s → drop (at + 1) b ≡ s
+  drop-next at x s e = sym (drop-drop 1 at b) ∙ ap (λ (l : List ℕ). drop 1 l) e
+
+  drop-long : (at x : ℕ) (s : List ℕ) → drop at b ≡ x ∷ s → at + 1 ≤ length b
+  drop-long at x s e = omega (arith, length-drop at b, ap (λ (l : List ℕ). length l) e)
+
+  trailing-in : (at x : ℕ) (s : List ℕ) → drop at b ≡ x ∷ s → In b (partAt (at + 1) s)
+  trailing-in at x s e = standing b (at + 1) s [] (drop-long at x s e) (drop-next at x s e ∙ sym (append-nil s))
+
+  middle-in : (at x : ℕ) (s : List ℕ) → drop at b ≡ x ∷ s → In b (partAt at (x ∷ word s))
+  middle-in at x s e = standing b at (x ∷ word s) (drop (length (word s)) s) (omega (arith, drop-long at x s e)) (e ∙ ap (λ (l : List ℕ). x ∷ l) (word-split s))
+
+  rest-step : (k at x : ℕ) (s : List ℕ) → drop at b ≡ x ∷ s → Each (In b) (rest k (at + 1) s) → Each (In b) (middle (k + 1) (at + 1) s) → Each (In b) (rest k at (x ∷ s))
+  unfolding rest
+  rest-step k at x s e r m = go (eqb x space) refl (eqb x colon) refl
+    where
+      go : (t : Bool) → eqb x space ≡ t → (u : Bool) → eqb x colon ≡ u → Each (In b) (rest k at (x ∷ s))
+      go true p u q = rw p r
+      go false p true q = rw (p, q) (trailing-in at x s e, tt)
+      go false p false q = rw (p, q) (middle-in at x s e, m)
+
+  middle-step : (k at x : ℕ) (s : List ℕ) → Each (In b) (rest k (at + 1) s) → Each (In b) (middle k (at + 1) s) → Each (In b) (middle k at (x ∷ s))
+  unfolding rest
+  middle-step k at x s r m = go (eqb x space) refl
+    where
+      go : (t : Bool) → eqb x space ≡ t → Each (In b) (middle k at (x ∷ s))
+      go true p = rw p r
+      go false p = rw p m
+
+  mutual
+    unfolding rest
+
+    rest-in : (s : List ℕ) (k at : ℕ) → drop at b ≡ s → Each (In b) (rest k at s)
+    rest-in [] k at e = tt
+    rest-in (x ∷ s) k at e = let d = drop-next at x s e in rest-step k at x s e (rest-in s k (at + 1) d) (after-middle-in s (k + 1) (at + 1) d)
+
+    after-middle-in : (s : List ℕ) (k at : ℕ) → drop at b ≡ s → Each (In b) (middle k at s)
+    after-middle-in [] k at e = tt
+    after-middle-in (x ∷ s) k at e = let d = drop-next at x s e in middle-step k at x s (rest-in s k (at + 1) d) (after-middle-in s k (at + 1) d)
+
+  params-in : Each (In b) (params b)
+  unfolding params
+  params-in = rest-in (drop (commandEnd b) b) 0 (commandEnd b) refl
+
+-- ---- the parts of a message in a line, whose body is its first j bytes
+module _ (line : List ℕ) (j : ℕ) where
+  abbrev body : List ℕ
+  body = take j line
+
+  abbrev m : Message
+  m = messageIn body (length line)
+
+  pub prefix-in-line : Placed line (m .prefix) (prefix body)
+  unfolding messageIn prefix prefixEnd
+  prefix-in-line = go (hasPrefix body) refl
+    where
+      go : (t : Bool) → hasPrefix body ≡ t → Placed line (m .prefix) (prefix body)
+      go true h = rw h (placed-front line j _ _ (word-placed body 1 (prefix-long body h)))
+      go false h = rw h (nowhere-placed line)
+
+  pub command-in-line : Placed line (m .command) (command body)
+  unfolding messageIn
+  command-in-line = placed-front line j _ _ (command-placed body (length line))
+
+  pub params-in-line : Each (In line) (params body)
+  params-in-line = each-imp (In body) (In line) (λ p h. placed-front line j (spanOf p) (p .bytes) h) (params body) (params-in body)
+
+  each-at : (ps : List Part) → Each (In line) ps → (k : ℕ) → Placed line (getD (map spanOf ps) k (nowhere (length line))) (getD (bytesOf ps) k [])
+  each-at [] e k = nowhere-placed line
+  each-at (p ∷ ps) e zero = e .0
+  each-at (p ∷ ps) e (suc k) = each-at ps (e .1) k
+
+  pub param-in-line : (k : ℕ) (d : Span) → k < paramLimit → Placed line (getD (m .params) k d) (getD (bytesOf (params body)) k [])
+  unfolding messageIn
+  param-in-line k d h = rw (getD-padded (nowhere (length line)) paramLimit (map spanOf (params body)) k d h) (each-at (params body) params-in-line k)

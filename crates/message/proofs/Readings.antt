@@ -1,0 +1,301 @@
+-- Laws of readings: what a line that is read keeps to, what the tests that a line passes and fails make of its reading, and where its
+-- parts lie. Assumes nothing.
+use mathlib.Core.Path.{_≡_, refl, sym, ap, _∙_}
+use mathlib.Core.Bool.{Bool, true, false, true≢false, _&&_, and-false, and-true}
+use mathlib.Core.List.{List, [], _∷_, map}
+use mathlib.Core.Option.{Option·getD}
+use Prim.Native.Nat.{ℕ, _+_, _-_, _≤_, _<_}
+use native.Mathlib.Omega.{arith}
+use lib.ListN.{length, drop, getD, length-take, length-map, getD-replicate, drop-of-length-le, List·getD-eq-default}
+use lib.Dec.{eqb, ltb}
+use borrow.Author.Tests.{eq-eqb, ne-eqb, lt-ltb, le-ltb, ltb-true, ltb-false, eqb-true, eqb-false, not-false}
+use Rattle.refusal.specs.Numbers.{accepted, lineTooLong, noLineEnd, controlByte, emptyLine, emptyPrefix, badCommand, tooManyParams}
+use Rattle.refusal.specs.Rules.{firstOf, ascend, ascendFrom}
+use Rattle.refusal.proofs.Rules.{first-none}
+use Rattle.octets.specs.Bytes.{cr, lf, isPlain}
+use Rattle.octets.specs.Lists.{all, isNil, sameBy}
+use Rattle.octets.specs.Room.{part}
+use Rattle.octets.proofs.Lists.{drop-step, length-padded}
+use Rattle.message.specs.declared.Span.{Span}
+use Rattle.message.specs.declared.Message.{Message}
+use Rattle.message.specs.declared.Reading.{Reading}
+use Rattle.message.specs.declared.Reading.the-variants.{Line, Refused}
+use Rattle.message.specs.Grammar.{Part, lineLimit, paramLimit, hasPrefix, prefix, prefixEnd, command, isCommand, params}
+use Rattle.message.specs.Content.{bytesOf, contentIn}
+use Rattle.message.specs.Parts.{nowhere, spanOf, messageIn, blank}
+use Rattle.message.specs.Reading.{endsLine, bodyOf, bodyRules, grammarRules, lineRules, numberFor, isRead, numberOf, countOf, answer, bodyReading, readingOf, contentOf, messageOf}
+use Rattle.message.proofs.Places.{Placed, nowhere-placed, command-placed, prefix-in-line, command-in-line, param-in-line}
+
+-- The numbers ascend: the lowest that applies is given.
+pub rules-ascend : (line : List ℕ) → ascend (lineRules line) ≡ true
+unfolding ascendFrom lineRules bodyRules
+rules-ascend line = refl
+
+-- ---- an empty list, by its length
+nil-length : (l : List ℕ) → isNil l ≡ eqb (length l) 0
+nil-length [] = refl
+nil-length (x ∷ l) = sym (ne-eqb (length (x ∷ l)) 0 (λ e. omega arith))
+
+one-eqb : (n : ℕ) → eqb 1 (1 + n) ≡ eqb n 0
+one-eqb n = go (eqb n 0) refl
+  where
+    go : (t : Bool) → eqb n 0 ≡ t → eqb 1 (1 + n) ≡ t
+    go true e = eq-eqb 1 (1 + n) (omega (arith, eqb-true n 0 e))
+    go false e = ne-eqb 1 (1 + n) (λ q. eqb-false n 0 e (omega arith))
+
+-- ---- the end of a line
+module _ (line : List ℕ) where
+  pub ends-short : length line < 2 → false ≡ endsLine line
+  unfolding endsLine sameBy
+  ends-short h = go line h
+    where
+      go : (l : List ℕ) → length l < 2 → false ≡ sameBy eqb (drop (length l - 2) l) (cr ∷ lf ∷ [])
+      go [] = λ k. refl
+      go (x ∷ []) = λ k. sym (and-false (eqb x cr))
+      go (x ∷ y ∷ l) = λ k. absurd (omega arith)
+
+  last-two : 2 ≤ length line → drop (length line - 2) line ≡ getD line (length line - 2) 0 ∷ getD line (length line - 1) 0 ∷ []
+  last-two h =
+      let n = length line in
+      let k : n - 2 + 1 ≡ n - 1 = omega arith in
+      drop-step line (n - 2) 0 (omega arith)
+      ∙ rw (k, drop-step line (n - 1) 0 (omega arith), drop-of-length-le line {i = n - 1 + 1} (omega arith))
+
+  pub ends-by : 2 ≤ length line → eqb (getD line (length line - 2) 0) cr && eqb (getD line (length line - 1) 0) lf ≡ endsLine line
+  unfolding endsLine sameBy
+  ends-by h = rw (last-two h, and-true (eqb (getD line (length line - 1) 0) lf))
+
+  pub ends-long : endsLine line ≡ true → 2 ≤ length line
+  ends-long e = go (ltb (length line) 2) refl
+    where
+      go : (t : Bool) → ltb (length line) 2 ≡ t → 2 ≤ length line
+      go true h = absurd (true≢false (sym e ∙ sym (ends-short (ltb-true (length line) 2 h))))
+      go false h = ltb-false (length line) 2 h
+
+  pub body-is : part line 0 (length line - 2) ≡ bodyOf line
+  unfolding part bodyOf
+  body-is = let k : length line - 2 - 0 ≡ length line - 2 = omega arith in rw k
+
+  pub body-length : length (bodyOf line) ≡ length line - 2
+  unfolding bodyOf
+  body-length = length-take (length line - 2) line ∙ omega arith
+
+-- ---- a line that keeps to the grammar
+-- What holds of a line to which none of the grammar's rules applies.
+pub record Formed (line : List ℕ) : Type 0 where
+  pub ends : endsLine line ≡ true
+  pub plain : all isPlain (bodyOf line) ≡ true
+  pub prefixed : hasPrefix (bodyOf line) && isNil (prefix (bodyOf line)) ≡ false
+  pub commanded : isCommand (command (bodyOf line)) ≡ true
+  pub few : length (params (bodyOf line)) ≤ paramLimit
+
+pub formed : (line : List ℕ) → firstOf (grammarRules line) ≡ accepted → Formed line
+unfolding bodyRules
+formed line e =
+    let r5 = first-none _ _ (λ q. omega arith) e in
+    let r6 = first-none _ _ (λ q. omega arith) (r5 .1) in
+    let r7 = first-none _ _ (λ q. omega arith) (r6 .1) in
+    let r8 = first-none _ _ (λ q. omega arith) (r7 .1) in
+    let r9 = first-none _ _ (λ q. omega arith) (r8 .1) in
+    let r10 = first-none _ _ (λ q. omega arith) (r9 .1) in
+    record {
+      ends = not-false _ (r5 .0);
+      plain = not-false _ (r6 .0);
+      prefixed = r8 .0;
+      commanded = not-false _ (r9 .0);
+      few = ltb-false paramLimit _ (r10 .0);
+    }
+
+-- ---- a line that is read
+module _ (line : List ℕ) (h : isRead line ≡ true) where
+  pub number-none : numberFor line ≡ accepted
+  unfolding isRead
+  number-none = eqb-true (numberFor line) accepted h
+
+  unmarked : (ltb lineLimit (length line) ≡ false) × (firstOf (grammarRules line) ≡ accepted)
+  unfolding numberFor lineRules
+  unmarked = first-none _ _ (λ q. omega arith) number-none
+
+  pub read-small : length line ≤ lineLimit
+  read-small = ltb-false lineLimit (length line) (unmarked .0)
+
+  pub read-formed : Formed line
+  read-formed = formed line (unmarked .1)
+
+  pub read-content : contentOf line ≡ contentIn (bodyOf line)
+  unfolding contentOf
+  read-content = rw h
+
+  pub read-message : messageOf line ≡ messageIn (bodyOf line) (length line)
+  unfolding messageOf
+  read-message = rw h
+
+-- ---- the answer
+module _ (line : List ℕ) where
+  pub reading-line : (n : ℕ) → readingOf line ≡ Line n → isRead line ≡ true
+  unfolding readingOf answer isRead
+  reading-line n e = go (isRead line) refl
+    where
+      go : (t : Bool) → isRead line ≡ t → isRead line ≡ true
+      go true h = h
+      go false h =
+          let q : readingOf line ≡ Refused (numberFor line) = rw h in
+          let z : _≡_ {A = ℕ} 0 1 = cc in
+          absurd (omega arith)
+
+  pub reading-refused : (k : ℕ) → readingOf line ≡ Refused k → isRead line ≡ false
+  unfolding readingOf answer isRead
+  reading-refused k e = go (isRead line) refl
+    where
+      go : (t : Bool) → isRead line ≡ t → isRead line ≡ false
+      go true h =
+          let q : readingOf line ≡ Line (length (params (bodyOf line))) = rw h in
+          let z : _≡_ {A = ℕ} 0 1 = cc in
+          absurd (omega arith)
+      go false h = h
+
+  reading-number : numberOf (readingOf line) ≡ numberFor line
+  unfolding readingOf answer isRead
+  reading-number = go (isRead line) refl
+    where
+      go : (t : Bool) → isRead line ≡ t → numberOf (readingOf line) ≡ numberFor line
+      go true h = rw h (sym (number-none line h))
+      go false h = rw h
+
+  reading-count : countOf (readingOf line) ≡ length (contentOf line .params)
+  unfolding readingOf answer isRead contentOf contentIn
+  reading-count = go (isRead line) refl
+    where
+      go : (t : Bool) → isRead line ≡ t → countOf (readingOf line) ≡ length (contentOf line .params)
+      go true h = rw h (sym (length-map (params (bodyOf line)) (λ (p : Part). p .bytes)))
+      go false h = rw h
+
+  -- the answer settles its number and its count
+  pub answers : (r : Reading) → r ≡ readingOf line → (r ≡ readingOf line) × ((numberOf r ≡ numberFor line) × (countOf r ≡ length (contentOf line .params)))
+  answers r e = (e, (ap numberOf e ∙ reading-number, ap countOf e ∙ reading-count))
+
+-- ---- what each test makes of the reading
+module _ (line : List ℕ) where
+  pub reads-long : lineLimit < length line → Refused lineTooLong ≡ readingOf line
+  unfolding readingOf answer numberFor lineRules firstOf
+  reads-long h = rw (lt-ltb lineLimit (length line) h)
+
+  module _ (small : length line ≤ lineLimit) where
+    pub reads-unended : endsLine line ≡ false → Refused noLineEnd ≡ readingOf line
+    unfolding readingOf answer numberFor lineRules firstOf
+    reads-unended e = simp (le-ltb lineLimit (length line) small, e)
+
+    module _ (ends : endsLine line ≡ true) (body : List ℕ) (is : body ≡ bodyOf line) where
+      pub reads-control : all isPlain body ≡ false → Refused controlByte ≡ readingOf line
+      unfolding readingOf answer numberFor lineRules firstOf
+      reads-control e = simp (le-ltb lineLimit (length line) small, ends, rw is at e)
+
+      module _ (plain : all isPlain body ≡ true) where
+        pub reads-empty : length line ≡ 2 → Refused emptyLine ≡ readingOf line
+        unfolding readingOf answer numberFor lineRules firstOf
+        reads-empty h =
+            let none : isNil (bodyOf line) ≡ true = nil-length (bodyOf line) ∙ eq-eqb (length (bodyOf line)) 0 (omega (arith, body-length line)) in
+            simp (le-ltb lineLimit (length line) small, ends, rw is at plain, none)
+
+        pub reads-body : (length line ≡ 2 → ⊥) → (r : Reading) → r ≡ bodyReading body → r ≡ readingOf line
+        unfolding readingOf answer numberFor lineRules firstOf bodyReading
+        reads-body h r q =
+            let some : isNil (bodyOf line) ≡ false = nil-length (bodyOf line) ∙ ne-eqb (length (bodyOf line)) 0 (λ z. h (omega (arith, body-length line, ends-long line ends))) in
+            simp (le-ltb lineLimit (length line) small, ends, rw is at plain, some) (rw is at q)
+
+-- the test of an empty prefix, by the message's spans
+empty-is : (b : List ℕ) (n : ℕ) → messageIn b n .«has_prefix» && eqb (messageIn b n .prefix .start) (messageIn b n .prefix .end) ≡ hasPrefix b && isNil (prefix b)
+unfolding messageIn prefixEnd
+empty-is b n = go (hasPrefix b) refl
+  where
+    go : (t : Bool) → hasPrefix b ≡ t → messageIn b n .«has_prefix» && eqb (messageIn b n .prefix .start) (messageIn b n .prefix .end) ≡ hasPrefix b && isNil (prefix b)
+    go true h = rw h (one-eqb (length (prefix b)) ∙ sym (nil-length (prefix b)))
+    go false h = rw h
+
+module _ (b : List ℕ) (n : ℕ) (m : Message) (is : m ≡ messageIn b n) where
+  tested : m .«has_prefix» && eqb (m .prefix .start) (m .prefix .end) ≡ hasPrefix b && isNil (prefix b)
+  tested = rw is (empty-is b n)
+
+  counted : m .count ≡ length (params b)
+  unfolding messageIn
+  counted = ap (λ (x : Message). x .count) is
+
+  pub command-in : Placed b (m .command) (command b)
+  command-in = rw is (command-placed b n)
+
+  pub reads-empty-prefix : m .«has_prefix» && eqb (m .prefix .start) (m .prefix .end) ≡ true → Refused emptyPrefix ≡ bodyReading b
+  unfolding bodyReading answer bodyRules firstOf
+  reads-empty-prefix e = simp (sym tested ∙ e)
+
+  module _ (full : m .«has_prefix» && eqb (m .prefix .start) (m .prefix .end) ≡ false) where
+    pub reads-no-command : isCommand (command b) ≡ false → Refused badCommand ≡ bodyReading b
+    unfolding bodyReading answer bodyRules firstOf
+    reads-no-command e = simp (sym tested ∙ full, e)
+
+    module _ (named : isCommand (command b) ≡ true) where
+      pub reads-many : paramLimit < m .count → Refused tooManyParams ≡ bodyReading b
+      unfolding bodyReading answer bodyRules firstOf
+      reads-many h = simp (sym tested ∙ full, named, lt-ltb paramLimit (length (params b)) (rw counted at h))
+
+      pub reads-well : m .count ≤ paramLimit → Line (m .count) ≡ bodyReading b
+      unfolding bodyReading answer bodyRules firstOf
+      reads-well h = simp (sym tested ∙ full, named, le-ltb paramLimit (length (params b)) (rw counted at h), counted)
+
+-- ---- where the parts of any line lie
+pub prefix-nil : (b : List ℕ) → hasPrefix b ≡ false → prefix b ≡ []
+unfolding prefix
+prefix-nil b h = rw h
+
+prefix-bytes : (b : List ℕ) → Option·getD (contentIn b .prefix) [] ≡ prefix b
+unfolding contentIn
+prefix-bytes b = go (hasPrefix b) refl
+  where
+    go : (t : Bool) → hasPrefix b ≡ t → Option·getD (contentIn b .prefix) [] ≡ prefix b
+    go true h = rw h
+    go false h = rw h (sym (prefix-nil b h))
+
+module _ (line : List ℕ) (m : Message) (is : m ≡ messageOf line) where
+  pub prefix-at : Placed line (m .prefix) (Option·getD (contentOf line .prefix) [])
+  unfolding messageOf contentOf contentIn blank bodyOf
+  prefix-at = rw is (go (isRead line) refl)
+    where
+      go : (t : Bool) → isRead line ≡ t → Placed line (messageOf line .prefix) (Option·getD (contentOf line .prefix) [])
+      go true h = rw (h, prefix-bytes (bodyOf line)) (prefix-in-line line (length line - 2))
+      go false h = rw h (nowhere-placed line)
+
+  pub command-at : Placed line (m .command) (contentOf line .command)
+  unfolding messageOf contentOf contentIn blank bodyOf
+  command-at = rw is (go (isRead line) refl)
+    where
+      go : (t : Bool) → isRead line ≡ t → Placed line (messageOf line .command) (contentOf line .command)
+      go true h = rw h (command-in-line line (length line - 2))
+      go false h = rw h (nowhere-placed line)
+
+  pub param-at : (k : ℕ) (d : Span) → k < paramLimit → Placed line (getD (m .params) k d) (getD (contentOf line .params) k [])
+  unfolding messageOf contentOf contentIn blank bodyOf
+  param-at k d lt = rw is (go (isRead line) refl)
+    where
+      go : (t : Bool) → isRead line ≡ t → Placed line (getD (messageOf line .params) k d) (getD (contentOf line .params) k [])
+      go true h = rw h (param-in-line line (length line - 2) k d lt)
+      go false h = rw (h, getD-replicate paramLimit k (nowhere (length line)) d lt) (nowhere-placed line)
+
+-- ---- past the last parameter
+pub spans-length : (line : List ℕ) → length (messageOf line .params) ≡ paramLimit
+unfolding messageOf messageIn blank
+spans-length line = go (isRead line) refl
+  where
+    go : (t : Bool) → isRead line ≡ t → length (messageOf line .params) ≡ paramLimit
+    go true h = rw h (length-padded (nowhere (length line)) paramLimit (map spanOf (params (bodyOf line))))
+    go false h = rw h
+
+module _ (line : List ℕ) (k : ℕ) (past : paramLimit ≤ k) where
+  pub param-past : getD (contentOf line .params) k [] ≡ []
+  unfolding contentOf contentIn
+  param-past = go (isRead line) refl
+    where
+      go : (t : Bool) → isRead line ≡ t → getD (contentOf line .params) k [] ≡ []
+      go true h = rw h (List·getD-eq-default (bytesOf (params (bodyOf line))) [] {n = k} (omega (arith, read-formed line h .few, length-map (params (bodyOf line)) (λ (p : Part). p .bytes))))
+      go false h = rw h
+
+  pub span-past : getD (messageOf line .params) k (nowhere (length line)) ≡ nowhere (length line)
+  span-past = List·getD-eq-default (messageOf line .params) (nowhere (length line)) {n = k} (omega (arith, spans-length line))

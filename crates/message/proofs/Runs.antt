@@ -1,0 +1,180 @@
+-- Laws of the scan: what stands at `drop i s` by the byte at i, where runs of bytes stop, and what the two rules make of it. Assumes nothing.
+use mathlib.Core.Path.{_≡_, refl, sym, ap, _∙_}
+use mathlib.Core.Bool.{Bool, true, false}
+use mathlib.Core.List.{List, [], _∷_}
+use Prim.Native.Nat.{ℕ, suc, _+_, _≤_, _<_}
+use native.Mathlib.Omega.{arith}
+use lib.ListN.{length, drop, getD, drop-of-length-le, length-drop}
+use lib.Seq.{drop-drop, getD-drop}
+use lib.Dec.{eqb}
+use borrow.Author.Tests.{eq-eqb, ne-eqb, eqb-true, eqb-false}
+use Rattle.octets.specs.Bytes.{space, colon}
+use Rattle.octets.proofs.Lists.{drop-step}
+use Rattle.message.specs.declared.Message.{Message}
+use Rattle.message.specs.Grammar.{partAt, word, spaces, rest, middle}
+use Rattle.message.specs.Parts.{span}
+use Rattle.message.specs.Scan.{withParam, withParams}
+
+-- ---- word
+pub word-past : (s : List ℕ) (i : ℕ) → length s ≤ i → length (word (drop i s)) ≡ 0
+unfolding word
+word-past s i h = rw (drop-of-length-le s h)
+
+pub word-stop : (s : List ℕ) (i : ℕ) → i < length s → getD s i 0 ≡ space → length (word (drop i s)) ≡ 0
+unfolding word
+word-stop s i h e = rw (drop-step s i 0 h, eq-eqb _ space e)
+
+pub word-go : (s : List ℕ) (i : ℕ) → i < length s → (getD s i 0 ≡ space → ⊥) → length (word (drop i s)) ≡ suc (length (word (drop (i + 1) s)))
+unfolding word
+word-go s i h e = rw (drop-step s i 0 h, ne-eqb _ space e)
+
+-- ---- spaces
+pub spaces-past : (s : List ℕ) (i : ℕ) → length s ≤ i → spaces (drop i s) ≡ 0
+unfolding spaces
+spaces-past s i h = rw (drop-of-length-le s h)
+
+pub spaces-stop : (s : List ℕ) (i : ℕ) → i < length s → (getD s i 0 ≡ space → ⊥) → spaces (drop i s) ≡ 0
+unfolding spaces
+spaces-stop s i h e = rw (drop-step s i 0 h, ne-eqb _ space e)
+
+pub spaces-go : (s : List ℕ) (i : ℕ) → i < length s → getD s i 0 ≡ space → spaces (drop i s) ≡ suc (spaces (drop (i + 1) s))
+unfolding spaces
+spaces-go s i h e = rw (drop-step s i 0 h, eq-eqb _ space e)
+
+-- ---- where a run stops
+spaces-in : (s : List ℕ) → spaces s ≤ length s
+unfolding spaces
+spaces-in [] = omega arith
+spaces-in (b ∷ s) = go (eqb b space) refl (spaces-in s)
+  where
+    go : (t : Bool) → eqb b space ≡ t → spaces s ≤ length s → spaces (b ∷ s) ≤ suc (length s)
+    go true e ih = rw e (omega arith)
+    go false e ih = rw e (omega arith)
+
+spaces-stops : (s : List ℕ) → spaces s < length s → getD s (spaces s) 0 ≡ space → ⊥
+unfolding spaces
+spaces-stops [] = λ h e. omega arith
+spaces-stops (b ∷ s) = go (eqb b space) refl (spaces-stops s)
+  where
+    go : (t : Bool) → eqb b space ≡ t → (spaces s < length s → getD s (spaces s) 0 ≡ space → ⊥) → spaces (b ∷ s) < suc (length s) → getD (b ∷ s) (spaces (b ∷ s)) 0 ≡ space → ⊥
+    go true e ih = rw e (λ h. ih (omega arith))
+    go false e ih = rw e (λ h. eqb-false b space e)
+
+pub word-in : (s : List ℕ) → length (word s) ≤ length s
+unfolding word
+word-in [] = omega arith
+word-in (b ∷ s) = go (eqb b space) refl (word-in s)
+  where
+    go : (t : Bool) → eqb b space ≡ t → length (word s) ≤ length s → length (word (b ∷ s)) ≤ suc (length s)
+    go true e ih = rw e (omega arith)
+    go false e ih = rw e (omega arith)
+
+word-stops : (s : List ℕ) → length (word s) < length s → getD s (length (word s)) 0 ≡ space
+unfolding word
+word-stops [] = λ h. absurd (omega arith)
+word-stops (b ∷ s) = go (eqb b space) refl (word-stops s)
+  where
+    go : (t : Bool) → eqb b space ≡ t → (length (word s) < length s → getD s (length (word s)) 0 ≡ space) → length (word (b ∷ s)) < suc (length s) → getD (b ∷ s) (length (word (b ∷ s))) 0 ≡ space
+    go true e ih = rw e (λ h. eqb-true b space e)
+    go false e ih = rw e (λ h. ih (omega arith))
+
+-- ---- rest and middle after a run
+rest-skip : (s : List ℕ) (k at : ℕ) → rest k at s ≡ rest k (at + spaces s) (drop (spaces s) s)
+unfolding rest spaces
+rest-skip [] k at = refl
+rest-skip (b ∷ s) k at = go (eqb b space) refl (rest-skip s k (at + 1))
+  where
+    go : (t : Bool) → eqb b space ≡ t → rest k (at + 1) s ≡ rest k (at + 1 + spaces s) (drop (spaces s) s) → rest k at (b ∷ s) ≡ rest k (at + spaces (b ∷ s)) (drop (spaces (b ∷ s)) (b ∷ s))
+    go true e ih = rw e (ih ∙ ap (λ (n : ℕ). rest k n (drop (spaces s) s)) (omega arith))
+    go false e ih =
+        let z : spaces (b ∷ s) ≡ 0 = rw e in
+        sym (ap (λ (n : ℕ). rest k (at + n) (drop n (b ∷ s))) z ∙ ap (λ (n : ℕ). rest k n (b ∷ s)) (omega arith))
+
+pub middle-skip : (s : List ℕ) (k at : ℕ) → middle k at s ≡ middle k (at + length (word s)) (drop (length (word s)) s)
+unfolding rest word
+middle-skip [] k at = refl
+middle-skip (b ∷ s) k at = go (eqb b space) refl (middle-skip s k (at + 1))
+  where
+    go : (t : Bool) → eqb b space ≡ t → middle k (at + 1) s ≡ middle k (at + 1 + length (word s)) (drop (length (word s)) s) → middle k at (b ∷ s) ≡ middle k (at + length (word (b ∷ s))) (drop (length (word (b ∷ s))) (b ∷ s))
+    go true e ih =
+        let z : length (word (b ∷ s)) ≡ 0 = rw e in
+        sym (ap (λ (n : ℕ). middle k (at + n) (drop n (b ∷ s))) z ∙ ap (λ (n : ℕ). middle k n (b ∷ s)) (omega arith))
+    go false e ih = rw e (ih ∙ ap (λ (n : ℕ). middle k n (drop (length (word s)) s)) (omega arith))
+
+-- ---- the same at a place of the body
+module _ (b : List ℕ) (at start : ℕ) (within : at ≤ length b) (is : start ≡ at + spaces (drop at b)) where
+  pub start-in : start ≤ length b
+  start-in = omega (arith, spaces-in (drop at b), length-drop at b)
+
+  pub rest-from : (k : ℕ) → rest k at (drop at b) ≡ rest k start (drop start b)
+  rest-from k = rest-skip (drop at b) k at ∙ rw (is, drop-drop (spaces (drop at b)) at b)
+
+  pub start-stops : start < length b → getD b start 0 ≡ space → ⊥
+  start-stops h e = spaces-stops (drop at b) (omega (arith, length-drop at b)) (getD-drop at b (spaces (drop at b)) 0 ∙ rw (← is) e)
+
+module _ (b : List ℕ) (at stop : ℕ) (within : at ≤ length b) (is : stop ≡ at + length (word (drop at b))) where
+  pub stop-in : stop ≤ length b
+  stop-in = omega (arith, word-in (drop at b), length-drop at b)
+
+  middle-from : (k : ℕ) → middle k at (drop at b) ≡ middle k stop (drop stop b)
+  middle-from k = middle-skip (drop at b) k at ∙ rw (is, drop-drop (length (word (drop at b))) at b)
+
+  stop-stops : stop < length b → getD b stop 0 ≡ space
+  stop-stops h = rw is (sym (getD-drop at b (length (word (drop at b))) 0) ∙ word-stops (drop at b) (omega (arith, length-drop at b)))
+
+  pub middle-end : (k : ℕ) → stop ≡ length b → middle k at (drop at b) ≡ []
+  unfolding middle
+  middle-end k e = middle-from k ∙ rw (drop-of-length-le b {i = stop} (omega arith))
+
+  pub middle-rest : (k : ℕ) → stop < length b → middle k at (drop at b) ≡ rest k (stop + 1) (drop (stop + 1) b)
+  unfolding middle
+  middle-rest k h = middle-from k ∙ rw (drop-step b stop 0 h, stop-stops h)
+
+module _ (b : List ℕ) (k start : ℕ) where
+  pub rest-end : start ≡ length b → rest k start (drop start b) ≡ []
+  unfolding rest
+  rest-end e = rw (drop-of-length-le b {i = start} (omega arith))
+
+  pub rest-colon : start < length b → getD b start 0 ≡ colon → rest k start (drop start b) ≡ partAt (start + 1) (drop (start + 1) b) ∷ []
+  unfolding rest
+  rest-colon h e = rw (drop-step b start 0 h, e)
+
+  pub rest-middle : start < length b → (getD b start 0 ≡ space → ⊥) → (getD b start 0 ≡ colon → ⊥)
+      → rest k start (drop start b) ≡ partAt start (getD b start 0 ∷ word (drop (start + 1) b)) ∷ middle (k + 1) (start + 1) (drop (start + 1) b)
+  unfolding rest
+  rest-middle h e f = rw (drop-step b start 0 h, ne-eqb _ space e, ne-eqb _ colon f)
+
+-- ---- what `middle` returns: a message m with the middle from `start`, of which the bytes before `at` are read, to `stop`, and what follows it
+module _ (b : List ℕ) (m : Message) (start at stop : ℕ) (within : at ≤ length b) (is : stop ≡ at + length (word (drop at b))) where
+  pub middle-stops : (r : Message) → r ≡ withParam m (span start stop) → stop ≡ length b
+      → r ≡ withParams (withParam m (span start (at + length (word (drop at b))))) (middle (m .count + 1) at (drop at b))
+  unfolding withParams
+  middle-stops r e h = rw (middle-end b at stop within is (m .count + 1) h, ← is) e
+
+  pub middle-goes : (next r : Message) → next ≡ withParam m (span start stop) → r ≡ withParams next (rest (next .count) (stop + 1) (drop (stop + 1) b)) → (stop ≡ length b → ⊥)
+      → r ≡ withParams (withParam m (span start (at + length (word (drop at b))))) (middle (m .count + 1) at (drop at b))
+  unfolding withParam
+  middle-goes next r e f h =
+      let lt : stop < length b = omega (arith, stop-in b at stop within is) in
+      rw (middle-rest b at stop within is (m .count + 1) lt, ← is) (f ∙ ap (λ (x : Message). withParams x (rest (x .count) (stop + 1) (drop (stop + 1) b))) e)
+
+-- ---- what `rest` returns, with `start` past the SPACEs
+module _ (b : List ℕ) (m : Message) (at start : ℕ) (within : at ≤ length b) (is : start ≡ at + spaces (drop at b)) where
+  pub rest-nothing : start ≡ length b → m ≡ withParams m (rest (m .count) at (drop at b))
+  unfolding withParams
+  rest-nothing h = rw (rest-from b at start within is (m .count), rest-end b (m .count) start h)
+
+  pub rest-trailing : (r : Message) → r ≡ withParam m (span (start + 1) (length b)) → (start ≡ length b → ⊥) → getD b start 0 ≡ colon → r ≡ withParams m (rest (m .count) at (drop at b))
+  unfolding withParams
+  rest-trailing r e h f =
+      let lt : start < length b = omega (arith, start-in b at start within is) in
+      let n : start + 1 + length (drop (start + 1) b) ≡ length b = omega (arith, length-drop (start + 1) b) in
+      rw (rest-from b at start within is (m .count), rest-colon b (m .count) start lt f, n) e
+
+  pub rest-goes : (r : Message) → r ≡ withParams (withParam m (span start (start + 1 + length (word (drop (start + 1) b))))) (middle (m .count + 1) (start + 1) (drop (start + 1) b))
+      → (start ≡ length b → ⊥) → (getD b start 0 ≡ colon → ⊥) → r ≡ withParams m (rest (m .count) at (drop at b))
+  unfolding withParams
+  rest-goes r e h f =
+      let lt : start < length b = omega (arith, start-in b at start within is) in
+      rw (rest-from b at start within is (m .count), rest-middle b (m .count) start lt (start-stops b at start within is lt) f)
+      (e ∙ ap (λ (n : ℕ). withParams (withParam m (span start n)) (middle (m .count + 1) (start + 1) (drop (start + 1) b))) (omega arith))

@@ -1,0 +1,6 @@
+pub mod Grammar
+pub mod Syntax
+pub mod Content
+pub mod Parts
+pub mod Reading
+pub mod Scan

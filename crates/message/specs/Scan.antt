@@ -1,0 +1,39 @@
+-- What the private functions of src/scan.rt promise. No public contract cites this file: nobody needs to believe it.
+use Prim.Native.Nat.{ℕ, _+_}
+use mathlib.Core.Bool.{Bool}
+use mathlib.Core.List.{List, [], _∷_}
+use lib.ListN.{length, drop, set, replicate}
+use Rattle.message.specs.declared.Span.{Span}
+use Rattle.message.specs.declared.Message.{Message}
+use Rattle.message.specs.Grammar.{Part, paramLimit, word, rest}
+use Rattle.message.specs.Parts.{span, spanOf, nowhere}
+
+-- a message with no parameter yet, in a line of n bytes
+unfoldable pub opened : Bool → Span → Span → ℕ → Message
+opened has before named n = record {
+  «has_prefix» = has;
+  prefix = before;
+  command = named;
+  count = 0;
+  params = replicate paramLimit (nowhere n);
+}
+
+-- one parameter more: past the last that has room it is only counted (`set` past a list's end changes nothing)
+unfoldable pub withParam : Message → Span → Message
+withParam m s = record {
+  «has_prefix» = m .«has_prefix»;
+  prefix = m .prefix;
+  command = m .command;
+  count = m .count + 1;
+  params = set (m .params) (m .count) s;
+}
+
+unfoldable pub withParams : Message → List Part → Message
+withParams m [] = m
+withParams m (p ∷ ps) = withParams (withParam m (spanOf p)) ps
+
+-- the parts of a body whose command begins at a place
+unfoldable pub fromCommand : List ℕ → ℕ → Bool → Span → ℕ → Message
+fromCommand body at has before n =
+    let stop : ℕ = at + length (word (drop at body)) in
+    withParams (opened has before (span at stop) n) (rest 0 stop (drop stop body))

@@ -1,0 +1,199 @@
+// Reads one line of the server protocol (RFC 1459, section 2.3.1; document 01, 'Reading one line'): prefix, command and parameters,
+// each as a part of the caller's line. Any bytes are taken; a line that isn't read is refused by a number of crate `refusal`.
+mod scan;
+
+ghost use mathlib.Core.Path.{_≡_};
+ghost use mathlib.Core.Bool.{_&&_};
+ghost use mathlib.Core.List.{[]};
+ghost use mathlib.Core.Option.{Option·getD};
+ghost use Prim.Native.Nat.{_≤_};
+ghost use lib.Dec.{eqb};
+ghost use lib.ListN.{length, getD};
+ghost use denote.Ref.{ptr};
+ghost use Rattle.octets.specs.Room.{placeIn};
+ghost use Rattle.message.specs.Grammar.{lineLimit, isCommand};
+ghost use Rattle.message.specs.Parts.{nowhere};
+ghost use Rattle.message.specs.Reading.{endsLine, numberOf, countOf, numberFor, bodyReading, readingOf, contentOf, messageOf};
+use octets::Class;
+use octets::all_in;
+use octets::part;
+use refusal::ACCEPTED;
+use refusal::BAD_COMMAND;
+use refusal::CONTROL_BYTE;
+use refusal::EMPTY_LINE;
+use refusal::EMPTY_PREFIX;
+use refusal::LINE_TOO_LONG;
+use refusal::NO_LINE_END;
+use refusal::TOO_MANY_PARAMS;
+use scan::blank;
+use scan::message_in;
+
+// The most bytes of a line, CR LF counted.
+pub const LINE_LIMIT: usize = 512;
+
+// The most parameters of a line.
+pub const PARAM_LIMIT: usize = 15;
+
+// A part of a line: the bytes from start up to, not including, end.
+pub struct Span {
+    pub start: usize,
+    pub end: usize,
+}
+
+// A message as parts of a text: of a line that was read, or of one that is to be written. The spans past `count`, and that of the
+// prefix where there is none, are no parts.
+pub struct Message {
+    pub has_prefix: bool,
+    pub prefix: Span,
+    pub command: Span,
+    pub count: usize,
+    pub params: [Span; PARAM_LIMIT],
+}
+
+// The reader's answer: the count of parameters of a line that is read, or the number of its refusal.
+pub enum Reading {
+    Line(usize),
+    Refused(u8),
+}
+
+impl Reading {
+    // The number of the refusal, or ACCEPTED.
+    pub fn number(self) -> u8
+        ensures { λ r. ⌜ r ≡ numberOf self ⌝ }
+    {
+        match self {
+            Reading::Line(_) => ACCEPTED,
+            Reading::Refused(k) => k,
+        }
+    }
+}
+
+// Whether the last two bytes are CR LF.
+fn ends_line(line: &[u8]) -> bool
+    ensures { λ r. ⌜ r ≡ endsLine (now (line .entry)) ⌝ }
+{
+    let n = line.len();
+    if n < 2 {
+        return false;
+    }
+    if line[n - 2] != b'\r' {
+        return false;
+    }
+    line[n - 1] == b'\n'
+}
+
+// One or more letters, or exactly three digits.
+pub fn is_command(word: &[u8]) -> bool
+    ensures { λ r. ⌜ r ≡ isCommand (now (word .entry)) ⌝ }
+{
+    let n = word.len();
+    if n == 0 {
+        return false;
+    }
+    if all_in(word, Class::Letter) {
+        return true;
+    }
+    if n == 3 {
+        return all_in(word, Class::Digit);
+    }
+    false
+}
+
+// Whether a prefix is there and empty.
+fn empty_prefix(m: Message) -> bool
+    ensures { λ r. ⌜ r ≡ (m .«has_prefix» && eqb (m .prefix .start) (m .prefix .end)) ⌝ }
+{
+    if m.has_prefix {
+        let p = m.prefix;
+        return p.start == p.end;
+    }
+    false
+}
+
+// What the bytes before CR LF read as.
+fn read_body(body: &[u8]) -> Reading
+    requires { ⌜ length (now body) ≤ lineLimit ⌝ }
+    ensures { λ r. ⌜ r ≡ bodyReading (now (body .entry)) ⌝ }
+{
+    let m = message_in(body, body.len());
+    if empty_prefix(m) {
+        return Reading::Refused(EMPTY_PREFIX);
+    }
+    let c = m.command;
+    if !is_command(part(body, c.start, c.end)) {
+        return Reading::Refused(BAD_COMMAND);
+    }
+    let n = m.count;
+    if PARAM_LIMIT < n {
+        return Reading::Refused(TOO_MANY_PARAMS);
+    }
+    Reading::Line(n)
+}
+
+// What the line reads as.
+pub fn read(line: &[u8]) -> Reading
+    ensures reading { λ r. ⌜ r ≡ readingOf (now (line .entry)) ⌝ }
+    ensures number { λ r. ⌜ numberOf r ≡ numberFor (now (line .entry)) ⌝ }
+    ensures count { λ r. ⌜ countOf r ≡ length (contentOf (now (line .entry)) .params) ⌝ }
+{
+    let n = line.len();
+    if LINE_LIMIT < n {
+        return Reading::Refused(LINE_TOO_LONG);
+    }
+    if !ends_line(line) {
+        return Reading::Refused(NO_LINE_END);
+    }
+    let body = part(line, 0, n - 2);
+    if !all_in(body, Class::Plain) {
+        return Reading::Refused(CONTROL_BYTE);
+    }
+    if n == 2 {
+        return Reading::Refused(EMPTY_LINE);
+    }
+    read_body(body)
+}
+
+// The parts of the line. A part that is missing, and every part of a line that isn't read, is the empty one at the line's end.
+pub fn parts(line: &[u8]) -> Message
+    ensures { λ r. ⌜ r ≡ messageOf (now (line .entry)) ⌝ }
+{
+    let n = line.len();
+    let Reading::Line(_) = read(line) else {
+        return blank(n);
+    };
+    message_in(part(line, 0, n - 2), n)
+}
+
+// The prefix, or the empty part at the line's end.
+pub fn prefix(line: &[u8]) -> &[u8]
+    ensures bytes { λ r. ⌜ now r ≡ Option·getD (contentOf (now (line .entry)) .prefix) [] ⌝ }
+    ensures place { λ r. ⌜ ptr r ≡ placeIn (line .entry) (messageOf (now (line .entry)) .prefix .start) ⌝ }
+{
+    let m = parts(line);
+    let s = m.prefix;
+    part(line, s.start, s.end)
+}
+
+// The command, or of a line that isn't read the empty part at the line's end.
+pub fn command(line: &[u8]) -> &[u8]
+    ensures bytes { λ r. ⌜ now r ≡ contentOf (now (line .entry)) .command ⌝ }
+    ensures place { λ r. ⌜ ptr r ≡ placeIn (line .entry) (messageOf (now (line .entry)) .command .start) ⌝ }
+{
+    let m = parts(line);
+    let s = m.command;
+    part(line, s.start, s.end)
+}
+
+// The parameter k, counted from 0, or the empty part at the line's end.
+pub fn param(line: &[u8], k: usize) -> &[u8]
+    ensures bytes { λ r. ⌜ now r ≡ getD (contentOf (now (line .entry)) .params) k [] ⌝ }
+    ensures place { λ r. ⌜ ptr r ≡ placeIn (line .entry) (getD (messageOf (now (line .entry)) .params) k (nowhere (length (now (line .entry)))) .start) ⌝ }
+{
+    let n = line.len();
+    if PARAM_LIMIT <= k {
+        return part(line, n, n);
+    }
+    let m = parts(line);
+    let s = m.params[k];
+    part(line, s.start, s.end)
+}
