@@ -15,7 +15,7 @@ use Rattle.refusal.proofs.Rules.{first-none}
 use Rattle.octets.specs.Bytes.{cr, lf, isPlain}
 use Rattle.octets.specs.Lists.{all, isNil, sameBy}
 use Rattle.octets.specs.Room.{part}
-use Rattle.octets.proofs.Lists.{drop-step, length-padded}
+use Rattle.octets.proofs.Lists.{nil-length, drop-step, length-padded}
 use Rattle.message.specs.declared.Span.{Span}
 use Rattle.message.specs.declared.Message.{Message}
 use Rattle.message.specs.declared.Reading.{Reading}
@@ -30,18 +30,6 @@ use Rattle.message.proofs.Places.{Placed, nowhere-placed, command-place
 pub rules-ascend : (line : List ℕ) → ascend (lineRules line) ≡ true
 unfolding ascendFrom lineRules bodyRules
 rules-ascend line = refl
-
--- ---- an empty list, by its length
-nil-length : (l : List ℕ) → isNil l ≡ eqb (length l) 0
-nil-length [] = refl
-nil-length (x ∷ l) = sym (ne-eqb (length (x ∷ l)) 0 (λ e. omega arith))
-
-one-eqb : (n : ℕ) → eqb 1 (1 + n) ≡ eqb n 0
-one-eqb n = go (eqb n 0) refl
-  where
-    go : (t : Bool) → eqb n 0 ≡ t → eqb 1 (1 + n) ≡ t
-    go true e = eq-eqb 1 (1 + n) (omega (arith, eqb-true n 0 e))
-    go false e = ne-eqb 1 (1 + n) (λ q. eqb-false n 0 e (omega arith))
 
 -- ---- the end of a line
 module _ (line : List ℕ) where
@@ -130,6 +118,10 @@ module _ (line : List ℕ) (h : isRead line ≡ true) where
   unfolding messageOf
   read-message = rw h
 
+pub refused-number : (line : List ℕ) → isRead line ≡ false → numberFor line ≡ accepted → ⊥
+unfolding isRead
+refused-number line h = eqb-false (numberFor line) accepted h
+
 -- ---- the answer
 module _ (line : List ℕ) where
   pub reading-line : (n : ℕ) → readingOf line ≡ Line n → isRead line ≡ true
@@ -202,6 +194,13 @@ module _ (line : List ℕ) where
         reads-body h r q =
             let some : isNil (bodyOf line) ≡ false = nil-length (bodyOf line) ∙ ne-eqb (length (bodyOf line)) 0 (λ z. h (omega (arith, body-length line, ends-long line ends))) in
             simp (le-ltb lineLimit (length line) small, ends, rw is at plain, some) (rw is at q)
+
+one-eqb : (n : ℕ) → eqb 1 (1 + n) ≡ eqb n 0
+one-eqb n = go (eqb n 0) refl
+  where
+    go : (t : Bool) → eqb n 0 ≡ t → eqb 1 (1 + n) ≡ t
+    go true e = eq-eqb 1 (1 + n) (omega (arith, eqb-true n 0 e))
+    go false e = ne-eqb 1 (1 + n) (λ q. eqb-false n 0 e (omega arith))
 
 -- the test of an empty prefix, by the message's spans
 empty-is : (b : List ℕ) (n : ℕ) → messageIn b n .«has_prefix» && eqb (messageIn b n .prefix .start) (messageIn b n .prefix .end) ≡ hasPrefix b && isNil (prefix b)
@@ -299,3 +298,12 @@ module _ (line : List ℕ) (k : ℕ) (past : paramLimit ≤ k) where
 
   pub span-past : getD (messageOf line .params) k (nowhere (length line)) ≡ nowhere (length line)
   span-past = List·getD-eq-default (messageOf line .params) (nowhere (length line)) {n = k} (omega (arith, spans-length line))
+
+-- a message never counts more parameters than it has spans
+pub count-few : (line : List ℕ) → messageOf line .count ≤ paramLimit
+unfolding messageOf messageIn blank
+count-few line = go (isRead line) refl
+  where
+    go : (t : Bool) → isRead line ≡ t → messageOf line .count ≤ paramLimit
+    go true h = rw h (read-formed line h .few)
+    go false h = rw h (omega arith)

@@ -68,7 +68,7 @@ rest-stops (nothing p) = spaces-alone p
 rest-stops (trailing r t p e) = rw e (spaces-stop p (colon ∷ t))
 rest-stops (amiddle r m p e q) = rw e (spaces-stop p m)
 
-middle-read : (t : List ℕ) → Stops t → (w : List ℕ) → isMiddle w ≡ true → (k at : ℕ) → rest k at (w ++ t) ≡ partAt at w ∷ rest (k + 1) (at + length w) t
+pub middle-read : (t : List ℕ) → Stops t → (w : List ℕ) → isMiddle w ≡ true → (k at : ℕ) → rest k at (w ++ t) ≡ partAt at w ∷ rest (k + 1) (at + length w) t
 unfolding isMiddle rest all
 middle-read t stops [] h k at = absurd (true≢false (sym h))
 middle-read t stops (b ∷ w) h k at =

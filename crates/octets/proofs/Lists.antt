@@ -7,7 +7,9 @@ use native.Mathlib.Numerals.{add-one}
 use native.Mathlib.Omega.{arith}
 use lib.ListN.{length, take, drop, getD, set, replicate, drop-of-length-le, length-append, length-drop, length-map, length-replicate, getD-replicate}
 use lib.Seq.{drop-cons, take-append-le, drop-append-le, take-append-seam, length-take-le, take-take, getD-take, sets}
-use Rattle.octets.specs.Lists.{all, sameBy, padded}
+use lib.Dec.{eqb}
+use borrow.Author.Tests.{ne-eqb}
+use Rattle.octets.specs.Lists.{all, isNil, sameBy, padded}
 use Rattle.octets.proofs.Bools.{and-left, and-right, and-intro}
 
 -- ---- a list at a place
@@ -25,6 +27,16 @@ module _ {A : Type 0} where
   pub front-part : (f g : List A) (j k : ℕ) → j + k ≤ length f → take k (drop j (f ++ g)) ≡ take k (drop j f)
   front-part f g j k h = rw (drop-append-le j f g (omega arith)) (take-append-le k (drop j f) g (omega (arith, length-drop j f)))
 
+-- ---- an empty list
+pub nil-length : {A : Type 0} (l : List A) → isNil l ≡ eqb (length l) 0
+nil-length [] = refl
+nil-length (x ∷ l) = sym (ne-eqb (length (x ∷ l)) 0 (λ e. omega arith))
+
+pub nil-map : {A B : Type 0} (f : A → B) (l : List A) → isNil (map f l) ≡ isNil l
+nil-map f [] = refl
+nil-map f (x ∷ l) = refl
+
+-- ---- a mapped list
 -- the length of an array of structs, which a value's own facts give under a map
 pub unmapped : {X Y : Type 0} (f : X → Y) (l : List X) (n : ℕ) → length (map f l) ≡ n → length l ≡ n
 unmapped f l n e = sym (length-map l f) ∙ e

@@ -1,13 +1,14 @@
 -- Laws of bytes put into room: what is put keeps the length, and adds to what a line holds. Assumes nothing.
 use mathlib.Core.Path.{_≡_, refl, sym, ap, _∙_}
 use mathlib.Core.Bool.{Bool, true, false}
-use mathlib.Core.List.{List, [], _++_, append-assoc}
+use mathlib.Core.List.{List, [], _++_, append-nil, append-assoc}
 use Prim.Native.Nat.{ℕ, suc, _+_, _≤_, _<_}
+use native.Mathlib.Nat.{zero-add}
 use native.Mathlib.Omega.{arith}
 use lib.ListN.{length, take, drop, length-append, length-drop}
 use lib.Seq.{take-at, length-take-le}
 use borrow.Author.Tests.{le-leb, leb-true, leb-false, lt-leb}
-use Rattle.octets.specs.Room.{fits, laid, endOf, Holds, Adds}
+use Rattle.octets.specs.Room.{fits, laid, endOf, front, Holds, Adds}
 
 -- ---- what is laid
 module _ (out : List ℕ) (at : ℕ) (p : List ℕ) where
@@ -27,6 +28,10 @@ module _ (out : List ℕ) (at : ℕ) (p : List ℕ) where
   unfolding endOf
   end-over h = rw (lt-leb (at + length p) (length out) h)
 
+-- what is laid at the front
+pub laid-front : (out p : List ℕ) → length p ≤ length out → laid out 0 p ≡ front p out
+laid-front out p h = laid-fits out 0 p (omega arith) ∙ rw (zero-add (length p))
+
 pub length-laid : (out : List ℕ) (at : ℕ) (p : List ℕ) → length (laid out at p) ≡ length out
 length-laid out at p = go (fits out at p) refl
   where
@@ -41,7 +46,7 @@ pub holds-nothing : (line : List ℕ) → Holds line 0 []
 holds-nothing line = record { counts = omega arith; begins = λ q. refl }
 
 -- what is put is added
-pub put-adds : (line : List ℕ) (at : ℕ) (p : List ℕ) → Adds line at (laid line at p) (endOf line at p) p
+put-adds : (line : List ℕ) (at : ℕ) (p : List ℕ) → Adds line at (laid line at p) (endOf line at p) p
 put-adds line at p = record { keeps = length-laid line at p; adds = λ w h. go w h (fits line at p) refl }
   where
     go : (w : List ℕ) → Holds line at w → (t : Bool) → fits line at p ≡ t → Holds (laid line at p) (endOf line at p) (w ++ p)
@@ -58,9 +63,38 @@ put-adds line at p = record { keeps = length-laid line at p; adds = λ w h. go w
           begins = λ q. absurd (omega arith);
         })
 
+pub added : (line : List ℕ) (at : ℕ) (next : List ℕ) (r : ℕ) (p : List ℕ) → r ≡ endOf line at p → next ≡ laid line at p → Adds line at next r p
+added line at next r p e f = rw (e, f) (put-adds line at p)
+
+-- nothing is added where nothing changes
+pub adds-nothing : (line : List ℕ) (at : ℕ) → Adds line at line at []
+adds-nothing line at = record { keeps = refl; adds = λ w h. rw (append-nil w) h }
+
 -- what is added first and then
 pub adds-then : (line next last : List ℕ) (at r s : ℕ) (p q : List ℕ) → Adds line at next r p → Adds next r last s q → Adds line at last s (p ++ q)
 adds-then line next last at r s p q f g = record {
   keeps = g .keeps ∙ f .keeps;
   adds = λ w h. rw (append-assoc w p q) at (g .adds (w ++ p) (f .adds w h));
 }
+
+-- ---- a loop that puts part after part
+-- What was added, with what is still to be put, comes to the goal.
+pub record Begun (line : List ℕ) (at : ℕ) (next : List ℕ) (r : ℕ) (more goal : List ℕ) : Type 0 where
+  pub text : List ℕ
+  pub adding : Adds line at next r text
+  pub comes : text ++ more ≡ goal
+
+pub begun : (line : List ℕ) (at : ℕ) (goal : List ℕ) → Begun line at line at goal goal
+begun line at goal = record { text = []; adding = adds-nothing line at; comes = refl }
+
+pub begun-step : (line next last : List ℕ) (at r s : ℕ) (p more more′ goal : List ℕ) → more ≡ p ++ more′ → Adds next r last s p → Begun line at next r more goal → Begun line at last s more′ goal
+begun-step line next last at r s p more more′ goal e g b = record {
+  text = b .text ++ p;
+  adding = adds-then line next last at r s (b .text) p (b .adding) g;
+  comes = append-assoc (b .text) p more′ ∙ ap (λ (l : List ℕ). b .text ++ l) (sym e) ∙ b .comes;
+}
+
+pub begun-end : (line next : List ℕ) (at r : ℕ) (more goal : List ℕ) → more ≡ [] → Begun line at next r more goal → Adds line at next r goal
+begun-end line next at r more goal e b =
+    let q : b .text ≡ goal = sym (append-nil (b .text)) ∙ ap (λ (l : List ℕ). b .text ++ l) (sym e) ∙ b .comes in
+    rw q at (b .adding)

@@ -1,0 +1,190 @@
+-- The messages that can be written are exactly those whose parts pass the code's tests: what passes them reads back, and what is read
+-- passes them. Assumes nothing.
+use mathlib.Core.Path.{_≡_, refl, sym, ap, _∙_}
+use mathlib.Core.Bool.{Bool, true, false, true≢false, not, _&&_, _||_, or-true, and-true}
+use mathlib.Core.List.{List, [], _∷_, map}
+use mathlib.Core.Option.{Option, some, none}
+use Prim.Native.Nat.{ℕ, _+_}
+use native.Mathlib.Omega.{arith}
+use lib.ListN.{length, take, drop, length-map, length-take}
+use lib.Dec.{eqb, leb}
+use borrow.Author.Tests.{eq-eqb, eqb-true, le-leb, leb-true}
+use Rattle.refusal.specs.Numbers.{accepted}
+use Rattle.refusal.specs.Rules.{firstOf}
+use Rattle.octets.specs.Bytes.{space, colon, isPlain}
+use Rattle.octets.specs.Lists.{all, isNil, same}
+use Rattle.octets.proofs.Bools.{and-left, and-right, and-intro, and-swap, both-ways}
+use Rattle.octets.proofs.Lists.{nil-map, all-head, all-tail, all-cons, all-drop, sameBy-refl, sameBy-true}
+use Rattle.octets.proofs.Bytes.{same-refl, same-true}
+use Rattle.message.specs.declared.Span.{Span}
+use Rattle.message.specs.declared.Message.{Message}
+use Rattle.message.specs.Grammar.{Part, paramLimit, word, isMiddle, rest, middle, hasPrefix, prefix, isCommand, commandEnd, params}
+use Rattle.message.specs.Content.{Content, bytesOf, contentIn}
+use Rattle.message.specs.Parts.{bytesAt}
+use Rattle.message.specs.Reading.{bodyOf, grammarRules}
+use Rattle.message.proofs.Readings.{Formed, formed}
+use Rattle.writer.specs.Form.{writtenBody, written, samePrefix, sameContent, readsBack, contentBy, liesIn, lies}
+use Rattle.writer.specs.Fit.{goodPrefix, goodSource, goodParam, goodParams, good, fitPrefix, fitCommand, fitParam, fitParams, fit}
+use Rattle.writer.proofs.Words.{all-word, word-clear, word-middle}
+use Rattle.writer.proofs.Trips.{content-eq, content-back, body-plain, body-full, good-reads, body-back, form-reads}
+
+-- ---- the parameters that are read are good: all but the last are middles
+good-cons : (p : List ℕ) (ps : List (List ℕ)) → all isPlain p ≡ true → isMiddle p ≡ true → goodParams ps ≡ true → goodParams (p ∷ ps) ≡ true
+unfolding goodParams goodParam
+good-cons p ps a m h = simp (a, m, or-true (isNil ps), h)
+
+good-last : (p : List ℕ) → all isPlain p ≡ true → goodParams (p ∷ []) ≡ true
+unfolding goodParams goodParam
+good-last p a = rw a
+
+module _ (x : ℕ) (s : List ℕ) (k at : ℕ) where
+  rest-good-step : all isPlain (x ∷ s) ≡ true → goodParams (bytesOf (rest k (at + 1) s)) ≡ true → goodParams (bytesOf (middle (k + 1) (at + 1) s)) ≡ true
+      → goodParams (bytesOf (rest k at (x ∷ s))) ≡ true
+  unfolding rest
+  rest-good-step a r m = go (eqb x space) refl (eqb x colon) refl
+    where
+      go : (t : Bool) → eqb x space ≡ t → (u : Bool) → eqb x colon ≡ u → goodParams (bytesOf (rest k at (x ∷ s))) ≡ true
+      go true p u q = rw p r
+      go false p true q = rw (p, q) (good-last s (all-tail isPlain x s a))
+      go false p false q =
+          rw (p, q) (good-cons (x ∷ word s) (bytesOf (middle (k + 1) (at + 1) s))
+          (all-cons isPlain x (word s) (all-head isPlain x s a) (all-word isPlain s (all-tail isPlain x s a))) (word-middle x s p q) m)
+
+  middle-good-step : goodParams (bytesOf (rest k (at + 1) s)) ≡ true → goodParams (bytesOf (middle k (at + 1) s)) ≡ true → goodParams (bytesOf (middle k at (x ∷ s))) ≡ true
+  unfolding rest
+  middle-good-step r m = go (eqb x space) refl
+    where
+      go : (t : Bool) → eqb x space ≡ t → goodParams (bytesOf (middle k at (x ∷ s))) ≡ true
+      go true p = rw p r
+      go false p = rw p m
+
+mutual
+  unfolding rest goodParams
+
+  rest-good : (s : List ℕ) (k at : ℕ) → all isPlain s ≡ true → goodParams (bytesOf (rest k at s)) ≡ true
+  rest-good [] k at a = refl
+  rest-good (x ∷ s) k at a = let b = all-tail isPlain x s a in rest-good-step x s k at a (rest-good s k (at + 1) b) (middle-good s (k + 1) (at + 1) b)
+
+  middle-good : (s : List ℕ) (k at : ℕ) → all isPlain s ≡ true → goodParams (bytesOf (middle k at s)) ≡ true
+  middle-good [] k at a = refl
+  middle-good (x ∷ s) k at a = let b = all-tail isPlain x s a in middle-good-step x s k at (rest-good s k (at + 1) b) (middle-good s k (at + 1) b)
+
+-- ---- what a line that keeps to the grammar holds is good
+prefix-run : (b : List ℕ) → hasPrefix b ≡ true → prefix b ≡ word (drop 1 b)
+unfolding prefix
+prefix-run b h = rw h
+
+module _ (line : List ℕ) (f : Formed line) where
+  abbrev body : List ℕ
+  body = bodyOf line
+
+  prefix-good : hasPrefix body ≡ true → goodPrefix (prefix body) ≡ true
+  unfolding goodPrefix
+  prefix-good h =
+      let p : prefix body ≡ word (drop 1 body) = prefix-run body h in
+      let n : isNil (prefix body) ≡ false = rw h at (f .prefixed) in
+      rw (n, p) (and-intro _ _ (all-word isPlain (drop 1 body) (all-drop isPlain 1 body (f .plain))) (word-clear (drop 1 body)))
+
+  source-good : goodSource (contentIn body .prefix) ≡ true
+  unfolding contentIn goodSource
+  source-good = go (hasPrefix body) refl
+    where
+      go : (t : Bool) → hasPrefix body ≡ t → goodSource (contentIn body .prefix) ≡ true
+      go true h = rw h (prefix-good h)
+      go false h = rw h
+
+  pub formed-good : good (contentIn body) ≡ true
+  unfolding good contentIn params
+  formed-good =
+      and-intro _ _ source-good (and-intro _ _ (f .commanded) (and-intro _ _
+      (rest-good (drop (commandEnd body) body) 0 (commandEnd body) (all-drop isPlain (commandEnd body) body (f .plain)))
+      (le-leb (length (bytesOf (params body))) paramLimit (omega (arith, f .few, length-map (params body) (λ (x : Part). x .bytes))))))
+
+-- ---- equal, byte for byte
+prefix-refl : (o : Option (List ℕ)) → samePrefix o o ≡ true
+unfolding samePrefix
+prefix-refl none = refl
+prefix-refl (some p) = same-refl p
+
+prefix-true : (o q : Option (List ℕ)) → samePrefix o q ≡ true → o ≡ q
+unfolding samePrefix
+prefix-true none none e = refl
+prefix-true none (some q) e = absurd (true≢false (sym e))
+prefix-true (some p) none e = absurd (true≢false (sym e))
+prefix-true (some p) (some q) e = ap some (same-true p q e)
+
+content-refl : (d : Content) → sameContent d d ≡ true
+unfolding sameContent
+content-refl d = simp (prefix-refl, same-refl, sameBy-refl same same-refl)
+
+content-true : (d e : Content) → sameContent d e ≡ true → d ≡ e
+unfolding sameContent
+content-true d e h =
+    let a = and-right (samePrefix (d .prefix) (e .prefix)) _ h in
+    content-eq d e (prefix-true _ _ (and-left (samePrefix (d .prefix) (e .prefix)) _ h)) (same-true _ _ (and-left (same (d .command) (e .command)) _ a))
+    (sameBy-true same same-true _ _ (and-right (same (d .command) (e .command)) _ a))
+
+-- ---- the tests of the parts are exactly "reads back as it"
+pub good-form : (d : Content) → good d ≡ true → (firstOf (grammarRules (written d)) ≡ accepted) × (contentIn (bodyOf (written d)) ≡ d)
+unfolding written
+good-form d ok =
+    let g : good (contentIn (writtenBody d)) ≡ true = rw (content-back d ok) ok in
+    (form-reads (writtenBody d) (body-plain d ok) (body-full d ok) ∙ good-reads (writtenBody d) g, ap contentIn (body-back (writtenBody d)) ∙ content-back d ok)
+
+pub good-exactly : (d : Content) → good d ≡ readsBack d
+unfolding readsBack
+good-exactly d = both-ways (good d) (readsBack d) forth back
+  where
+    forth : good d ≡ true → readsBack d ≡ true
+    forth ok = let r = good-form d ok in and-intro _ _ (eq-eqb _ accepted (r .0)) (rw (r .1) (content-refl d))
+
+    back : readsBack d ≡ true → good d ≡ true
+    back h =
+        let e : firstOf (grammarRules (written d)) ≡ accepted = eqb-true _ accepted (and-left (eqb (firstOf (grammarRules (written d))) accepted) _ h) in
+        let f : contentIn (bodyOf (written d)) ≡ d = content-true _ d (and-right (eqb (firstOf (grammarRules (written d))) accepted) _ h) in
+        rw f at (formed-good (written d) (formed (written d) e))
+
+-- ---- the tests of the spans are exactly those of number 24
+fit-params : (text : List ℕ) (ss : List Span) → fitParams text ss ≡ all (liesIn (length text)) ss && goodParams (map (bytesAt text) ss)
+unfolding fitParams fitParam all goodParams
+fit-params text [] = refl
+fit-params text (s ∷ ss) =
+    let l : Bool = liesIn (length text) s in
+    let ls : Bool = all (liesIn (length text)) ss in
+    let gs : Bool = goodParams (map (bytesAt text) ss) in
+    ap (λ (t : Bool). fitParam text (isNil ss) s && t) (fit-params text ss)
+    ∙ and-swap l (goodParam (isNil ss) (bytesAt text s)) ls gs
+    ∙ ap (λ (t : Bool). (l && ls) && (goodParam t (bytesAt text s) && gs)) (sym (nil-map (bytesAt text) ss))
+
+parted : (l g lc c ls gs : Bool) → (l && g) && ((lc && c) && (ls && gs)) ≡ (l && (lc && ls)) && (g && (c && gs))
+parted l g lc c ls gs = ap (λ (t : Bool). (l && g) && t) (and-swap lc c ls gs) ∙ and-swap l g (lc && ls) (c && gs)
+
+module _ (text : List ℕ) (m : Message) where
+  abbrev spans : List Span
+  spans = take (m .count) (m .params)
+
+  few : leb (m .count) paramLimit ≡ true → leb (length (map (bytesAt text) spans)) paramLimit ≡ true
+  few h =
+      le-leb (length (map (bytesAt text) spans)) paramLimit
+      (omega (arith, leb-true (m .count) paramLimit h, length-map spans (bytesAt text), length-take (m .count) (m .params)))
+
+  fit-prefix : fitPrefix text m ≡ (not (m .«has_prefix») || liesIn (length text) (m .prefix)) && goodSource (contentBy text m .prefix)
+  unfolding fitPrefix contentBy goodSource
+  fit-prefix = go (m .«has_prefix») refl
+    where
+      go : (t : Bool) → m .«has_prefix» ≡ t → fitPrefix text m ≡ (not (m .«has_prefix») || liesIn (length text) (m .prefix)) && goodSource (contentBy text m .prefix)
+      go true h = rw h
+      go false h = rw h
+
+  fit-good : fit text m ≡ lies text m && good (contentBy text m)
+  unfolding fit fitCommand lies good contentBy
+  fit-good = go (leb (m .count) paramLimit) refl
+    where
+      go : (t : Bool) → leb (m .count) paramLimit ≡ t → fit text m ≡ lies text m && good (contentBy text m)
+      go false h = rw h
+      go true h =
+          rw (h, few h, fit-prefix, fit-params text spans, and-true (goodParams (map (bytesAt text) spans)))
+          (parted (not (m .«has_prefix») || liesIn (length text) (m .prefix)) (goodSource (contentBy text m .prefix)) (liesIn (length text) (m .command)) (isCommand (bytesAt text (m .command))) (all (liesIn (length text)) spans) (goodParams (map (bytesAt text) spans)))
+
+  pub fit-exactly : fit text m ≡ lies text m && readsBack (contentBy text m)
+  fit-exactly = fit-good ∙ ap (λ (t : Bool). lies text m && t) (good-exactly (contentBy text m))

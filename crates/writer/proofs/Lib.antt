@@ -1,0 +1,8 @@
+-- Laws of the writer, for its functions and for the crates above.
+pub mod Parts
+pub mod Words
+pub mod Trips
+pub mod Fitting
+pub mod Lengths
+pub mod Rounds
+pub mod Answers

@@ -1,0 +1,98 @@
+-- Laws of what the writer's functions test and put, parameter by parameter: each return is one of them. Assumes nothing.
+use mathlib.Core.Path.{_≡_, refl, sym, ap, _∙_}
+use mathlib.Core.Bool.{Bool, true, false, not, _&&_, _||_}
+use mathlib.Core.List.{List, [], _∷_, _++_, map}
+use Prim.Native.Nat.{ℕ, _+_, _-_, _≤_, _<_}
+use native.Mathlib.Omega.{arith}
+use lib.ListN.{length, take, drop, getD, length-take, length-drop}
+use lib.Seq.{getD-take}
+use lib.Dec.{eqb}
+use borrow.Author.Tests.{eq-eqb, ne-eqb}
+use Rattle.octets.specs.Bytes.{space, colon, isPlain, isNonSpace}
+use Rattle.octets.specs.Lists.{all, isNil}
+use Rattle.octets.proofs.Lists.{drop-step, nil-length, nil-map}
+use Rattle.message.specs.declared.Span.{Span}
+use Rattle.message.specs.declared.Message.{Message}
+use Rattle.message.specs.Grammar.{hasPrefix, isMiddle}
+use Rattle.message.specs.Parts.{span, bytesAt}
+use Rattle.writer.specs.Form.{takesColon, writtenParam, writtenParams, liesIn}
+use Rattle.writer.specs.Fit.{goodPrefix, fitPrefix, fitParam, fitParams}
+
+-- ---- a middle, by its first byte
+pub middle-nil : (p : List ℕ) → length p ≡ 0 → false ≡ isMiddle p
+unfolding isMiddle
+middle-nil [] = λ h. refl
+middle-nil (b ∷ p) = λ h. absurd (omega arith)
+
+pub middle-colon : (p : List ℕ) → (length p ≡ 0 → ⊥) → getD p 0 0 ≡ colon → false ≡ isMiddle p
+unfolding isMiddle
+middle-colon [] = λ h e. refl
+middle-colon (b ∷ p) = λ h e. rw (eq-eqb b colon e)
+
+pub middle-word : (p : List ℕ) → (length p ≡ 0 → ⊥) → (getD p 0 0 ≡ colon → ⊥) → (r : Bool) → r ≡ all isNonSpace p → r ≡ isMiddle p
+unfolding isMiddle
+middle-word [] = λ h e r q. absurd (h refl)
+middle-word (b ∷ p) = λ h e r q. rw (ne-eqb b colon e) q
+
+-- ':' is needed exactly where the last parameter is no middle
+pub colon-exactly : (k : ℕ) (last : Bool) (p : List ℕ) → takesColon k last p ≡ last && not (isMiddle p)
+unfolding takesColon isMiddle hasPrefix
+colon-exactly k last [] = refl
+colon-exactly k last (b ∷ p) = ap (λ (t : Bool). last && t) (go (eqb b colon) (all isNonSpace (b ∷ p)))
+  where
+    go : (s t : Bool) → s || not t ≡ not (not s && t)
+    go true t = refl
+    go false t = refl
+
+-- ---- the prefix
+module _ (text : List ℕ) (m : Message) (has : not (m .«has_prefix») ≡ false) where
+  pub prefix-outside : liesIn (length text) (m .prefix) ≡ false → false ≡ fitPrefix text m
+  unfolding fitPrefix
+  prefix-outside e = simp (has, e)
+
+  module _ (lies : liesIn (length text) (m .prefix) ≡ true) (p : List ℕ) (is : p ≡ bytesAt text (m .prefix)) where
+    pub prefix-empty : length p ≡ 0 → false ≡ fitPrefix text m
+    unfolding fitPrefix goodPrefix
+    prefix-empty h = simp (has, lies, ← is, nil-length p ∙ eq-eqb (length p) 0 h)
+
+    module _ (full : length p ≡ 0 → ⊥) where
+      pub prefix-control : all isPlain p ≡ false → false ≡ fitPrefix text m
+      unfolding fitPrefix goodPrefix
+      prefix-control h = simp (has, lies, ← is, nil-length p ∙ ne-eqb (length p) 0 full, h)
+
+      pub prefix-word : all isPlain p ≡ true → (r : Bool) → r ≡ all isNonSpace p → r ≡ fitPrefix text m
+      unfolding fitPrefix goodPrefix
+      prefix-word h r q = simp (has, lies, ← is, nil-length p ∙ ne-eqb (length p) 0 full, h) q
+
+-- ---- a place in the spans that count
+module _ (ps : List Span) (n k : ℕ) (few : n ≤ length ps) (lt : k < n) where
+  front-long : length (take n ps) ≡ n
+  front-long = omega (arith, length-take n ps)
+
+  spans-step : drop k (take n ps) ≡ getD ps k (span 0 0) ∷ drop (k + 1) (take n ps)
+  spans-step =
+      drop-step (take n ps) k (span 0 0) (omega (arith, front-long))
+      ∙ ap (λ (s : Span). s ∷ drop (k + 1) (take n ps)) (getD-take n ps k (span 0 0) lt)
+
+  last-is : isNil (drop (k + 1) (take n ps)) ≡ eqb (k + 1) n
+  last-is = go (drop (k + 1) (take n ps)) (length-drop (k + 1) (take n ps))
+    where
+      go : (l : List Span) → length l ≡ length (take n ps) - (k + 1) → isNil l ≡ eqb (k + 1) n
+      go [] = λ e. sym (eq-eqb (k + 1) n (omega (arith, front-long)))
+      go (s ∷ l) = λ e. sym (ne-eqb (k + 1) n (λ q. omega (arith, front-long)))
+
+  module _ (text : List ℕ) where
+    fit-step : fitParams text (drop k (take n ps)) ≡ fitParam text (eqb (k + 1) n) (getD ps k (span 0 0)) && fitParams text (drop (k + 1) (take n ps))
+    unfolding fitParams
+    fit-step = rw (spans-step, last-is)
+
+    pub fit-stop : fitParam text (eqb (k + 1) n) (getD ps k (span 0 0)) ≡ false → false ≡ fitParams text (drop k (take n ps))
+    fit-stop e = rw (fit-step, e)
+
+    pub fit-go : fitParam text (eqb (k + 1) n) (getD ps k (span 0 0)) ≡ true → fitParams text (drop (k + 1) (take n ps)) ≡ fitParams text (drop k (take n ps))
+    fit-go e = rw (fit-step, e)
+
+    pub written-step : writtenParams k (map (bytesAt text) (drop k (take n ps)))
+        ≡ (space ∷ writtenParam k (eqb (k + 1) n) (bytesAt text (getD ps k (span 0 0)))) ++ writtenParams (k + 1) (map (bytesAt text) (drop (k + 1) (take n ps)))
+    unfolding writtenParams
+    written-step = rw (spans-step, ← last-is, ← nil-map (bytesAt text) (drop (k + 1) (take n ps)))

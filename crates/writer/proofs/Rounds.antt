@@ -1,0 +1,201 @@
+-- What reading and writing make of each other (document 01, 'Reading one line'). Reading what was written gives the message back. What was
+-- read can always be written, holds the same message then, and is never longer than the line read. Writing a second time changes nothing.
+-- The same holds of a line passed on with its command in capitals. True since the tests for number 24 are exactly what the grammar asks
+-- (`Fitting`), and no line that holds a message is shorter than the fixed form (`Lengths`). Assumes nothing.
+use mathlib.Core.Path.{_≡_, refl, sym, ap, _∙_}
+use mathlib.Core.Bool.{Bool, true, not, cond, _&&_, _||_, or-true}
+use mathlib.Core.List.{List, [], _∷_, map}
+use mathlib.Core.Option.{some, none}
+use Prim.Native.Nat.{ℕ, _-_, _≤_}
+use native.Mathlib.Omega.{arith}
+use lib.ListN.{length, take, length-append, length-map}
+use lib.Dec.{leb}
+use borrow.Author.Tests.{le-leb, le-ltb, ltb-false, not-false}
+use Rattle.refusal.specs.Numbers.{accepted}
+use Rattle.refusal.specs.Rules.{firstOf, ascend, ascendFrom}
+use Rattle.refusal.proofs.Rules.{first-none}
+use Rattle.octets.specs.Bytes.{capital}
+use Rattle.octets.specs.Lists.{all, padded}
+use Rattle.octets.proofs.Bools.{and-left, and-right, and-intro}
+use Rattle.octets.proofs.Lists.{take-padded}
+use Rattle.message.specs.declared.Span.{Span}
+use Rattle.message.specs.declared.Message.{Message}
+use Rattle.message.specs.Grammar.{Part, lineLimit, paramLimit, hasPrefix, prefix, command, isCommand, params}
+use Rattle.message.specs.Content.{Content, bytesOf, contentIn}
+use Rattle.message.specs.Parts.{nowhere, bytesAt, spanOf, messageIn}
+use Rattle.message.specs.Reading.{crlf, bodyOf, bodyRules, lineRules, numberFor, isRead, contentOf, messageOf}
+use Rattle.message.proofs.Places.{Placed, Each, In, prefix-in-line, command-in-line, params-in-line}
+use Rattle.message.proofs.Readings.{Formed, ends-long, body-length, read-small, read-formed, read-content, read-message}
+use Rattle.writer.specs.Form.{writtenBody, written, readsBack, contentBy, liesIn, lies, withCommand, inCapitals}
+use Rattle.writer.specs.Writing.{writeRules, forwardRules, forwarded}
+use Rattle.writer.specs.Fit.{goodSource, goodParams, good}
+use Rattle.writer.proofs.Words.{command-long, command-capital, capitals-twice}
+use Rattle.writer.proofs.Trips.{content-eq, good-command}
+use Rattle.writer.proofs.Fitting.{formed-good, good-form, good-exactly}
+use Rattle.writer.proofs.Lengths.{body-short}
+
+-- ---- the numbers
+-- The numbers of a message that is to be written ascend: the lowest that applies is given.
+pub write-rules-ascend : (text : List ℕ) (m : Message) (out : List ℕ) → ascend (writeRules text m out) ≡ true
+unfolding ascendFrom writeRules
+write-rules-ascend text m out = refl
+
+-- Those of a line that is to be passed on ascend too.
+pub forward-rules-ascend : (line out : List ℕ) → ascend (forwardRules line out) ≡ true
+unfolding ascendFrom forwardRules lineRules bodyRules
+forward-rules-ascend line out = refl
+
+-- A line that is to be passed on gets the reader's number, if the output has room for a line.
+pub forward-number : (line out : List ℕ) → lineLimit ≤ length out → firstOf (forwardRules line out) ≡ numberFor line
+unfolding forwardRules firstOf numberFor
+forward-number line out room = rw (le-ltb (length out) lineLimit room)
+
+-- ---- the written form of a good message
+good-line : (d : Content) → good d ≡ true → length (written d) ≤ lineLimit → (isRead (written d) ≡ true) × (contentOf (written d) ≡ d)
+unfolding isRead numberFor lineRules firstOf
+good-line d ok h =
+    let r = good-form d ok in
+    let q : isRead (written d) ≡ true = rw (le-ltb lineLimit (length (written d)) h, r .0) in
+    (q, read-content (written d) q ∙ r .1)
+
+-- Reading what was written gives the message back.
+pub written-reads : (text : List ℕ) (m : Message) (out : List ℕ) → firstOf (writeRules text m out) ≡ accepted
+    → (isRead (written (contentBy text m)) ≡ true) × (contentOf (written (contentBy text m)) ≡ contentBy text m)
+unfolding writeRules
+written-reads text m out e =
+    let r2 = first-none _ _ (λ q. omega arith) e in
+    let r24 = first-none _ _ (λ q. omega arith) (r2 .1) in
+    let r25 = first-none _ _ (λ q. omega arith) (r24 .1) in
+    let ok : good (contentBy text m) ≡ true = good-exactly (contentBy text m) ∙ and-right (lies text m) (readsBack (contentBy text m)) (not-false _ (r24 .0)) in
+    good-line (contentBy text m) ok (ltb-false lineLimit _ (r25 .0))
+
+-- A message is written whose parts lie in the text and pass the tests, if the line and the output keep to their limits.
+pub good-writes : (text : List ℕ) (m : Message) (out : List ℕ) (d : Content) → lies text m ≡ true → contentBy text m ≡ d → good d ≡ true → length (written d) ≤ lineLimit → lineLimit ≤ length out
+    → firstOf (writeRules text m out) ≡ accepted
+unfolding writeRules firstOf
+good-writes text m out d l e ok short room = simp (le-ltb (length out) lineLimit room, l, e, sym (good-exactly d) ∙ ok, le-ltb lineLimit (length (written d)) short)
+
+-- ---- the spans of a line that is read
+placed-lies : (s : List ℕ) (at : Span) (bytes : List ℕ) → Placed s at bytes → liesIn (length s) at ≡ true
+unfolding liesIn
+placed-lies s at bytes p = and-intro _ _ (le-leb (at .start) (at .end) (p .forward)) (le-leb (at .end) (length s) (p .inside))
+
+each-placed : (line : List ℕ) (ps : List Part) → Each (In line) ps → (all (liesIn (length line)) (map spanOf ps) ≡ true) × (map (bytesAt line) (map spanOf ps) ≡ bytesOf ps)
+unfolding all
+each-placed line [] e = (refl, refl)
+each-placed line (p ∷ ps) e =
+    let r = each-placed line ps (e .1) in
+    (and-intro _ _ (placed-lies line (spanOf p) (p .bytes) (e .0)) (r .0), rw (e .0 .same, r .1))
+
+module _ (line : List ℕ) (few : length (params (bodyOf line)) ≤ paramLimit) where
+  abbrev body : List ℕ
+  body = bodyOf line
+
+  abbrev parts : Message
+  parts = messageIn body (length line)
+
+  spans-are : take (parts .count) (parts .params) ≡ map spanOf (params body)
+  unfolding messageIn
+  spans-are =
+      let n : length (map spanOf (params body)) ≡ length (params body) = length-map (params body) spanOf in
+      ap (λ (i : ℕ). take i (padded paramLimit (nowhere (length line)) (map spanOf (params body)))) (sym n) ∙ take-padded (nowhere (length line)) paramLimit (map spanOf (params body)) (omega arith)
+
+  prefix-placed : Placed line (parts .prefix) (prefix body)
+  unfolding bodyOf
+  prefix-placed = prefix-in-line line (length line - 2)
+
+  command-placed : Placed line (parts .command) (command body)
+  unfolding bodyOf
+  command-placed = command-in-line line (length line - 2)
+
+  params-placed : (all (liesIn (length line)) (map spanOf (params body)) ≡ true) × (map (bytesAt line) (map spanOf (params body)) ≡ bytesOf (params body))
+  unfolding bodyOf
+  params-placed = each-placed line (params body) (params-in-line line (length line - 2))
+
+  parts-lie : lies line parts ≡ true
+  unfolding lies messageIn
+  parts-lie =
+      and-intro _ _ (le-leb (length (params body)) paramLimit few)
+      (and-intro (not (hasPrefix body) || liesIn (length line) (parts .prefix)) _ (rw (placed-lies line (parts .prefix) (prefix body) prefix-placed) (or-true (not (hasPrefix body))))
+      (and-intro _ _ (placed-lies line (parts .command) (command body) command-placed) (rw spans-are (params-placed .0))))
+
+  parts-hold : contentBy line parts ≡ contentIn body
+  unfolding contentBy contentIn messageIn
+  parts-hold =
+      content-eq (contentBy line parts) (contentIn body) (ap (λ (p : List ℕ). cond (hasPrefix body) (some p) none) (prefix-placed .same)) (command-placed .same)
+      (ap (map (bytesAt line)) spans-are ∙ params-placed .1)
+
+-- ---- a line that is read
+module _ (line : List ℕ) (h : isRead line ≡ true) where
+  -- The parts that the reader finds lie in the line.
+  pub message-lies : lies line (messageOf line) ≡ true
+  message-lies = rw (read-message line h) (parts-lie line (read-formed line h .few))
+
+  -- They are the message that the line holds.
+  pub message-holds : contentBy line (messageOf line) ≡ contentOf line
+  message-holds = rw (read-message line h, read-content line h) (parts-hold line (read-formed line h .few))
+
+  content-good : good (contentOf line) ≡ true
+  content-good = rw (read-content line h) (formed-good line (read-formed line h))
+
+  -- the fixed form is no longer than the line
+  content-short : length (written (contentOf line)) ≤ length line
+  unfolding written
+  content-short =
+      let f : Formed line = read-formed line h in
+      let b : List ℕ = bodyOf line in
+      rw (read-content line h)
+      (omega (arith, body-short b (command-long (command b) (f .commanded)), length-append (writtenBody (contentIn b)) crlf, body-length line, ends-long line (f .ends)))
+
+-- Writing what was read is never refused, if the output isn't too short, and gives a line with the same message, never longer than the one read.
+pub read-writes : (line out : List ℕ) → isRead line ≡ true → lineLimit ≤ length out
+    → (firstOf (writeRules line (messageOf line) out) ≡ accepted)
+    × (contentOf (written (contentBy line (messageOf line))) ≡ contentOf line)
+    × (length (written (contentBy line (messageOf line))) ≤ length line)
+read-writes line out h room =
+    let d : Content = contentOf line in
+    let short : length (written d) ≤ lineLimit = omega (arith, content-short line h, read-small line h) in (
+      good-writes line (messageOf line) out d (message-lies line h) (message-holds line h) (content-good line h) short room,
+      rw (message-holds line h) (good-line d (content-good line h) short .1),
+      rw (message-holds line h) (content-short line h),
+    )
+
+-- Writing what was written and read again is never refused either, and gives the same line.
+pub written-twice : (text : List ℕ) (m : Message) (out next : List ℕ) → firstOf (writeRules text m out) ≡ accepted → lineLimit ≤ length next
+    → (firstOf (writeRules (written (contentBy text m)) (messageOf (written (contentBy text m))) next) ≡ accepted)
+    × (written (contentBy (written (contentBy text m)) (messageOf (written (contentBy text m)))) ≡ written (contentBy text m))
+written-twice text m out next e room =
+    let line : List ℕ = written (contentBy text m) in
+    let r = written-reads text m out e in
+    (read-writes line next (r .0) room .0, ap written (message-holds line (r .0) ∙ r .1))
+
+-- ---- the command in capitals
+-- The command in capitals leaves the line as long as it is.
+pub capitals-length : (d : Content) → length (written (inCapitals d)) ≡ length (written d)
+unfolding written writtenBody withCommand
+capitals-length d = simp (length-append, length-map)
+
+capitals-good : (d : Content) → good d ≡ true → good (inCapitals d) ≡ true
+unfolding good withCommand
+capitals-good d ok =
+    let a : Bool = goodSource (d .prefix) in
+    let c : Bool = isCommand (d .command) in
+    let r : Bool = goodParams (d .params) && leb (length (d .params)) paramLimit in
+    and-intro a (isCommand (map capital (d .command)) && r) (and-left a (c && r) ok)
+    (and-intro (isCommand (map capital (d .command))) r (command-capital (d .command) (good-command d ok)) (and-right c r (and-right a (c && r) ok)))
+
+-- ---- a line that is passed on
+-- A line that is passed on reads as the line's message, the command in capitals, and is never longer than the line read.
+pub forwarded-reads : (line : List ℕ) → isRead line ≡ true
+    → (isRead (forwarded line) ≡ true) × (contentOf (forwarded line) ≡ inCapitals (contentOf line)) × (length (forwarded line) ≤ length line)
+unfolding forwarded
+forwarded-reads line h =
+    let d : Content = contentOf line in
+    let short : length (written (inCapitals d)) ≤ length line = omega (arith, capitals-length d, content-short line h) in
+    let r = good-line (inCapitals d) (capitals-good d (content-good line h)) (omega (arith, read-small line h)) in
+    (r .0, r .1, short)
+
+-- Passing on what was passed on gives the same line.
+pub forwarded-twice : (line : List ℕ) → isRead line ≡ true → forwarded (forwarded line) ≡ forwarded line
+unfolding forwarded withCommand
+forwarded-twice line h = ap (λ (d : Content). written (inCapitals d)) (forwarded-reads line h .1) ∙ ap (λ (c : List ℕ). written (withCommand (contentOf line) c)) (capitals-twice (contentOf line .command))

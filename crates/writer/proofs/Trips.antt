@@ -1,0 +1,253 @@
+-- Reading what is written gives the message back: part by part, each part of a good message stops where the grammar stops reading it.
+-- Assumes nothing.
+use mathlib.Core.Path.{_≡_, refl, sym, ap, _∙_}
+use mathlib.Core.Bool.{Bool, true, false, true≢false, not, _&&_, _||_, and-false}
+use mathlib.Core.List.{List, [], _∷_, _++_, append-nil, append-assoc}
+use mathlib.Core.Option.{Option, some, none}
+use Prim.Native.Nat.{ℕ, _+_, _-_, _≤_}
+use native.Mathlib.Omega.{arith}
+use lib.ListN.{length, drop, length-append, length-map}
+use lib.Seq.{drop-drop, drop-append-seam, drop-at, take-at}
+use lib.Dec.{eqb}
+use borrow.Author.Tests.{ne-eqb, leb-true, le-ltb, not-true}
+use Rattle.refusal.specs.Numbers.{accepted}
+use Rattle.refusal.specs.Rules.{firstOf}
+use Rattle.octets.specs.Bytes.{space, colon, isPlain, isNonSpace}
+use Rattle.octets.specs.Lists.{all, isNil, sameBy}
+use Rattle.octets.proofs.Bools.{and-left, and-right}
+use Rattle.octets.proofs.Lists.{nil-length, all-head, all-cons, all-append}
+use Rattle.message.specs.Grammar.{Part, paramLimit, spaces, isMiddle, rest, hasPrefix, prefix, prefixEnd, commandStart, command, commandEnd, isCommand, params}
+use Rattle.message.specs.Content.{Content, bytesOf, contentIn}
+use Rattle.message.specs.Reading.{crlf, endsLine, bodyOf, bodyRules, grammarRules}
+use Rattle.message.proofs.Relation.{Stops, word-append, middle-read}
+use Rattle.writer.specs.Form.{takesColon, writtenParam, writtenParams, writtenPrefix, writtenBody}
+use Rattle.writer.specs.Fit.{goodPrefix, goodSource, goodParam, goodParams, good}
+use Rattle.writer.proofs.Parts.{colon-exactly}
+use Rattle.writer.proofs.Words.{middle-clear, command-long, command-plain, command-middle}
+
+-- ---- one parameter
+pub middle-written : (k : ℕ) (last : Bool) (p : List ℕ) → isMiddle p ≡ true → writtenParam k last p ≡ p
+unfolding writtenParam
+middle-written k last p e = rw (colon-exactly k last p, e, and-false last)
+
+pub trailing-written : (k : ℕ) (p : List ℕ) → isMiddle p ≡ false → writtenParam k true p ≡ colon ∷ p
+unfolding writtenParam
+trailing-written k p e = rw (colon-exactly k true p, e)
+
+param-plain : (k : ℕ) (last : Bool) (p : List ℕ) → all isPlain p ≡ true → all isPlain (writtenParam k last p) ≡ true
+unfolding writtenParam isPlain
+param-plain k last p h = go (takesColon k last p) refl
+  where
+    go : (t : Bool) → takesColon k last p ≡ t → all isPlain (writtenParam k last p) ≡ true
+    go true e = rw e (all-cons isPlain colon p refl h)
+    go false e = rw e h
+
+-- ---- the parameters of a written form
+module _ (p : List ℕ) (ps : List (List ℕ)) (h : goodParams (p ∷ ps) ≡ true) where
+  good-head : goodParam (isNil ps) p ≡ true
+  unfolding goodParams
+  good-head = and-left (goodParam (isNil ps) p) (goodParams ps) h
+
+  good-plain : all isPlain p ≡ true
+  unfolding goodParam
+  good-plain = and-left (all isPlain p) (isNil ps || isMiddle p) good-head
+
+  -- unless it is the last
+  good-middle : isNil ps ≡ false → isMiddle p ≡ true
+  unfolding goodParam
+  good-middle e = rw e at (and-right (all isPlain p) (isNil ps || isMiddle p) good-head)
+
+  good-tail : goodParams ps ≡ true
+  unfolding goodParams
+  good-tail = and-right (goodParam (isNil ps) p) (goodParams ps) h
+
+written-stops : (k : ℕ) (ps : List (List ℕ)) → Stops (writtenParams k ps)
+unfolding writtenParams
+written-stops k [] = tt
+written-stops k (p ∷ ps) = refl
+
+middle-back : (k at : ℕ) (p : List ℕ) (ps : List (List ℕ)) → isMiddle p ≡ true → bytesOf (rest (k + 1) (at + 1 + length p) (writtenParams (k + 1) ps)) ≡ ps
+    → bytesOf (rest k at (writtenParams k (p ∷ ps))) ≡ p ∷ ps
+unfolding writtenParams rest
+middle-back k at p ps m ih =
+    rw (middle-written k (isNil ps) p m)
+    (ap bytesOf (middle-read (writtenParams (k + 1) ps) (written-stops (k + 1) ps) p m k (at + 1)) ∙ ap (λ (l : List (List ℕ)). p ∷ l) ih)
+
+last-back : (k at : ℕ) (p : List ℕ) → bytesOf (rest k at (writtenParams k (p ∷ []))) ≡ p ∷ []
+unfolding writtenParams rest
+last-back k at p = go (isMiddle p) refl
+  where
+    go : (t : Bool) → isMiddle p ≡ t → bytesOf (rest k at (writtenParams k (p ∷ []))) ≡ p ∷ []
+    go true e = middle-back k at p [] e refl
+    go false e = rw (trailing-written k p e) (ap (λ (l : List ℕ). l ∷ []) (append-nil p))
+
+params-back : (ps : List (List ℕ)) → goodParams ps ≡ true → (k at : ℕ) → bytesOf (rest k at (writtenParams k ps)) ≡ ps
+unfolding writtenParams rest
+params-back [] h k at = refl
+params-back (p ∷ []) h k at = last-back k at p
+params-back (p ∷ q ∷ ps) h k at = middle-back k at p (q ∷ ps) (good-middle p (q ∷ ps) h refl) (params-back (q ∷ ps) (good-tail p (q ∷ ps) h) (k + 1) (at + 1 + length p))
+
+params-plain : (ps : List (List ℕ)) → goodParams ps ≡ true → (k : ℕ) → all isPlain (writtenParams k ps) ≡ true
+unfolding writtenParams all isPlain
+params-plain [] h k = refl
+params-plain (p ∷ ps) h k = all-append isPlain (writtenParam k (isNil ps) p) (writtenParams (k + 1) ps) (param-plain k (isNil ps) p (good-plain p ps h)) (params-plain ps (good-tail p ps h) (k + 1))
+
+-- ---- a middle has no SPACE before it, and no prefix
+module _ (t : List ℕ) where
+  spaces-none : (w : List ℕ) → isMiddle w ≡ true → spaces (w ++ t) ≡ 0
+  unfolding spaces isMiddle
+  spaces-none [] h = absurd (true≢false (sym h))
+  spaces-none (b ∷ w) h = rw (not-true (eqb b space) (all-head isNonSpace b w (middle-clear (b ∷ w) h)))
+
+  prefix-none : (w : List ℕ) → isMiddle w ≡ true → hasPrefix (w ++ t) ≡ false
+  unfolding hasPrefix isMiddle
+  prefix-none [] h = absurd (true≢false (sym h))
+  prefix-none (b ∷ w) h = not-true (eqb b colon) (and-left (not (eqb b colon)) (all isNonSpace (b ∷ w)) h)
+
+-- ---- a command and good parameters are read where they stand
+module _ (c : List ℕ) (ps : List (List ℕ)) (is : isMiddle c ≡ true) (ok : goodParams ps ≡ true) where
+  abbrev tail : List ℕ
+  tail = c ++ writtenParams 0 ps
+
+  module _ (b : List ℕ) (e : drop (commandStart b) b ≡ tail) where
+    command-there : command b ≡ c
+    unfolding command
+    command-there = rw e (word-append (writtenParams 0 ps) (written-stops 0 ps) c (middle-clear c is))
+
+    params-there : bytesOf (params b) ≡ ps
+    unfolding params commandEnd
+    params-there =
+        rw (command-there, ← drop-drop (length c) (commandStart b) b, e, drop-append-seam c (writtenParams 0 ps))
+        (params-back ps ok 0 (commandStart b + length c))
+
+  -- without a prefix
+  bare-start : drop (commandStart tail) tail ≡ tail
+  unfolding commandStart
+  bare-start = rw (prefix-none (writtenParams 0 ps) c is)
+
+  -- with one
+  module _ (p : List ℕ) (clear : all isNonSpace p ≡ true) where
+    abbrev body : List ℕ
+    body = colon ∷ (p ++ (space ∷ tail))
+
+    prefix-there : prefix body ≡ p
+    unfolding prefix hasPrefix
+    prefix-there = word-append (space ∷ tail) refl p clear
+
+    end-there : prefixEnd body ≡ 1 + length p
+    unfolding prefixEnd hasPrefix
+    end-there = rw prefix-there
+
+    start-there : commandStart body ≡ 1 + length p + 1
+    unfolding commandStart hasPrefix spaces
+    start-there =
+        let e : drop (1 + length p) body ≡ space ∷ tail = drop-at (colon ∷ p) (space ∷ tail) (1 + length p) (omega arith) in
+        rw (end-there, e, spaces-none (writtenParams 0 ps) c is)
+
+    tail-there : drop (commandStart body) body ≡ tail
+    tail-there =
+        rw (start-there, ← drop-drop 1 (1 + length p) body)
+        (ap (λ (l : List ℕ). drop 1 l) (drop-at (colon ∷ p) (space ∷ tail) (1 + length p) (omega arith)))
+
+-- ---- two messages with the same parts
+abbrev content : Option (List ℕ) → List ℕ → List (List ℕ) → Content
+content o c ps = record { prefix = o; command = c; params = ps }
+
+pub content-eq : (d e : Content) → d .prefix ≡ e .prefix → d .command ≡ e .command → d .params ≡ e .params → d ≡ e
+content-eq d e p c ps =
+    ap (λ (o : Option (List ℕ)). content o (d .command) (d .params)) p ∙ ap (λ (l : List ℕ). content (e .prefix) l (d .params)) c ∙ ap (content (e .prefix) (e .command)) ps
+
+-- ---- the parts of a good message
+module _ (d : Content) (ok : good d ≡ true) where
+  good-source : goodSource (d .prefix) ≡ true
+  unfolding good
+  good-source = and-left (goodSource (d .prefix)) _ ok
+
+  pub good-command : isCommand (d .command) ≡ true
+  unfolding good
+  good-command = and-left _ _ (and-right (goodSource (d .prefix)) _ ok)
+
+  good-params : goodParams (d .params) ≡ true
+  unfolding good
+  good-params = and-left _ _ (and-right (isCommand (d .command)) _ (and-right (goodSource (d .prefix)) _ ok))
+
+  good-few : length (d .params) ≤ paramLimit
+  unfolding good
+  good-few = leb-true _ _ (and-right (goodParams (d .params)) _ (and-right (isCommand (d .command)) _ (and-right (goodSource (d .prefix)) _ ok)))
+
+source-clear : (p : List ℕ) → goodPrefix p ≡ true → all isNonSpace p ≡ true
+unfolding goodPrefix
+source-clear p h = and-right (all isPlain p) (all isNonSpace p) (and-right (not (isNil p)) _ h)
+
+source-plain : (p : List ℕ) → goodPrefix p ≡ true → all isPlain p ≡ true
+unfolding goodPrefix
+source-plain p h = and-left (all isPlain p) (all isNonSpace p) (and-right (not (isNil p)) _ h)
+
+source-full : (p : List ℕ) → goodPrefix p ≡ true → isNil p ≡ false
+unfolding goodPrefix
+source-full p h = not-true (isNil p) (and-left (not (isNil p)) _ h)
+
+-- ---- what the written form of a good message holds
+parts-back : (o : Option (List ℕ)) (c : List ℕ) (ps : List (List ℕ)) → goodSource o ≡ true → isMiddle c ≡ true → goodParams ps ≡ true
+    → contentIn (writtenPrefix o ++ c ++ writtenParams 0 ps) ≡ content o c ps
+unfolding contentIn hasPrefix writtenPrefix goodSource
+parts-back none c ps h is ok =
+    let b : List ℕ = c ++ writtenParams 0 ps in
+    let e = bare-start c ps is ok in
+    content-eq (contentIn b) (content none c ps) (rw (prefix-none (writtenParams 0 ps) c is)) (command-there c ps is ok b e) (params-there c ps is ok b e)
+parts-back (some p) c ps h is ok =
+    let clear = source-clear p h in
+    let b : List ℕ = body c ps is ok p clear in
+    let e = tail-there c ps is ok p clear in
+    let w : writtenPrefix (some p) ++ c ++ writtenParams 0 ps ≡ b = simp append-assoc in
+    rw w (content-eq (contentIn b) (content (some p) c ps) (ap some (prefix-there c ps is ok p clear)) (command-there c ps is ok b e) (params-there c ps is ok b e))
+
+prefix-plain : (o : Option (List ℕ)) → goodSource o ≡ true → all isPlain (writtenPrefix o) ≡ true
+unfolding writtenPrefix goodSource all isPlain
+prefix-plain none h = refl
+prefix-plain (some p) h = all-append isPlain p (space ∷ []) (source-plain p h) refl
+
+module _ (d : Content) (ok : good d ≡ true) where
+  pub content-back : contentIn (writtenBody d) ≡ d
+  unfolding writtenBody
+  content-back = parts-back (d .prefix) (d .command) (d .params) (good-source d ok) (command-middle (d .command) (good-command d ok)) (good-params d ok)
+
+  pub body-plain : all isPlain (writtenBody d) ≡ true
+  unfolding writtenBody
+  body-plain =
+      all-append isPlain (writtenPrefix (d .prefix) ++ d .command) (writtenParams 0 (d .params))
+      (all-append isPlain (writtenPrefix (d .prefix)) (d .command) (prefix-plain (d .prefix) (good-source d ok)) (command-plain (d .command) (good-command d ok)))
+      (params-plain (d .params) (good-params d ok) 0)
+
+  pub body-full : isNil (writtenBody d) ≡ false
+  unfolding writtenBody
+  body-full = nil-length (writtenBody d) ∙ ne-eqb (length (writtenBody d)) 0 (λ q. omega (arith, command-long (d .command) (good-command d ok), simp length-append at q))
+
+-- ---- a good body has no refusal
+pub good-reads : (b : List ℕ) → good (contentIn b) ≡ true → firstOf (bodyRules b) ≡ accepted
+unfolding bodyRules firstOf contentIn goodSource
+good-reads b ok = simp (sourced, good-command (contentIn b) ok, le-ltb paramLimit (length (params b)) few)
+  where
+    few : length (params b) ≤ paramLimit
+    few = omega (arith, good-few (contentIn b) ok, length-map (params b) (λ (x : Part). x .bytes))
+
+    sourced : hasPrefix b && isNil (prefix b) ≡ false
+    sourced = go (hasPrefix b) refl
+      where
+        go : (t : Bool) → hasPrefix b ≡ t → hasPrefix b && isNil (prefix b) ≡ false
+        go true h = rw h (source-full (prefix b) (rw h at (good-source (contentIn b) ok)))
+        go false h = rw h
+
+-- ---- a body and CR LF
+module _ (b : List ℕ) where
+  pub body-back : bodyOf (b ++ crlf) ≡ b
+  unfolding bodyOf
+  body-back = take-at b crlf (length (b ++ crlf) - 2) (simp length-append (omega arith))
+
+  line-ends : endsLine (b ++ crlf) ≡ true
+  unfolding endsLine sameBy
+  line-ends = rw (drop-at b crlf (length (b ++ crlf) - 2) (simp length-append (omega arith)))
+
+  pub form-reads : all isPlain b ≡ true → isNil b ≡ false → firstOf (grammarRules (b ++ crlf)) ≡ firstOf (bodyRules b)
+  unfolding firstOf
+  form-reads p h = simp (line-ends, body-back, p, h)

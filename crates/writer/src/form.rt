@@ -1,0 +1,79 @@
+// The fixed form, put together part by part in a scratch line. Each function says where what it put ends: one past the line where there is
+// no room, so nothing more is put and no length is reckoned beforehand.
+ghost use mathlib.Core.Path.{_≡_};
+ghost use mathlib.Core.Bool.{cond};
+ghost use mathlib.Core.List.{_∷_, map};
+ghost use mathlib.Core.Option.{some, none};
+ghost use Prim.Native.Nat.{_≤_};
+ghost use lib.ListN.{take};
+ghost use Rattle.octets.specs.Bytes.{space};
+ghost use Rattle.octets.specs.Room.{Adds};
+ghost use Rattle.message.specs.Grammar.{paramLimit};
+ghost use Rattle.message.specs.Parts.{bytesAt};
+ghost use Rattle.writer.specs.Form.{takesColon, writtenParam, writtenParams, writtenPrefix, written, contentBy, withCommand};
+use crate::fit::is_middle;
+use message::Message;
+use octets::part;
+use octets::put;
+
+// Whether parameter k is written with ':' before it.
+fn takes_colon(p: &[u8], k: usize, last: bool) -> bool
+    ensures { λ r. ⌜ r ≡ takesColon k last (now (p .entry)) ⌝ }
+{
+    if last {
+        return !is_middle(p);
+    }
+    false
+}
+
+// Adds a SPACE and parameter k.
+fn put_param(line: &mut [u8], at: usize, p: &[u8], k: usize, last: bool) -> usize
+    ensures { λ r. ⌜ Adds (now (line .entry)) at (now (line .exit)) r (space ∷ writtenParam k last (now (p .entry))) ⌝ }
+{
+    let after = put(line, at, b" ");
+    if takes_colon(p, k, last) {
+        let next = put(line, after, b":");
+        return put(line, next, p);
+    }
+    put(line, after, p)
+}
+
+// Adds the parameters.
+fn put_params(text: &[u8], m: Message, line: &mut [u8], at: usize) -> usize
+    requires { ⌜ m .count ≤ paramLimit ⌝ }
+    ensures { λ r. ⌜ Adds (now (line .entry)) at (now (line .exit)) r (writtenParams 0 (map (bytesAt (now (text .entry))) (take (m .count) (m .params)))) ⌝ }
+{
+    let count = m.count;
+    let mut next = at;
+    let mut k = 0;
+    while k < count {
+        let s = m.params[k];
+        next = put_param(line, next, part(text, s.start, s.end), k, k + 1 == count);
+        k += 1;
+    }
+    next
+}
+
+// Puts ':', the prefix and one SPACE, or nothing.
+fn put_prefix(text: &[u8], m: Message, line: &mut [u8]) -> usize
+    ensures { λ r. ⌜ Adds (now (line .entry)) 0 (now (line .exit)) r (writtenPrefix (cond (m .«has_prefix») (some (bytesAt (now (text .entry)) (m .prefix))) none)) ⌝ }
+{
+    if !m.has_prefix {
+        return 0;
+    }
+    let s = m.prefix;
+    let after = put(line, 0, b":");
+    let stop = put(line, after, part(text, s.start, s.end));
+    put(line, stop, b" ")
+}
+
+// Puts the message, with the given bytes for its command, and CR LF.
+pub(crate) fn put_message(text: &[u8], m: Message, command: &[u8], line: &mut [u8]) -> usize
+    requires { ⌜ m .count ≤ paramLimit ⌝ }
+    ensures { λ r. ⌜ Adds (now (line .entry)) 0 (now (line .exit)) r (written (withCommand (contentBy (now (text .entry)) m) (now (command .entry)))) ⌝ }
+{
+    let start = put_prefix(text, m, line);
+    let after = put(line, start, command);
+    let stop = put_params(text, m, line, after);
+    put(line, stop, b"\r\n")
+}

@@ -1,0 +1,83 @@
+// Writes a message in the one fixed form (document 01, 'Reading one line'): one SPACE between parts, ':' before the last parameter exactly if
+// it is empty, starts with ':' or holds a SPACE, CR LF at the end. A line is put together apart, and goes to the front of the lent output
+// only if nothing refuses it.
+mod fit;
+mod form;
+
+ghost use mathlib.Core.Path.{_≡_};
+ghost use Rattle.octets.specs.Room.{front};
+ghost use Rattle.writer.specs.Form.{written, contentBy};
+ghost use Rattle.writer.specs.Writing.{writeRules, forwardRules, forwarded, emitted, answerFor, refusedBy};
+use fit::fit;
+use form::put_message;
+use message::LINE_LIMIT;
+use message::Message;
+use message::Reading;
+use octets::capitalize;
+use octets::part;
+use octets::put;
+use refusal::ACCEPTED;
+use refusal::NO_ROOM;
+use refusal::OUTPUT_TOO_SHORT;
+use refusal::UNWRITABLE;
+
+// The number of a refusal, or ACCEPTED, and how many bytes were written.
+pub struct Written {
+    pub number: u8,
+    pub len: usize,
+}
+
+// Nothing was written.
+fn refused(number: u8) -> Written
+    ensures { λ r. ⌜ r ≡ refusedBy number ⌝ }
+{
+    Written { number, len: 0 }
+}
+
+// Writes the message, whose parts are spans of the text, to the front of the output.
+pub fn write(text: &[u8], m: Message, out: &mut [u8]) -> Written
+    ensures answer { λ r. ⌜ r ≡ answerFor (writeRules (now (text .entry)) m (now (out .entry))) (written (contentBy (now (text .entry)) m)) ⌝ }
+    ensures output { λ _. ⌜ now (out .exit) ≡ front (emitted (writeRules (now (text .entry)) m (now (out .entry))) (written (contentBy (now (text .entry)) m))) (now (out .entry)) ⌝ }
+{
+    if out.len() < LINE_LIMIT {
+        return refused(OUTPUT_TOO_SHORT);
+    }
+    if !fit(text, m) {
+        return refused(UNWRITABLE);
+    }
+    let c = m.command;
+    let mut line = [0u8; LINE_LIMIT];
+    let len = put_message(text, m, part(text, c.start, c.end), &mut line);
+    if LINE_LIMIT < len {
+        return refused(NO_ROOM);
+    }
+    put(out, 0, &line[..len]);
+    Written {
+        number: ACCEPTED,
+        len,
+    }
+}
+
+// Writes a line as it was read, its command in capitals, to the front of the output: how a line goes out that is passed on unchanged.
+pub fn forward(line: &[u8], out: &mut [u8]) -> Written
+    ensures answer { λ r. ⌜ r ≡ answerFor (forwardRules (now (line .entry)) (now (out .entry))) (forwarded (now (line .entry))) ⌝ }
+    ensures output { λ _. ⌜ now (out .exit) ≡ front (emitted (forwardRules (now (line .entry)) (now (out .entry))) (forwarded (now (line .entry)))) (now (out .entry)) ⌝ }
+{
+    if out.len() < LINE_LIMIT {
+        return refused(OUTPUT_TOO_SHORT);
+    }
+    let reading = message::read(line);
+    let Reading::Line(_) = reading else {
+        return refused(reading.number());
+    };
+    let mut word = [0u8; LINE_LIMIT];
+    let n = put(&mut word, 0, message::command(line));
+    capitalize(&mut word);
+    let mut scratch = [0u8; LINE_LIMIT];
+    let len = put_message(line, message::parts(line), &word[..n], &mut scratch);
+    put(out, 0, &scratch[..len]);
+    Written {
+        number: ACCEPTED,
+        len,
+    }
+}
