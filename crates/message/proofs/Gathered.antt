@@ -11,7 +11,7 @@ use lib.Seq.{sets}
 use Rattle.octets.proofs.Lists.{sets-padded}
 use Rattle.message.specs.declared.Span.{Span}
 use Rattle.message.specs.declared.Message.{Message}
-use Rattle.message.specs.Grammar.{Part, paramLimit, word, spaces, hasPrefix, prefix, prefixEnd, commandStart, commandEnd, command, params}
+use Rattle.message.specs.Grammar.{Part, paramLimit, word, spaces, rest, hasPrefix, prefix, prefixEnd, commandStart, commandEnd, command, params}
 use Rattle.message.specs.Parts.{span, nowhere, spanOf, messageIn}
 use Rattle.message.specs.Scan.{opened, withParam, withParams, fromCommand}
 
@@ -33,6 +33,12 @@ unfolding messageIn fromCommand opened params commandEnd command
 message-gathered b n =
     gathered (params b) (opened (hasPrefix b) (cond (hasPrefix b) (span 1 (prefixEnd b)) (nowhere n)) (span (commandStart b) (commandEnd b)) n)
     ∙ rw (zero-add (length (params b)), sets-padded (nowhere n) paramLimit (map spanOf (params b)))
+
+-- what is read from the command on
+pub found-command : (b : List ℕ) (at : ℕ) (has : Bool) (before : Span) (n stop : ℕ) (m r : Message) → stop ≡ at + length (word (drop at b)) → m ≡ opened has before (span at stop) n
+    → r ≡ withParams m (rest (m .count) stop (drop stop b)) → r ≡ fromCommand b at has before n
+unfolding fromCommand opened
+found-command b at has before n stop m r e f g = rw (← e) (g ∙ ap (λ (x : Message). withParams x (rest (x .count) stop (drop stop b))) f)
 
 bare-start : (b : List ℕ) → hasPrefix b ≡ false → commandStart b ≡ 0
 unfolding commandStart
