@@ -12,7 +12,7 @@ use Rattle.octets.proofs.Lists.{sets-padded}
 use Rattle.message.specs.declared.Span.{Span}
 use Rattle.message.specs.declared.Message.{Message}
 use Rattle.message.specs.Grammar.{Part, paramLimit, word, spaces, rest, hasPrefix, prefix, prefixEnd, commandStart, commandEnd, command, params}
-use Rattle.message.specs.Parts.{span, nowhere, spanOf, messageIn}
+use Rattle.message.specs.Parts.{span, emptyAt, spanOf, messageIn}
 use Rattle.message.specs.Scan.{opened, withParam, withParams, fromCommand}
 
 abbrev message : Bool → Span → Span → ℕ → List Span → Message
@@ -28,11 +28,11 @@ gathered (p ∷ ps) m =
     ∙ ap (λ (n : ℕ). message (m .«has_prefix») (m .prefix) (m .command) n (sets (set (m .params) (m .count) (spanOf p)) (m .count + 1) (map spanOf ps))) e
     ∙ ap (λ (i : ℕ). message (m .«has_prefix») (m .prefix) (m .command) (m .count + suc (length ps)) (sets (set (m .params) (m .count) (spanOf p)) i (map spanOf ps))) (add-one (m .count))
 
-message-gathered : (b : List ℕ) (n : ℕ) → fromCommand b (commandStart b) (hasPrefix b) (cond (hasPrefix b) (span 1 (prefixEnd b)) (nowhere n)) n ≡ messageIn b n
+message-gathered : (b : List ℕ) (n : ℕ) → fromCommand b (commandStart b) (hasPrefix b) (cond (hasPrefix b) (span 1 (prefixEnd b)) (emptyAt n)) n ≡ messageIn b n
 unfolding messageIn fromCommand opened params commandEnd command
 message-gathered b n =
-    gathered (params b) (opened (hasPrefix b) (cond (hasPrefix b) (span 1 (prefixEnd b)) (nowhere n)) (span (commandStart b) (commandEnd b)) n)
-    ∙ rw (zero-add (length (params b)), sets-padded (nowhere n) paramLimit (map spanOf (params b)))
+    gathered (params b) (opened (hasPrefix b) (cond (hasPrefix b) (span 1 (prefixEnd b)) (emptyAt n)) (span (commandStart b) (commandEnd b)) n)
+    ∙ rw (zero-add (length (params b)), sets-padded (emptyAt n) paramLimit (map spanOf (params b)))
 
 -- what is read from the command on
 pub found-command : (b : List ℕ) (at : ℕ) (has : Bool) (before : Span) (n stop : ℕ) (m r : Message) → stop ≡ at + length (word (drop at b)) → m ≡ opened has before (span at stop) n
@@ -58,5 +58,5 @@ module _ (b : List ℕ) (n : ℕ) (r : Message) where
     pub found-prefixed : r ≡ fromCommand b at true (span 1 stop) n → r ≡ messageIn b n
     found-prefixed e = e ∙ (rw (start-found, has, end-found) at (message-gathered b n))
 
-  pub found-bare : hasPrefix b ≡ false → r ≡ fromCommand b 0 false (nowhere n) n → r ≡ messageIn b n
+  pub found-bare : hasPrefix b ≡ false → r ≡ fromCommand b 0 false (emptyAt n) n → r ≡ messageIn b n
   found-bare has e = e ∙ (rw (bare-start b has, has) at (message-gathered b n))

@@ -10,11 +10,12 @@ use lib.Dec.{eqb}
 use Rattle.octets.specs.Bytes.{space, colon}
 use Rattle.octets.specs.Room.{part}
 use Rattle.octets.proofs.Lists.{front-part, getD-padded}
+use Rattle.octets.specs.Lists.{startsWith}
 use Rattle.message.specs.declared.Span.{Span}
 use Rattle.message.specs.declared.Message.{Message}
-use Rattle.message.specs.Grammar.{Part, partAt, paramLimit, word, spaces, rest, middle, hasPrefix, prefix, prefixEnd, commandStart, command, commandEnd, params}
+use Rattle.message.specs.Grammar.{Part, partAt, paramLimit, word, spaces, rest, afterMiddle, hasPrefix, prefix, prefixEnd, commandStart, command, commandEnd, params}
 use Rattle.message.specs.Content.{bytesOf}
-use Rattle.message.specs.Parts.{nowhere, bytesAt, spanOf, messageIn}
+use Rattle.message.specs.Parts.{emptyAt, bytesAt, spanOf, messageIn}
 use Rattle.message.proofs.Runs.{start-in, stop-in}
 
 -- The span lies in s, and has these bytes there.
@@ -54,9 +55,9 @@ word-split (b ∷ s) = go (eqb b space) refl (word-split s)
 word-placed : (s : List ℕ) (at : ℕ) → at ≤ length s → Placed s (spanOf (partAt at (word (drop at s)))) (word (drop at s))
 word-placed s at h = standing s at (word (drop at s)) (drop (length (word (drop at s))) (drop at s)) h (word-split (drop at s))
 
-pub nowhere-placed : (s : List ℕ) → Placed s (nowhere (length s)) []
+pub empty-placed : (s : List ℕ) → Placed s (emptyAt (length s)) []
 unfolding part
-nowhere-placed s = record {
+empty-placed s = record {
   forward = omega arith;
   inside = omega arith;
   same = rw (drop-length s) (take-nil (length s - length s));
@@ -76,7 +77,7 @@ placed-front s n at bytes p = record {
 
 -- ---- the prefix and the command
 pub prefix-long : (b : List ℕ) → hasPrefix b ≡ true → 1 ≤ length b
-unfolding hasPrefix
+unfolding startsWith
 prefix-long [] = λ e. absurd (false≢true e)
 prefix-long (x ∷ s) = λ e. omega arith
 
@@ -123,7 +124,7 @@ module _ (b : List ℕ) where
   middle-in : (at x : ℕ) (s : List ℕ) → drop at b ≡ x ∷ s → In b (partAt at (x ∷ word s))
   middle-in at x s e = standing b at (x ∷ word s) (drop (length (word s)) s) (omega (arith, drop-long at x s e)) (e ∙ ap (λ (l : List ℕ). x ∷ l) (word-split s))
 
-  rest-step : (k at x : ℕ) (s : List ℕ) → drop at b ≡ x ∷ s → Each (In b) (rest k (at + 1) s) → Each (In b) (middle (k + 1) (at + 1) s) → Each (In b) (rest k at (x ∷ s))
+  rest-step : (k at x : ℕ) (s : List ℕ) → drop at b ≡ x ∷ s → Each (In b) (rest k (at + 1) s) → Each (In b) (afterMiddle (k + 1) (at + 1) s) → Each (In b) (rest k at (x ∷ s))
   unfolding rest
   rest-step k at x s e r m = go (eqb x space) refl (eqb x colon) refl
     where
@@ -132,11 +133,11 @@ module _ (b : List ℕ) where
       go false p true q = rw (p, q) (trailing-in at x s e, tt)
       go false p false q = rw (p, q) (middle-in at x s e, m)
 
-  middle-step : (k at x : ℕ) (s : List ℕ) → Each (In b) (rest k (at + 1) s) → Each (In b) (middle k (at + 1) s) → Each (In b) (middle k at (x ∷ s))
+  middle-step : (k at x : ℕ) (s : List ℕ) → Each (In b) (rest k (at + 1) s) → Each (In b) (afterMiddle k (at + 1) s) → Each (In b) (afterMiddle k at (x ∷ s))
   unfolding rest
   middle-step k at x s r m = go (eqb x space) refl
     where
-      go : (t : Bool) → eqb x space ≡ t → Each (In b) (middle k at (x ∷ s))
+      go : (t : Bool) → eqb x space ≡ t → Each (In b) (afterMiddle k at (x ∷ s))
       go true p = rw p r
       go false p = rw p m
 
@@ -147,7 +148,7 @@ module _ (b : List ℕ) where
     rest-in [] k at e = tt
     rest-in (x ∷ s) k at e = let d = drop-next at x s e in rest-step k at x s e (rest-in s k (at + 1) d) (after-middle-in s (k + 1) (at + 1) d)
 
-    after-middle-in : (s : List ℕ) (k at : ℕ) → drop at b ≡ s → Each (In b) (middle k at s)
+    after-middle-in : (s : List ℕ) (k at : ℕ) → drop at b ≡ s → Each (In b) (afterMiddle k at s)
     after-middle-in [] k at e = tt
     after-middle-in (x ∷ s) k at e = let d = drop-next at x s e in middle-step k at x s (rest-in s k (at + 1) d) (after-middle-in s k (at + 1) d)
 
@@ -169,7 +170,7 @@ module _ (line : List ℕ) (j : ℕ) where
     where
       go : (t : Bool) → hasPrefix body ≡ t → Placed line (m .prefix) (prefix body)
       go true h = rw h (placed-front line j _ _ (word-placed body 1 (prefix-long body h)))
-      go false h = rw h (nowhere-placed line)
+      go false h = rw h (empty-placed line)
 
   pub command-in-line : Placed line (m .command) (command body)
   unfolding messageIn
@@ -178,11 +179,11 @@ module _ (line : List ℕ) (j : ℕ) where
   pub params-in-line : Each (In line) (params body)
   params-in-line = each-imp (In body) (In line) (λ p h. placed-front line j (spanOf p) (p .bytes) h) (params body) (params-in body)
 
-  each-at : (ps : List Part) → Each (In line) ps → (k : ℕ) → Placed line (getD (map spanOf ps) k (nowhere (length line))) (getD (bytesOf ps) k [])
-  each-at [] e k = nowhere-placed line
+  each-at : (ps : List Part) → Each (In line) ps → (k : ℕ) → Placed line (getD (map spanOf ps) k (emptyAt (length line))) (getD (bytesOf ps) k [])
+  each-at [] e k = empty-placed line
   each-at (p ∷ ps) e zero = e .0
   each-at (p ∷ ps) e (suc k) = each-at ps (e .1) k
 
   pub param-in-line : (k : ℕ) (d : Span) → k < paramLimit → Placed line (getD (m .params) k d) (getD (bytesOf (params body)) k [])
   unfolding messageIn
-  param-in-line k d h = rw (getD-padded (nowhere (length line)) paramLimit (map spanOf (params body)) k d h) (each-at (params body) params-in-line k)
+  param-in-line k d h = rw (getD-padded (emptyAt (length line)) paramLimit (map spanOf (params body)) k d h) (each-at (params body) params-in-line k)

@@ -9,7 +9,7 @@ use native.Mathlib.Omega.{arith}
 use lib.ListN.{length, drop, getD, length-take, length-map, getD-replicate, drop-of-length-le, List·getD-eq-default}
 use lib.Dec.{eqb, ltb}
 use borrow.Author.Tests.{eq-eqb, ne-eqb, lt-ltb, le-ltb, ltb-true, ltb-false, eqb-true, eqb-false, not-false}
-use Rattle.refusal.specs.Numbers.{accepted, lineTooLong, noLineEnd, controlByte, emptyLine, emptyPrefix, badCommand, tooManyParams}
+use Rattle.refusal.specs.Numbers.{accepted, lineTooLong, noLineEnd, forbiddenByte, emptyLine, emptyPrefix, badCommand, tooManyParams}
 use Rattle.refusal.specs.Rules.{firstOf, ascend, ascendFrom}
 use Rattle.refusal.proofs.Rules.{first-none}
 use Rattle.octets.specs.Bytes.{cr, lf, isPlain}
@@ -22,9 +22,10 @@ use Rattle.message.specs.declared.Reading.{Reading}
 use Rattle.message.specs.declared.Reading.the-variants.{Line, Refused}
 use Rattle.message.specs.Grammar.{Part, lineLimit, paramLimit, hasPrefix, prefix, prefixEnd, command, isCommand, params}
 use Rattle.message.specs.Content.{bytesOf, contentIn}
-use Rattle.message.specs.Parts.{nowhere, spanOf, messageIn, blank}
-use Rattle.message.specs.Reading.{endsLine, bodyOf, bodyRules, grammarRules, lineRules, numberFor, isRead, numberOf, countOf, answer, bodyReading, readingOf, contentOf, messageOf}
-use Rattle.message.proofs.Places.{Placed, nowhere-placed, command-placed, prefix-in-line, command-in-line, param-in-line}
+use Rattle.message.specs.Parts.{emptyAt, spanOf, messageIn, blank}
+use Rattle.message.specs.Reading.{endsLine, bodyOf, bodyRules, grammarRules, lineRules, numberFor, isRead, numberOf, countOf, answer, readingOf, contentOf, messageOf}
+use Rattle.message.specs.Scan.{bodyReading}
+use Rattle.message.proofs.Places.{Placed, empty-placed, command-placed, prefix-in-line, command-in-line, param-in-line}
 
 -- The numbers ascend: the lowest that applies is given.
 pub rules-ascend : (line : List ℕ) → ascend (lineRules line) ≡ true
@@ -178,7 +179,7 @@ module _ (line : List ℕ) where
     reads-unended e = simp (le-ltb lineLimit (length line) small, e)
 
     module _ (ends : endsLine line ≡ true) (body : List ℕ) (is : body ≡ bodyOf line) where
-      pub reads-control : all isPlain body ≡ false → Refused controlByte ≡ readingOf line
+      pub reads-control : all isPlain body ≡ false → Refused forbiddenByte ≡ readingOf line
       unfolding readingOf answer numberFor lineRules firstOf
       reads-control e = simp (le-ltb lineLimit (length line) small, ends, rw is at e)
 
@@ -260,7 +261,7 @@ module _ (line : List ℕ) (m : Message) (is : m ≡ messageOf line) where
     where
       go : (t : Bool) → isRead line ≡ t → Placed line (messageOf line .prefix) (Option·getD (contentOf line .prefix) [])
       go true h = rw (h, prefix-bytes (bodyOf line)) (prefix-in-line line (length line - 2))
-      go false h = rw h (nowhere-placed line)
+      go false h = rw h (empty-placed line)
 
   pub command-at : Placed line (m .command) (contentOf line .command)
   unfolding messageOf contentOf contentIn blank bodyOf
@@ -268,7 +269,7 @@ module _ (line : List ℕ) (m : Message) (is : m ≡ messageOf line) where
     where
       go : (t : Bool) → isRead line ≡ t → Placed line (messageOf line .command) (contentOf line .command)
       go true h = rw h (command-in-line line (length line - 2))
-      go false h = rw h (nowhere-placed line)
+      go false h = rw h (empty-placed line)
 
   pub param-at : (k : ℕ) (d : Span) → k < paramLimit → Placed line (getD (m .params) k d) (getD (contentOf line .params) k [])
   unfolding messageOf contentOf contentIn blank bodyOf
@@ -276,7 +277,7 @@ module _ (line : List ℕ) (m : Message) (is : m ≡ messageOf line) where
     where
       go : (t : Bool) → isRead line ≡ t → Placed line (getD (messageOf line .params) k d) (getD (contentOf line .params) k [])
       go true h = rw h (param-in-line line (length line - 2) k d lt)
-      go false h = rw (h, getD-replicate paramLimit k (nowhere (length line)) d lt) (nowhere-placed line)
+      go false h = rw (h, getD-replicate paramLimit k (emptyAt (length line)) d lt) (empty-placed line)
 
 -- ---- past the last parameter
 pub spans-length : (line : List ℕ) → length (messageOf line .params) ≡ paramLimit
@@ -284,7 +285,7 @@ unfolding messageOf messageIn blank
 spans-length line = go (isRead line) refl
   where
     go : (t : Bool) → isRead line ≡ t → length (messageOf line .params) ≡ paramLimit
-    go true h = rw h (length-padded (nowhere (length line)) paramLimit (map spanOf (params (bodyOf line))))
+    go true h = rw h (length-padded (emptyAt (length line)) paramLimit (map spanOf (params (bodyOf line))))
     go false h = rw h
 
 module _ (line : List ℕ) (k : ℕ) (past : paramLimit ≤ k) where
@@ -296,8 +297,8 @@ module _ (line : List ℕ) (k : ℕ) (past : paramLimit ≤ k) where
       go true h = rw h (List·getD-eq-default (bytesOf (params (bodyOf line))) [] {n = k} (omega (arith, read-formed line h .few, length-map (params (bodyOf line)) (λ (p : Part). p .bytes))))
       go false h = rw h
 
-  pub span-past : getD (messageOf line .params) k (nowhere (length line)) ≡ nowhere (length line)
-  span-past = List·getD-eq-default (messageOf line .params) (nowhere (length line)) {n = k} (omega (arith, spans-length line))
+  pub span-past : getD (messageOf line .params) k (emptyAt (length line)) ≡ emptyAt (length line)
+  span-past = List·getD-eq-default (messageOf line .params) (emptyAt (length line)) {n = k} (omega (arith, spans-length line))
 
 -- a message never counts more parameters than it has spans
 pub count-few : (line : List ℕ) → messageOf line .count ≤ paramLimit

@@ -1,4 +1,4 @@
--- The functions `rest` and `middle` give exactly what the two rules of `Syntax` have, and so does `params`. Assumes nothing.
+-- The functions `rest` and `afterMiddle` give exactly what the two rules of `Syntax` have, and so does `params`. Assumes nothing.
 use mathlib.Core.Path.{_≡_, refl, sym, ap, _∙_}
 use mathlib.Core.Bool.{Bool, true, false, true≢false, not, _&&_}
 use mathlib.Core.List.{List, [], _∷_, _++_, append-nil}
@@ -11,12 +11,12 @@ use borrow.Author.Tests.{eqb-true, not-true}
 use Rattle.octets.specs.Bytes.{space, colon, isNonSpace}
 use Rattle.octets.specs.Lists.{all}
 use Rattle.octets.proofs.Bools.{and-left, and-right}
-use Rattle.message.specs.Grammar.{Part, partAt, word, isMiddle, rest, middle, commandStart, command, commandEnd, params}
+use Rattle.message.specs.Grammar.{Part, partAt, word, isMiddle, rest, afterMiddle, commandStart, command, commandEnd, params}
 use Rattle.message.specs.Content.{bytesOf}
 use Rattle.message.specs.Syntax.{Spaces, Rest, Middle, Parameters}
 use Rattle.message.specs.Syntax.Spaces.{one, more}
-use Rattle.message.specs.Syntax.Rest.{nothing, trailing, amiddle}
-use Rattle.message.specs.Syntax.Middle.{ends, goes}
+use Rattle.message.specs.Syntax.Rest.{nothing, trailing, middle}
+use Rattle.message.specs.Syntax.Middle.{ends, followed}
 use Rattle.message.specs.Syntax.Parameters.{absent, follow}
 
 -- t is empty or begins with a SPACE
@@ -29,7 +29,7 @@ unfolding word
 word-stop [] h = refl
 word-stop (b ∷ s) h = rw h
 
-pub middle-stop : (t : List ℕ) → Stops t → (k at : ℕ) → middle k at t ≡ rest k at t
+pub middle-stop : (t : List ℕ) → Stops t → (k at : ℕ) → afterMiddle k at t ≡ rest k at t
 unfolding rest
 middle-stop [] h k at = refl
 middle-stop (b ∷ s) h k at = rw h
@@ -42,7 +42,7 @@ module _ (t : List ℕ) (stops : Stops t) where
       let e : eqb b space ≡ false = not-true (eqb b space) (and-left (isNonSpace b) (all isNonSpace w) h) in
       rw e (ap (λ (l : List ℕ). b ∷ l) (word-append w (and-right (isNonSpace b) (all isNonSpace w) h)))
 
-  pub middle-append : (w : List ℕ) → all isNonSpace w ≡ true → (k at : ℕ) → middle k at (w ++ t) ≡ rest k (at + length w) t
+  pub middle-append : (w : List ℕ) → all isNonSpace w ≡ true → (k at : ℕ) → afterMiddle k at (w ++ t) ≡ rest k (at + length w) t
   unfolding all rest
   middle-append [] h k at = middle-stop t stops k at ∙ ap (λ (n : ℕ). rest k n t) (omega arith)
   middle-append (b ∷ w) h k at =
@@ -66,7 +66,7 @@ spaces-alone (more p) = refl
 rest-stops : {s : List ℕ} {ps : List (List ℕ)} → Rest s ps → Stops s
 rest-stops (nothing p) = spaces-alone p
 rest-stops (trailing r t p e) = rw e (spaces-stop p (colon ∷ t))
-rest-stops (amiddle r m p e q) = rw e (spaces-stop p m)
+rest-stops (middle r m p e q) = rw e (spaces-stop p m)
 
 pub middle-read : (t : List ℕ) → Stops t → (w : List ℕ) → isMiddle w ≡ true → (k at : ℕ) → rest k at (w ++ t) ≡ partAt at w ∷ rest (k + 1) (at + length w) t
 unfolding isMiddle rest all
@@ -84,11 +84,11 @@ mutual
   pub complete : {s : List ℕ} {ps : List (List ℕ)} → Rest s ps → (k at : ℕ) → bytesOf (rest k at s) ≡ ps
   complete (nothing {s = s} p) k at = ap (λ (l : List ℕ). bytesOf (rest k at l)) (sym (append-nil s)) ∙ ap bytesOf (spaces-pass p [] k at)
   complete (trailing r t p e) k at = rw e (ap bytesOf (spaces-pass p (colon ∷ t) k at))
-  complete (amiddle r m p e q) k at = rw e (ap bytesOf (spaces-pass p m k at) ∙ complete-middle q k (at + length r))
+  complete (middle r m p e q) k at = rw e (ap bytesOf (spaces-pass p m k at) ∙ complete-middle q k (at + length r))
 
   complete-middle : {s : List ℕ} {ps : List (List ℕ)} → Middle s ps → (k at : ℕ) → bytesOf (rest k at s) ≡ ps
   complete-middle (ends {w = w} h) k at = ap (λ (l : List ℕ). bytesOf (rest k at l)) (sym (append-nil w)) ∙ ap bytesOf (middle-read [] tt w h k at)
-  complete-middle (goes w t h e q) k at = rw e (ap bytesOf (middle-read t (rest-stops q) w h k at) ∙ ap (λ (l : List (List ℕ)). w ∷ l) (complete q (k + 1) (at + length w)))
+  complete-middle (followed w t h e q) k at = rw e (ap bytesOf (middle-read t (rest-stops q) w h k at) ∙ ap (λ (l : List (List ℕ)). w ∷ l) (complete q (k + 1) (at + length w)))
 
 -- ---- what the function gives, the relation has
 spaces-more : {r : List ℕ} → Spaces r → Spaces (r ++ (space ∷ []))
@@ -106,22 +106,22 @@ middle-more [] b h e = absurd (true≢false (sym h))
 middle-more (x ∷ w) b h e = rw (and-left (not (eqb x colon)) (all isNonSpace (x ∷ w)) h) (all-more (x ∷ w) b (and-right (not (eqb x colon)) (all isNonSpace (x ∷ w)) h) e)
 
 rest-step : (x : ℕ) (s r : List ℕ) → Spaces r → (k at : ℕ) → Rest (r ++ (space ∷ []) ++ s) (bytesOf (rest k (at + 1) s))
-    → (isMiddle (x ∷ []) ≡ true → Middle (x ∷ s) ((x ∷ word s) ∷ bytesOf (middle (k + 1) (at + 1) s))) → Rest (r ++ (x ∷ s)) (bytesOf (rest k at (x ∷ s)))
+    → (isMiddle (x ∷ []) ≡ true → Middle (x ∷ s) ((x ∷ word s) ∷ bytesOf (afterMiddle (k + 1) (at + 1) s))) → Rest (r ++ (x ∷ s)) (bytesOf (rest k at (x ∷ s)))
 unfolding rest isMiddle all
 rest-step x s r p k at spaced run = go (eqb x space) refl (eqb x colon) refl
   where
     go : (t : Bool) → eqb x space ≡ t → (u : Bool) → eqb x colon ≡ u → Rest (r ++ (x ∷ s)) (bytesOf (rest k at (x ∷ s)))
     go true e u q = rw (e, eqb-true x space e) (rw (append-snoc r space s) at spaced)
     go false e true q = rw (e, q) (trailing r s p (ap (λ (n : ℕ). r ++ (n ∷ s)) (eqb-true x colon q)))
-    go false e false q = rw (e, q) (amiddle r (x ∷ s) p refl (run (rw (q, e))))
+    go false e false q = rw (e, q) (middle r (x ∷ s) p refl (run (rw (q, e))))
 
 middle-step : (x : ℕ) (s w : List ℕ) → isMiddle w ≡ true → (k at : ℕ) → Rest (space ∷ s) (bytesOf (rest k (at + 1) s))
-    → (isNonSpace x ≡ true → Middle (w ++ (x ∷ []) ++ s) ((w ++ (x ∷ []) ++ word s) ∷ bytesOf (middle k (at + 1) s))) → Middle (w ++ (x ∷ s)) ((w ++ word (x ∷ s)) ∷ bytesOf (middle k at (x ∷ s)))
+    → (isNonSpace x ≡ true → Middle (w ++ (x ∷ []) ++ s) ((w ++ (x ∷ []) ++ word s) ∷ bytesOf (afterMiddle k (at + 1) s))) → Middle (w ++ (x ∷ s)) ((w ++ word (x ∷ s)) ∷ bytesOf (afterMiddle k at (x ∷ s)))
 unfolding rest word
 middle-step x s w h k at spaced run = go (eqb x space) refl
   where
-    go : (t : Bool) → eqb x space ≡ t → Middle (w ++ (x ∷ s)) ((w ++ word (x ∷ s)) ∷ bytesOf (middle k at (x ∷ s)))
-    go true e = rw (e, eqb-true x space e, append-nil w) (goes w (space ∷ s) h refl spaced)
+    go : (t : Bool) → eqb x space ≡ t → Middle (w ++ (x ∷ s)) ((w ++ word (x ∷ s)) ∷ bytesOf (afterMiddle k at (x ∷ s)))
+    go true e = rw (e, eqb-true x space e, append-nil w) (followed w (space ∷ s) h refl spaced)
     go false e = rw (e, ← append-snoc w x s, ← append-snoc w x (word s)) (run (rw e))
 
 mutual
@@ -131,7 +131,7 @@ mutual
   sound [] r p k at = rw (append-nil r) (nothing p)
   sound (x ∷ s) r p k at = rest-step x s r p k at (sound s (r ++ (space ∷ [])) (spaces-more p) k (at + 1)) (λ h. sound-middle s (x ∷ []) h (k + 1) (at + 1))
 
-  sound-middle : (s w : List ℕ) → isMiddle w ≡ true → (k at : ℕ) → Middle (w ++ s) ((w ++ word s) ∷ bytesOf (middle k at s))
+  sound-middle : (s w : List ℕ) → isMiddle w ≡ true → (k at : ℕ) → Middle (w ++ s) ((w ++ word s) ∷ bytesOf (afterMiddle k at s))
   sound-middle [] w h k at = rw (append-nil w) (ends h)
   sound-middle (x ∷ s) w h k at = middle-step x s w h k at (sound s (space ∷ []) one k (at + 1)) (λ e. sound-middle s (w ++ (x ∷ [])) (middle-more w x h e) k (at + 1))
 

@@ -11,7 +11,7 @@ use borrow.Author.Tests.{eq-eqb, ne-eqb, eqb-true, eqb-false}
 use Rattle.octets.specs.Bytes.{space, colon}
 use Rattle.octets.proofs.Lists.{drop-step}
 use Rattle.message.specs.declared.Message.{Message}
-use Rattle.message.specs.Grammar.{partAt, word, spaces, rest, middle}
+use Rattle.message.specs.Grammar.{partAt, word, spaces, rest, afterMiddle}
 use Rattle.message.specs.Parts.{span}
 use Rattle.message.specs.Scan.{withParam, withParams}
 
@@ -90,16 +90,16 @@ rest-skip (b ∷ s) k at = go (eqb b space) refl (rest-skip s k (at + 1))
         let z : spaces (b ∷ s) ≡ 0 = rw e in
         sym (ap (λ (n : ℕ). rest k (at + n) (drop n (b ∷ s))) z ∙ ap (λ (n : ℕ). rest k n (b ∷ s)) (omega arith))
 
-pub middle-skip : (s : List ℕ) (k at : ℕ) → middle k at s ≡ middle k (at + length (word s)) (drop (length (word s)) s)
+pub middle-skip : (s : List ℕ) (k at : ℕ) → afterMiddle k at s ≡ afterMiddle k (at + length (word s)) (drop (length (word s)) s)
 unfolding rest word
 middle-skip [] k at = refl
 middle-skip (b ∷ s) k at = go (eqb b space) refl (middle-skip s k (at + 1))
   where
-    go : (t : Bool) → eqb b space ≡ t → middle k (at + 1) s ≡ middle k (at + 1 + length (word s)) (drop (length (word s)) s) → middle k at (b ∷ s) ≡ middle k (at + length (word (b ∷ s))) (drop (length (word (b ∷ s))) (b ∷ s))
+    go : (t : Bool) → eqb b space ≡ t → afterMiddle k (at + 1) s ≡ afterMiddle k (at + 1 + length (word s)) (drop (length (word s)) s) → afterMiddle k at (b ∷ s) ≡ afterMiddle k (at + length (word (b ∷ s))) (drop (length (word (b ∷ s))) (b ∷ s))
     go true e ih =
         let z : length (word (b ∷ s)) ≡ 0 = rw e in
-        sym (ap (λ (n : ℕ). middle k (at + n) (drop n (b ∷ s))) z ∙ ap (λ (n : ℕ). middle k n (b ∷ s)) (omega arith))
-    go false e ih = rw e (ih ∙ ap (λ (n : ℕ). middle k n (drop (length (word s)) s)) (omega arith))
+        sym (ap (λ (n : ℕ). afterMiddle k (at + n) (drop n (b ∷ s))) z ∙ ap (λ (n : ℕ). afterMiddle k n (b ∷ s)) (omega arith))
+    go false e ih = rw e (ih ∙ ap (λ (n : ℕ). afterMiddle k n (drop (length (word s)) s)) (omega arith))
 
 -- ---- the same at a place of the body
 module _ (b : List ℕ) (at start : ℕ) (within : at ≤ length b) (is : start ≡ at + spaces (drop at b)) where
@@ -116,18 +116,18 @@ module _ (b : List ℕ) (at stop : ℕ) (within : at ≤ length b) (is : stop �
   pub stop-in : stop ≤ length b
   stop-in = omega (arith, word-in (drop at b), length-drop at b)
 
-  middle-from : (k : ℕ) → middle k at (drop at b) ≡ middle k stop (drop stop b)
+  middle-from : (k : ℕ) → afterMiddle k at (drop at b) ≡ afterMiddle k stop (drop stop b)
   middle-from k = middle-skip (drop at b) k at ∙ rw (is, drop-drop (length (word (drop at b))) at b)
 
   stop-stops : stop < length b → getD b stop 0 ≡ space
   stop-stops h = rw is (sym (getD-drop at b (length (word (drop at b))) 0) ∙ word-stops (drop at b) (omega (arith, length-drop at b)))
 
-  pub middle-end : (k : ℕ) → stop ≡ length b → middle k at (drop at b) ≡ []
-  unfolding middle
+  pub middle-end : (k : ℕ) → stop ≡ length b → afterMiddle k at (drop at b) ≡ []
+  unfolding afterMiddle
   middle-end k e = middle-from k ∙ rw (drop-of-length-le b {i = stop} (omega arith))
 
-  pub middle-rest : (k : ℕ) → stop < length b → middle k at (drop at b) ≡ rest k (stop + 1) (drop (stop + 1) b)
-  unfolding middle
+  pub middle-rest : (k : ℕ) → stop < length b → afterMiddle k at (drop at b) ≡ rest k (stop + 1) (drop (stop + 1) b)
+  unfolding afterMiddle
   middle-rest k h = middle-from k ∙ rw (drop-step b stop 0 h, stop-stops h)
 
 module _ (b : List ℕ) (k start : ℕ) where
@@ -140,19 +140,19 @@ module _ (b : List ℕ) (k start : ℕ) where
   rest-colon h e = rw (drop-step b start 0 h, e)
 
   pub rest-middle : start < length b → (getD b start 0 ≡ space → ⊥) → (getD b start 0 ≡ colon → ⊥)
-      → rest k start (drop start b) ≡ partAt start (getD b start 0 ∷ word (drop (start + 1) b)) ∷ middle (k + 1) (start + 1) (drop (start + 1) b)
+      → rest k start (drop start b) ≡ partAt start (getD b start 0 ∷ word (drop (start + 1) b)) ∷ afterMiddle (k + 1) (start + 1) (drop (start + 1) b)
   unfolding rest
   rest-middle h e f = rw (drop-step b start 0 h, ne-eqb _ space e, ne-eqb _ colon f)
 
 -- ---- what `middle` returns: a message m with the middle from `start`, of which the bytes before `at` are read, to `stop`, and what follows it
 module _ (b : List ℕ) (m : Message) (start at stop : ℕ) (within : at ≤ length b) (is : stop ≡ at + length (word (drop at b))) where
   pub middle-stops : (r : Message) → r ≡ withParam m (span start stop) → stop ≡ length b
-      → r ≡ withParams (withParam m (span start (at + length (word (drop at b))))) (middle (m .count + 1) at (drop at b))
+      → r ≡ withParams (withParam m (span start (at + length (word (drop at b))))) (afterMiddle (m .count + 1) at (drop at b))
   unfolding withParams
   middle-stops r e h = rw (middle-end b at stop within is (m .count + 1) h, ← is) e
 
   pub middle-goes : (next r : Message) → next ≡ withParam m (span start stop) → r ≡ withParams next (rest (next .count) (stop + 1) (drop (stop + 1) b)) → (stop ≡ length b → ⊥)
-      → r ≡ withParams (withParam m (span start (at + length (word (drop at b))))) (middle (m .count + 1) at (drop at b))
+      → r ≡ withParams (withParam m (span start (at + length (word (drop at b))))) (afterMiddle (m .count + 1) at (drop at b))
   unfolding withParam
   middle-goes next r e f h =
       let lt : stop < length b = omega (arith, stop-in b at stop within is) in
@@ -171,10 +171,10 @@ module _ (b : List ℕ) (m : Message) (at start : ℕ) (within : at ≤ length b
       let n : start + 1 + length (drop (start + 1) b) ≡ length b = omega (arith, length-drop (start + 1) b) in
       rw (rest-from b at start within is (m .count), rest-colon b (m .count) start lt f, n) e
 
-  pub rest-goes : (r : Message) → r ≡ withParams (withParam m (span start (start + 1 + length (word (drop (start + 1) b))))) (middle (m .count + 1) (start + 1) (drop (start + 1) b))
+  pub rest-goes : (r : Message) → r ≡ withParams (withParam m (span start (start + 1 + length (word (drop (start + 1) b))))) (afterMiddle (m .count + 1) (start + 1) (drop (start + 1) b))
       → (start ≡ length b → ⊥) → (getD b start 0 ≡ colon → ⊥) → r ≡ withParams m (rest (m .count) at (drop at b))
   unfolding withParams
   rest-goes r e h f =
       let lt : start < length b = omega (arith, start-in b at start within is) in
       rw (rest-from b at start within is (m .count), rest-middle b (m .count) start lt (start-stops b at start within is lt) f)
-      (e ∙ ap (λ (n : ℕ). withParams (withParam m (span start n)) (middle (m .count + 1) (start + 1) (drop (start + 1) b))) (omega arith))
+      (e ∙ ap (λ (n : ℕ). withParams (withParam m (span start n)) (afterMiddle (m .count + 1) (start + 1) (drop (start + 1) b))) (omega arith))

@@ -6,7 +6,7 @@ use mathlib.Core.List.{List, [], _∷_}
 use lib.ListN.{length, drop}
 use lib.Dec.{eqb, leb}
 use Rattle.octets.specs.Bytes.{space, colon, isNonSpace, isLetter, isDigit}
-use Rattle.octets.specs.Lists.{all}
+use Rattle.octets.specs.Lists.{all, startsWith}
 
 -- the most bytes of a line, CR LF counted
 abbrev pub lineLimit : ℕ
@@ -35,9 +35,8 @@ spaces [] = 0
 spaces (b ∷ s) = cond (eqb b space) (suc (spaces s)) 0
 
 -- ---- the prefix: if the first byte is ':', all bytes up to the first SPACE or the end, and a run of SPACEs follows
-unfoldable pub hasPrefix : List ℕ → Bool
-hasPrefix [] = false
-hasPrefix (b ∷ s) = eqb b colon
+abbrev pub hasPrefix : List ℕ → Bool
+hasPrefix body = startsWith colon body
 
 unfoldable pub prefix : List ℕ → List ℕ
 prefix body = cond (hasPrefix body) (word (drop 1 body)) []
@@ -66,19 +65,19 @@ isMiddle [] = false
 isMiddle (b ∷ s) = not (eqb b colon) && all isNonSpace (b ∷ s)
 
 unfoldable mutual
-  -- The parameters of a rest that stands at a place, after k parameters: a run of SPACEs, then nothing, or ':' and a trailing part, or a
-  -- middle. No rule depends on k.
+  -- The parameters of a rest, of which SPACEs may be passed already, at a place, after k parameters: a run of SPACEs, then nothing, or ':' and a
+  -- trailing part, or a middle. No rule depends on k.
   pub rest : ℕ → ℕ → List ℕ → List Part
   rest k at [] = []
   rest k at (b ∷ s) =
       cond (eqb b space) (rest k (at + 1) s)
       (cond (eqb b colon) (partAt (at + 1) s ∷ [])
-      (partAt at (b ∷ word s) ∷ middle (k + 1) (at + 1) s))
+      (partAt at (b ∷ word s) ∷ afterMiddle (k + 1) (at + 1) s))
 
   -- The parameters after a middle, the k-th, of which bytes may be left: a rest follows the next SPACE, or nothing the end.
-  pub middle : ℕ → ℕ → List ℕ → List Part
-  middle k at [] = []
-  middle k at (b ∷ s) = cond (eqb b space) (rest k (at + 1) s) (middle k (at + 1) s)
+  pub afterMiddle : ℕ → ℕ → List ℕ → List Part
+  afterMiddle k at [] = []
+  afterMiddle k at (b ∷ s) = cond (eqb b space) (rest k (at + 1) s) (afterMiddle k (at + 1) s)
 
 -- A rest follows the command, or nothing.
 unfoldable pub params : List ℕ → List Part

@@ -13,8 +13,8 @@ abbrev pub span : ℕ → ℕ → Span
 span from to = record { start = from; end = to }
 
 -- the empty part at the end of n lent bytes, which stands for one that is missing
-abbrev pub nowhere : ℕ → Span
-nowhere n = span n n
+abbrev pub emptyAt : ℕ → Span
+emptyAt n = span n n
 
 -- the bytes of a span
 abbrev pub bytesAt : List ℕ → Span → List ℕ
@@ -27,18 +27,18 @@ spanOf p = span (p .start) (p .start + length (p .bytes))
 unfoldable pub messageIn : List ℕ → ℕ → Message
 messageIn body n = record {
   «has_prefix» = hasPrefix body;
-  prefix = cond (hasPrefix body) (span 1 (prefixEnd body)) (nowhere n);
+  prefix = cond (hasPrefix body) (span 1 (prefixEnd body)) (emptyAt n);
   command = span (commandStart body) (commandEnd body);
   count = length (params body);
-  params = padded paramLimit (nowhere n) (map spanOf (params body));
+  params = padded paramLimit (emptyAt n) (map spanOf (params body));
 }
 
 -- no part at all
 unfoldable pub blank : ℕ → Message
 blank n = record {
   «has_prefix» = false;
-  prefix = nowhere n;
-  command = nowhere n;
+  prefix = emptyAt n;
+  command = emptyAt n;
   count = 0;
-  params = replicate paramLimit (nowhere n);
+  params = replicate paramLimit (emptyAt n);
 }

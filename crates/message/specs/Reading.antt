@@ -4,7 +4,7 @@ use mathlib.Core.Bool.{Bool, not, cond, _&&_}
 use mathlib.Core.List.{List, [], _∷_}
 use lib.ListN.{length, take, drop}
 use lib.Dec.{eqb, ltb}
-use Rattle.refusal.specs.Numbers.{accepted, lineTooLong, noLineEnd, controlByte, emptyLine, emptyPrefix, badCommand, tooManyParams}
+use Rattle.refusal.specs.Numbers.{accepted, lineTooLong, noLineEnd, forbiddenByte, emptyLine, emptyPrefix, badCommand, tooManyParams}
 use Rattle.refusal.specs.Rules.{Rule, _when_, firstOf}
 use Rattle.octets.specs.Bytes.{cr, lf, isPlain}
 use Rattle.octets.specs.Lists.{all, isNil, same}
@@ -39,7 +39,7 @@ bodyRules body =
 abbrev pub grammarRules : List ℕ → List Rule
 grammarRules line =
     noLineEnd when not (endsLine line)
-    ∷ controlByte when not (all isPlain (bodyOf line))
+    ∷ forbiddenByte when not (all isPlain (bodyOf line))
     ∷ emptyLine when isNil (bodyOf line)
     ∷ bodyRules (bodyOf line)
 
@@ -65,9 +65,6 @@ countOf (Refused k) = 0
 -- the answer at a number and a count of parameters
 unfoldable pub answer : ℕ → ℕ → Reading
 answer k n = cond (eqb k accepted) (Line n) (Refused k)
-
-unfoldable pub bodyReading : List ℕ → Reading
-bodyReading body = answer (firstOf (bodyRules body)) (length (params body))
 
 unfoldable pub readingOf : List ℕ → Reading
 readingOf line = answer (numberFor line) (length (params (bodyOf line)))

@@ -1,12 +1,15 @@
--- What the private functions of src/scan.rt promise. No public contract cites this file: nobody needs to believe it.
+-- What private functions promise. No public contract cites this file: nobody needs to believe it.
 use Prim.Native.Nat.{ℕ, _+_}
 use mathlib.Core.Bool.{Bool}
 use mathlib.Core.List.{List, [], _∷_}
 use lib.ListN.{length, drop, set, replicate}
+use Rattle.refusal.specs.Rules.{firstOf}
 use Rattle.message.specs.declared.Span.{Span}
 use Rattle.message.specs.declared.Message.{Message}
-use Rattle.message.specs.Grammar.{Part, paramLimit, word, rest}
-use Rattle.message.specs.Parts.{span, spanOf, nowhere}
+use Rattle.message.specs.declared.Reading.{Reading}
+use Rattle.message.specs.Grammar.{Part, paramLimit, word, rest, params}
+use Rattle.message.specs.Reading.{bodyRules, answer}
+use Rattle.message.specs.Parts.{span, spanOf, emptyAt}
 
 -- a message with no parameter yet, in a line of n bytes
 unfoldable pub opened : Bool → Span → Span → ℕ → Message
@@ -15,7 +18,7 @@ opened has before named n = record {
   prefix = before;
   command = named;
   count = 0;
-  params = replicate paramLimit (nowhere n);
+  params = replicate paramLimit (emptyAt n);
 }
 
 -- one parameter more: past the last that has room it is only counted (`set` past a list's end changes nothing)
@@ -37,3 +40,7 @@ unfoldable pub fromCommand : List ℕ → ℕ → Bool → Span → ℕ → Mess
 fromCommand body at has before n =
     let stop : ℕ = at + length (word (drop at body)) in
     withParams (opened has before (span at stop) n) (rest 0 stop (drop stop body))
+
+-- what a body reads as
+unfoldable pub bodyReading : List ℕ → Reading
+bodyReading body = answer (firstOf (bodyRules body)) (length (params body))

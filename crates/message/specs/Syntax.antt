@@ -17,12 +17,12 @@ mutual
   pub data Rest : List ℕ → List (List ℕ) → Type 0 where
     nothing : {s : List ℕ} → Spaces s → Rest s []
     trailing : {s : List ℕ} (r t : List ℕ) → Spaces r → s ≡ r ++ (colon ∷ t) → Rest s (t ∷ [])
-    amiddle : {s : List ℕ} {ps : List (List ℕ)} (r m : List ℕ) → Spaces r → s ≡ r ++ m → Middle m ps → Rest s ps
+    middle : {s : List ℕ} {ps : List (List ℕ)} (r m : List ℕ) → Spaces r → s ≡ r ++ m → Middle m ps → Rest s ps
 
   -- a *middle* is a non-empty run of bytes without SPACE, not starting with ':', followed by a *rest* or the end
   pub data Middle : List ℕ → List (List ℕ) → Type 0 where
     ends : {w : List ℕ} → isMiddle w ≡ true → Middle w (w ∷ [])
-    goes : {s : List ℕ} {ps : List (List ℕ)} (w t : List ℕ) → isMiddle w ≡ true → s ≡ w ++ t → Rest t ps → Middle s (w ∷ ps)
+    followed : {s : List ℕ} {ps : List (List ℕ)} (w t : List ℕ) → isMiddle w ≡ true → s ≡ w ++ t → Rest t ps → Middle s (w ∷ ps)
 
 -- after the command: a *rest*, or the line ends there
 pub data Parameters : List ℕ → List (List ℕ) → Type 0 where

@@ -12,16 +12,17 @@ ghost use lib.ListN.{length, getD};
 ghost use denote.Ref.{ptr};
 ghost use Rattle.octets.specs.Room.{placeIn};
 ghost use Rattle.message.specs.Grammar.{lineLimit, isCommand};
-ghost use Rattle.message.specs.Parts.{nowhere};
-ghost use Rattle.message.specs.Reading.{endsLine, numberOf, countOf, numberFor, bodyReading, readingOf, contentOf, messageOf};
+ghost use Rattle.message.specs.Parts.{emptyAt};
+ghost use Rattle.message.specs.Reading.{endsLine, numberOf, countOf, numberFor, readingOf, contentOf, messageOf};
+ghost use Rattle.message.specs.Scan.{bodyReading};
 use octets::Class;
 use octets::all_in;
 use octets::part;
 use refusal::ACCEPTED;
 use refusal::BAD_COMMAND;
-use refusal::CONTROL_BYTE;
 use refusal::EMPTY_LINE;
 use refusal::EMPTY_PREFIX;
+use refusal::FORBIDDEN_BYTE;
 use refusal::LINE_TOO_LONG;
 use refusal::NO_LINE_END;
 use refusal::TOO_MANY_PARAMS;
@@ -145,7 +146,7 @@ pub fn read(line: &[u8]) -> Reading
     }
     let body = part(line, 0, n - 2);
     if !all_in(body, Class::Plain) {
-        return Reading::Refused(CONTROL_BYTE);
+        return Reading::Refused(FORBIDDEN_BYTE);
     }
     if n == 2 {
         return Reading::Refused(EMPTY_LINE);
@@ -187,7 +188,7 @@ pub fn command(line: &[u8]) -> &[u8]
 // The parameter k, counted from 0, or the empty part at the line's end.
 pub fn param(line: &[u8], k: usize) -> &[u8]
     ensures bytes { λ r. ⌜ now r ≡ getD (contentOf (now (line .entry)) .params) k [] ⌝ }
-    ensures place { λ r. ⌜ ptr r ≡ placeIn (line .entry) (getD (messageOf (now (line .entry)) .params) k (nowhere (length (now (line .entry)))) .start) ⌝ }
+    ensures place { λ r. ⌜ ptr r ≡ placeIn (line .entry) (getD (messageOf (now (line .entry)) .params) k (emptyAt (length (now (line .entry)))) .start) ⌝ }
 {
     let n = line.len();
     if PARAM_LIMIT <= k {

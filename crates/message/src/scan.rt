@@ -2,7 +2,7 @@
 ghost use mathlib.Core.Path.{_≡_};
 ghost use Prim.Native.Nat.{_+_, _≤_, _<_};
 ghost use lib.ListN.{length, drop};
-ghost use Rattle.message.specs.Grammar.{lineLimit, word, spaces, hasPrefix, rest as restOf, middle as middleOf};
+ghost use Rattle.message.specs.Grammar.{lineLimit, word, spaces, hasPrefix, rest as restOf, afterMiddle};
 ghost use Rattle.message.specs.Parts.{span, blank as blankOf, messageIn};
 ghost use Rattle.message.specs.Scan.{opened as openedOf, withParam, withParams, fromCommand};
 use crate::Message;
@@ -94,7 +94,7 @@ fn rest(body: &[u8], at: usize, m: Message) -> Message
 // A middle, of which the bytes from `start` up to `at` are read: the bytes up to the next SPACE or the end, then a rest.
 fn middle(body: &[u8], start: usize, at: usize, m: Message) -> Message
     requires { ⌜ (start < at) × (at ≤ length (now body)) × (length (now body) ≤ lineLimit) × (m .count ≤ start) ⌝ }
-    ensures { λ r. ⌜ r ≡ withParams (withParam m (span start (at + length (word (drop at (now (body .entry))))))) (middleOf (m .count + 1) at (drop at (now (body .entry)))) ⌝ }
+    ensures { λ r. ⌜ r ≡ withParams (withParam m (span start (at + length (word (drop at (now (body .entry))))))) (afterMiddle (m .count + 1) at (drop at (now (body .entry)))) ⌝ }
 {
     let stop = word_end(body, at);
     let next = with_param(m, start, stop);

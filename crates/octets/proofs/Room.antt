@@ -8,17 +8,18 @@ use native.Mathlib.Omega.{arith}
 use lib.ListN.{length, take, drop, length-append, length-drop}
 use lib.Seq.{take-at, length-take-le}
 use borrow.Author.Tests.{le-leb, leb-true, leb-false, lt-leb}
-use Rattle.octets.specs.Room.{fits, laid, endOf, front, Holds, Adds}
+use Rattle.octets.specs.Room.{fits, putAt, endOf, front}
+use Rattle.octets.specs.Held.{Holds, Adds}
 
--- ---- what is laid
+-- ---- what is put
 module _ (out : List ℕ) (at : ℕ) (p : List ℕ) where
-  pub laid-fits : at + length p ≤ length out → laid out at p ≡ take at out ++ p ++ drop (at + length p) out
-  unfolding laid
-  laid-fits h = rw (le-leb (at + length p) (length out) h)
+  pub put-fits : at + length p ≤ length out → putAt out at p ≡ take at out ++ p ++ drop (at + length p) out
+  unfolding putAt
+  put-fits h = rw (le-leb (at + length p) (length out) h)
 
-  pub laid-over : length out < at + length p → laid out at p ≡ out
-  unfolding laid
-  laid-over h = rw (lt-leb (at + length p) (length out) h)
+  pub put-over : length out < at + length p → putAt out at p ≡ out
+  unfolding putAt
+  put-over h = rw (lt-leb (at + length p) (length out) h)
 
   pub end-fits : at + length p ≤ length out → endOf out at p ≡ at + length p
   unfolding endOf
@@ -28,42 +29,42 @@ module _ (out : List ℕ) (at : ℕ) (p : List ℕ) where
   unfolding endOf
   end-over h = rw (lt-leb (at + length p) (length out) h)
 
--- what is laid at the front
-pub laid-front : (out p : List ℕ) → length p ≤ length out → laid out 0 p ≡ front p out
-laid-front out p h = laid-fits out 0 p (omega arith) ∙ rw (zero-add (length p))
+-- what is put at the front
+pub put-front : (out p : List ℕ) → length p ≤ length out → putAt out 0 p ≡ front p out
+put-front out p h = put-fits out 0 p (omega arith) ∙ rw (zero-add (length p))
 
-pub length-laid : (out : List ℕ) (at : ℕ) (p : List ℕ) → length (laid out at p) ≡ length out
-length-laid out at p = go (fits out at p) refl
+pub length-put : (out : List ℕ) (at : ℕ) (p : List ℕ) → length (putAt out at p) ≡ length out
+length-put out at p = go (fits out at p) refl
   where
-    go : (t : Bool) → fits out at p ≡ t → length (laid out at p) ≡ length out
+    go : (t : Bool) → fits out at p ≡ t → length (putAt out at p) ≡ length out
     go true e =
         let h : at + length p ≤ length out = leb-true (at + length p) (length out) e in
-        rw (laid-fits out at p h) (simp length-append (omega (arith, length-take-le at out (omega arith), length-drop (at + length p) out)))
-    go false e = ap (λ (l : List ℕ). length l) (laid-over out at p (leb-false (at + length p) (length out) e))
+        rw (put-fits out at p h) (simp length-append (omega (arith, length-take-le at out (omega arith), length-drop (at + length p) out)))
+    go false e = ap (λ (l : List ℕ). length l) (put-over out at p (leb-false (at + length p) (length out) e))
 
 -- ---- what a line holds
 pub holds-nothing : (line : List ℕ) → Holds line 0 []
 holds-nothing line = record { counts = omega arith; begins = λ q. refl }
 
 -- what is put is added
-put-adds : (line : List ℕ) (at : ℕ) (p : List ℕ) → Adds line at (laid line at p) (endOf line at p) p
-put-adds line at p = record { keeps = length-laid line at p; adds = λ w h. go w h (fits line at p) refl }
+put-adds : (line : List ℕ) (at : ℕ) (p : List ℕ) → Adds line at (putAt line at p) (endOf line at p) p
+put-adds line at p = record { keeps = length-put line at p; adds = λ w h. go w h (fits line at p) refl }
   where
-    go : (w : List ℕ) → Holds line at w → (t : Bool) → fits line at p ≡ t → Holds (laid line at p) (endOf line at p) (w ++ p)
+    go : (w : List ℕ) → Holds line at w → (t : Bool) → fits line at p ≡ t → Holds (putAt line at p) (endOf line at p) (w ++ p)
     go w h true e =
         let room : at + length p ≤ length line = leb-true (at + length p) (length line) e in
-        rw (laid-fits line at p room, end-fits line at p room) (record {
-          counts = omega (arith, h .counts, length-append w p, ap (λ (l : List ℕ). length l) (sym (laid-fits line at p room)), length-laid line at p);
+        rw (put-fits line at p room, end-fits line at p room) (record {
+          counts = omega (arith, h .counts, length-append w p, ap (λ (l : List ℕ). length l) (sym (put-fits line at p room)), length-put line at p);
           begins = λ q. take-at (take at line ++ p) (drop (at + length p) line) (at + length p) (omega (arith, length-append (take at line) p, length-take-le at line (omega arith))) ∙ rw (h .begins (omega arith));
         })
     go w h false e =
         let over : length line < at + length p = leb-false (at + length p) (length line) e in
-        rw (laid-over line at p over, end-over line at p over) (record {
+        rw (put-over line at p over, end-over line at p over) (record {
           counts = omega (arith, h .counts, length-append w p);
           begins = λ q. absurd (omega arith);
         })
 
-pub added : (line : List ℕ) (at : ℕ) (next : List ℕ) (r : ℕ) (p : List ℕ) → r ≡ endOf line at p → next ≡ laid line at p → Adds line at next r p
+pub added : (line : List ℕ) (at : ℕ) (next : List ℕ) (r : ℕ) (p : List ℕ) → r ≡ endOf line at p → next ≡ putAt line at p → Adds line at next r p
 added line at next r p e f = rw (e, f) (put-adds line at p)
 
 -- nothing is added where nothing changes

@@ -29,3 +29,8 @@ module _ {A : Type 0} where
 -- equal, byte for byte
 abbrev pub same : List ℕ → List ℕ → Bool
 same = sameBy eqb
+
+-- the first byte is b
+unfoldable pub startsWith : ℕ → List ℕ → Bool
+startsWith b [] = false
+startsWith b (x ∷ s) = eqb x b

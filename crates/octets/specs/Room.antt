@@ -1,6 +1,5 @@
 -- A part of lent bytes, and bytes put into lent room.
-use Prim.Native.Nat.{ℕ, suc, _+_, _-_, _≤_, min}
-use mathlib.Core.Path.{_≡_}
+use Prim.Native.Nat.{ℕ, suc, _+_, _-_}
 use mathlib.Core.Bool.{Bool, cond}
 use mathlib.Core.List.{List, _++_}
 use lib.ListN.{length, take, drop}
@@ -20,8 +19,8 @@ abbrev pub fits : List ℕ → ℕ → List ℕ → Bool
 fits out at p = leb (at + length p) (length out)
 
 -- p at its place and the rest unchanged; where there is no room, nothing is put
-unfoldable pub laid : List ℕ → ℕ → List ℕ → List ℕ
-laid out at p = cond (fits out at p) (take at out ++ p ++ drop (at + length p) out) out
+unfoldable pub putAt : List ℕ → ℕ → List ℕ → List ℕ
+putAt out at p = cond (fits out at p) (take at out ++ p ++ drop (at + length p) out) out
 
 -- where p ends; one past the room where there is none
 unfoldable pub endOf : List ℕ → ℕ → List ℕ → ℕ
@@ -30,14 +29,3 @@ endOf out at p = cond (fits out at p) (at + length p) (suc (length out))
 -- w at the front of the lent bytes, the rest unchanged
 abbrev pub front : List ℕ → List ℕ → List ℕ
 front w out = w ++ drop (length w) out
-
--- ---- a line put together part by part
--- The line begins with w, and `at` is where w ends; or w is longer than the line, and `at` is one past it.
-pub record Holds (line : List ℕ) (at : ℕ) (w : List ℕ) : Type 0 where
-  pub counts : at ≡ min (suc (length line)) (length w)
-  pub begins : at ≤ length line → take at line ≡ w
-
--- From one line to the next p is added to whatever is held.
-pub record Adds (line : List ℕ) (at : ℕ) (next : List ℕ) (r : ℕ) (p : List ℕ) : Type 0 where
-  pub keeps : length next ≡ length line
-  pub adds : (w : List ℕ) → Holds line at w → Holds next r (w ++ p)

@@ -8,7 +8,7 @@ ghost use lib.Seq.{paste};
 ghost use denote.Ref.{ptr};
 ghost use Rattle.octets.specs.Bytes.{within, isPlain, isLetter, inClass, capital as capitalOf};
 ghost use Rattle.octets.specs.Lists.{all};
-ghost use Rattle.octets.specs.Room.{part as partOf, placeIn, laid, endOf};
+ghost use Rattle.octets.specs.Room.{part as partOf, placeIn, putAt, endOf};
 
 // What a byte may be, for `all_in`.
 pub enum Class {
@@ -116,7 +116,7 @@ fn copy_at(out: &mut [u8], at: usize, p: &[u8])
 // Puts p at the place `at` and answers where it ends. If there isn't room for all of it, nothing is put, and the answer is one past the room.
 pub fn put(out: &mut [u8], at: usize, p: &[u8]) -> usize
     ensures place { λ r. ⌜ r ≡ endOf (now (out .entry)) at (now (p .entry)) ⌝ }
-    ensures bytes { λ _. ⌜ now (out .exit) ≡ laid (now (out .entry)) at (now (p .entry)) ⌝ }
+    ensures bytes { λ _. ⌜ now (out .exit) ≡ putAt (now (out .entry)) at (now (p .entry)) ⌝ }
 {
     let room = out.len();
     if room < at {

@@ -20,8 +20,8 @@ lineTooLong = 4
 abbrev pub noLineEnd : ℕ
 noLineEnd = 5
 
-abbrev pub controlByte : ℕ
-controlByte = 6
+abbrev pub forbiddenByte : ℕ
+forbiddenByte = 6
 
 abbrev pub emptyLine : ℕ
 emptyLine = 7

@@ -1,5 +1,5 @@
 // The numbers by which bad input is refused, each with the words of document 01's table ("given exactly when").
-// No other file writes such a number as a literal. The definitions have the same names in specs/Numbers.antt.
+// No other source file writes such a number as a literal. The definitions have the same names in specs/Numbers.antt.
 
 // Nothing is refused: this one isn't in the table.
 pub const ACCEPTED: u8 = 0;
@@ -20,7 +20,7 @@ pub const LINE_TOO_LONG: u8 = 4;
 pub const NO_LINE_END: u8 = 5;
 
 // NUL, CR or LF before it
-pub const CONTROL_BYTE: u8 = 6;
+pub const FORBIDDEN_BYTE: u8 = 6;
 
 // only CR LF
 pub const EMPTY_LINE: u8 = 7;

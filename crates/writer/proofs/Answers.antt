@@ -12,9 +12,10 @@ use borrow.Author.Tests.{ne-eqb, lt-ltb, le-ltb, leb-true}
 use Rattle.refusal.specs.Numbers.{accepted, outputTooShort, unwritable, noRoom}
 use Rattle.refusal.specs.Rules.{Rule, firstOf}
 use Rattle.octets.specs.Bytes.{capital}
-use Rattle.octets.specs.Room.{laid, endOf, front, Holds, Adds}
+use Rattle.octets.specs.Room.{putAt, endOf, front}
+use Rattle.octets.specs.Held.{Holds, Adds}
 use Rattle.octets.proofs.Bools.{and-left}
-use Rattle.octets.proofs.Room.{laid-front, end-fits, holds-nothing}
+use Rattle.octets.proofs.Room.{put-front, end-fits, holds-nothing}
 use Rattle.message.specs.declared.Message.{Message}
 use Rattle.message.specs.Grammar.{lineLimit, paramLimit}
 use Rattle.message.specs.Reading.{isRead, contentOf, messageOf}
@@ -22,8 +23,8 @@ use Rattle.message.proofs.Places.{placed-length}
 use Rattle.message.proofs.Readings.{read-small, command-at}
 use Rattle.writer.specs.declared.Written.{Written}
 use Rattle.writer.specs.Form.{written, contentBy, withCommand}
-use Rattle.writer.specs.Writing.{writeRules, forwardRules, forwarded, emitted, answerFor, refusedBy}
-use Rattle.writer.specs.Fit.{fit}
+use Rattle.writer.specs.Writing.{writeRules, forwardRules, forwarded, emitted, answerFor}
+use Rattle.writer.specs.Fit.{fit, refusedBy}
 use Rattle.writer.proofs.Fitting.{fit-exactly}
 use Rattle.writer.proofs.Rounds.{message-holds, forwarded-reads}
 
@@ -84,12 +85,12 @@ pub record Raised (word : List ℕ) (r : ℕ) (command : List ℕ) : Type 0 wher
   pub stands : take r word ≡ map capital command
 
 pub raised : (empty : List ℕ) → length empty ≡ lineLimit → (line : List ℕ) → isRead line ≡ true → (p word next : List ℕ) (r : ℕ)
-    → p ≡ contentOf line .command → r ≡ endOf empty 0 p → word ≡ laid empty 0 p → next ≡ map capital word → Raised next r (contentOf line .command)
+    → p ≡ contentOf line .command → r ≡ endOf empty 0 p → word ≡ putAt empty 0 p → next ≡ map capital word → Raised next r (contentOf line .command)
 raised empty long line h p word next r e f g k =
     let c = contentOf line .command in
     let small : length c ≤ length empty = omega (arith, placed-length line _ _ (command-at line (messageOf line) refl), read-small line h) in
     let n : r ≡ length c = f ∙ ap (endOf empty 0) e ∙ end-fits empty 0 c (omega arith) ∙ zero-add (length c) in
-    let w : next ≡ map capital c ++ map capital (drop (length c) empty) = k ∙ ap (map capital) (g ∙ ap (laid empty 0) e ∙ laid-front empty c small) ∙ map-append capital c (drop (length c) empty) in
+    let w : next ≡ map capital c ++ map capital (drop (length c) empty) = k ∙ ap (map capital) (g ∙ ap (putAt empty 0) e ∙ put-front empty c small) ∙ map-append capital c (drop (length c) empty) in
     let s : take r next ≡ map capital c = rw (w, n) (take-at (map capital c) (map capital (drop (length c) empty)) (length c) (length-map c capital)) in
     record {
       inside = omega (arith, ap (λ (l : List ℕ). length l) s, length-take r next, length-map c capital);
@@ -123,5 +124,5 @@ module _ (empty line : List ℕ) (r : ℕ) (w : List ℕ) (long : length empty �
     part-length = ends-at ∙ sym (ap (λ (l : List ℕ). length l) stands)
 
     -- and is copied to the front of the output
-    pub copied : (out next : List ℕ) → lineLimit ≤ length out → next ≡ laid out 0 (take r line) → next ≡ front w out
-    copied out next room e = e ∙ ap (laid out 0) stands ∙ laid-front out w (omega (arith, ends-at))
+    pub copied : (out next : List ℕ) → lineLimit ≤ length out → next ≡ putAt out 0 (take r line) → next ≡ front w out
+    copied out next room e = e ∙ ap (putAt out 0) stands ∙ put-front out w (omega (arith, ends-at))

@@ -18,7 +18,7 @@ use Rattle.octets.proofs.Lists.{nil-map, all-head, all-tail, all-cons, all-drop
 use Rattle.octets.proofs.Bytes.{same-refl, same-true}
 use Rattle.message.specs.declared.Span.{Span}
 use Rattle.message.specs.declared.Message.{Message}
-use Rattle.message.specs.Grammar.{Part, paramLimit, word, isMiddle, rest, middle, hasPrefix, prefix, isCommand, commandEnd, params}
+use Rattle.message.specs.Grammar.{Part, paramLimit, word, isMiddle, rest, afterMiddle, hasPrefix, prefix, isCommand, commandEnd, params}
 use Rattle.message.specs.Content.{Content, bytesOf, contentIn}
 use Rattle.message.specs.Parts.{bytesAt}
 use Rattle.message.specs.Reading.{bodyOf, grammarRules}
@@ -38,7 +38,7 @@ unfolding goodParams goodParam
 good-last p a = rw a
 
 module _ (x : ℕ) (s : List ℕ) (k at : ℕ) where
-  rest-good-step : all isPlain (x ∷ s) ≡ true → goodParams (bytesOf (rest k (at + 1) s)) ≡ true → goodParams (bytesOf (middle (k + 1) (at + 1) s)) ≡ true
+  rest-good-step : all isPlain (x ∷ s) ≡ true → goodParams (bytesOf (rest k (at + 1) s)) ≡ true → goodParams (bytesOf (afterMiddle (k + 1) (at + 1) s)) ≡ true
       → goodParams (bytesOf (rest k at (x ∷ s))) ≡ true
   unfolding rest
   rest-good-step a r m = go (eqb x space) refl (eqb x colon) refl
@@ -47,14 +47,14 @@ module _ (x : ℕ) (s : List ℕ) (k at : ℕ) where
       go true p u q = rw p r
       go false p true q = rw (p, q) (good-last s (all-tail isPlain x s a))
       go false p false q =
-          rw (p, q) (good-cons (x ∷ word s) (bytesOf (middle (k + 1) (at + 1) s))
+          rw (p, q) (good-cons (x ∷ word s) (bytesOf (afterMiddle (k + 1) (at + 1) s))
           (all-cons isPlain x (word s) (all-head isPlain x s a) (all-word isPlain s (all-tail isPlain x s a))) (word-middle x s p q) m)
 
-  middle-good-step : goodParams (bytesOf (rest k (at + 1) s)) ≡ true → goodParams (bytesOf (middle k (at + 1) s)) ≡ true → goodParams (bytesOf (middle k at (x ∷ s))) ≡ true
+  middle-good-step : goodParams (bytesOf (rest k (at + 1) s)) ≡ true → goodParams (bytesOf (afterMiddle k (at + 1) s)) ≡ true → goodParams (bytesOf (afterMiddle k at (x ∷ s))) ≡ true
   unfolding rest
   middle-good-step r m = go (eqb x space) refl
     where
-      go : (t : Bool) → eqb x space ≡ t → goodParams (bytesOf (middle k at (x ∷ s))) ≡ true
+      go : (t : Bool) → eqb x space ≡ t → goodParams (bytesOf (afterMiddle k at (x ∷ s))) ≡ true
       go true p = rw p r
       go false p = rw p m
 
@@ -65,7 +65,7 @@ mutual
   rest-good [] k at a = refl
   rest-good (x ∷ s) k at a = let b = all-tail isPlain x s a in rest-good-step x s k at a (rest-good s k (at + 1) b) (middle-good s (k + 1) (at + 1) b)
 
-  middle-good : (s : List ℕ) (k at : ℕ) → all isPlain s ≡ true → goodParams (bytesOf (middle k at s)) ≡ true
+  middle-good : (s : List ℕ) (k at : ℕ) → all isPlain s ≡ true → goodParams (bytesOf (afterMiddle k at s)) ≡ true
   middle-good [] k at a = refl
   middle-good (x ∷ s) k at a = let b = all-tail isPlain x s a in middle-good-step x s k at (rest-good s k (at + 1) b) (middle-good s k (at + 1) b)
 

@@ -10,7 +10,7 @@ use lib.Seq.{drop-drop}
 use lib.Dec.{eqb}
 use Rattle.octets.specs.Bytes.{space, colon}
 use Rattle.octets.specs.Lists.{isNil}
-use Rattle.message.specs.Grammar.{word, spaces, isMiddle, rest, middle, hasPrefix, prefix, prefixEnd, commandStart, command, commandEnd, params}
+use Rattle.message.specs.Grammar.{word, spaces, isMiddle, rest, afterMiddle, hasPrefix, prefix, prefixEnd, commandStart, command, commandEnd, params}
 use Rattle.message.specs.Content.{bytesOf, contentIn}
 use Rattle.message.proofs.Runs.{middle-skip}
 use Rattle.message.proofs.Relation.{Stops, middle-stop, word-then}
@@ -32,7 +32,7 @@ last-length k p = go (isMiddle p) refl
     go false e = rw (trailing-written k p e) (omega (arith, length-append p []))
 
 module _ (x : ℕ) (s : List ℕ) (k at : ℕ) (r : length (writtenParams k (bytesOf (rest k (at + 1) s))) ≤ suc (length s)) where
-  rest-short-step : length (word s) + length (writtenParams (k + 1) (bytesOf (middle (k + 1) (at + 1) s))) ≤ length s
+  rest-short-step : length (word s) + length (writtenParams (k + 1) (bytesOf (afterMiddle (k + 1) (at + 1) s))) ≤ length s
       → length (writtenParams k (bytesOf (rest k at (x ∷ s)))) ≤ suc (suc (length s))
   unfolding rest
   rest-short-step m = go (eqb x space) refl (eqb x colon) refl
@@ -40,14 +40,14 @@ module _ (x : ℕ) (s : List ℕ) (k at : ℕ) (r : length (writtenParams k (byt
       go : (t : Bool) → eqb x space ≡ t → (u : Bool) → eqb x colon ≡ u → length (writtenParams k (bytesOf (rest k at (x ∷ s)))) ≤ suc (suc (length s))
       go true p u q = rw p (omega arith)
       go false p true q = rw (p, q) (last-length k s)
-      go false p false q = rw (p, q, middle-length k (x ∷ word s) (bytesOf (middle (k + 1) (at + 1) s)) (word-middle x s p q)) (omega arith)
+      go false p false q = rw (p, q, middle-length k (x ∷ word s) (bytesOf (afterMiddle (k + 1) (at + 1) s)) (word-middle x s p q)) (omega arith)
 
-  middle-short-step : length (word s) + length (writtenParams k (bytesOf (middle k (at + 1) s))) ≤ length s
-      → length (word (x ∷ s)) + length (writtenParams k (bytesOf (middle k at (x ∷ s)))) ≤ suc (length s)
+  middle-short-step : length (word s) + length (writtenParams k (bytesOf (afterMiddle k (at + 1) s))) ≤ length s
+      → length (word (x ∷ s)) + length (writtenParams k (bytesOf (afterMiddle k at (x ∷ s)))) ≤ suc (length s)
   unfolding rest word
   middle-short-step m = go (eqb x space) refl
     where
-      go : (t : Bool) → eqb x space ≡ t → length (word (x ∷ s)) + length (writtenParams k (bytesOf (middle k at (x ∷ s)))) ≤ suc (length s)
+      go : (t : Bool) → eqb x space ≡ t → length (word (x ∷ s)) + length (writtenParams k (bytesOf (afterMiddle k at (x ∷ s)))) ≤ suc (length s)
       go true p = rw p (omega arith)
       go false p = rw p (omega arith)
 
@@ -59,13 +59,13 @@ mutual
   rest-short (x ∷ s) k at = rest-short-step x s k at (rest-short s k (at + 1)) (middle-short s (k + 1) (at + 1))
 
   -- a middle's bytes that are left count too
-  middle-short : (s : List ℕ) (k at : ℕ) → length (word s) + length (writtenParams k (bytesOf (middle k at s))) ≤ length s
+  middle-short : (s : List ℕ) (k at : ℕ) → length (word s) + length (writtenParams k (bytesOf (afterMiddle k at s))) ≤ length s
   middle-short [] k at = omega arith
   middle-short (x ∷ s) k at = middle-short-step x s k at (rest-short s k (at + 1)) (middle-short s k (at + 1))
 
 -- ---- the command and the parameters
 -- the parameters follow the command as they follow a middle
-params-middle : (b : List ℕ) → params b ≡ middle 0 (commandStart b) (drop (commandStart b) b)
+params-middle : (b : List ℕ) → params b ≡ afterMiddle 0 (commandStart b) (drop (commandStart b) b)
 unfolding params commandEnd command
 params-middle b =
     let at : ℕ = commandStart b in

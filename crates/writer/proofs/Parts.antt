@@ -9,11 +9,11 @@ use lib.Seq.{getD-take}
 use lib.Dec.{eqb}
 use borrow.Author.Tests.{eq-eqb, ne-eqb}
 use Rattle.octets.specs.Bytes.{space, colon, isPlain, isNonSpace}
-use Rattle.octets.specs.Lists.{all, isNil}
+use Rattle.octets.specs.Lists.{all, isNil, startsWith}
 use Rattle.octets.proofs.Lists.{drop-step, nil-length, nil-map}
 use Rattle.message.specs.declared.Span.{Span}
 use Rattle.message.specs.declared.Message.{Message}
-use Rattle.message.specs.Grammar.{hasPrefix, isMiddle}
+use Rattle.message.specs.Grammar.{isMiddle}
 use Rattle.message.specs.Parts.{span, bytesAt}
 use Rattle.writer.specs.Form.{takesColon, writtenParam, writtenParams, liesIn}
 use Rattle.writer.specs.Fit.{goodPrefix, fitPrefix, fitParam, fitParams}
@@ -36,7 +36,7 @@ middle-word (b ∷ p) = λ h e r q. rw (ne-eqb b colon e) q
 
 -- ':' is needed exactly where the last parameter is no middle
 pub colon-exactly : (k : ℕ) (last : Bool) (p : List ℕ) → takesColon k last p ≡ last && not (isMiddle p)
-unfolding takesColon isMiddle hasPrefix
+unfolding takesColon isMiddle startsWith
 colon-exactly k last [] = refl
 colon-exactly k last (b ∷ p) = ap (λ (t : Bool). last && t) (go (eqb b colon) (all isNonSpace (b ∷ p)))
   where

@@ -22,7 +22,7 @@ use Rattle.message.specs.declared.Span.{Span}
 use Rattle.message.specs.declared.Message.{Message}
 use Rattle.message.specs.Grammar.{Part, lineLimit, paramLimit, hasPrefix, prefix, command, isCommand, params}
 use Rattle.message.specs.Content.{Content, bytesOf, contentIn}
-use Rattle.message.specs.Parts.{nowhere, bytesAt, spanOf, messageIn}
+use Rattle.message.specs.Parts.{emptyAt, bytesAt, spanOf, messageIn}
 use Rattle.message.specs.Reading.{crlf, bodyOf, bodyRules, lineRules, numberFor, isRead, contentOf, messageOf}
 use Rattle.message.proofs.Places.{Placed, Each, In, prefix-in-line, command-in-line, params-in-line}
 use Rattle.message.proofs.Readings.{Formed, ends-long, body-length, read-small, read-formed, read-content, read-message}
@@ -98,7 +98,7 @@ module _ (line : List ℕ) (few : length (params (bodyOf line)) ≤ paramLimit) 
   unfolding messageIn
   spans-are =
       let n : length (map spanOf (params body)) ≡ length (params body) = length-map (params body) spanOf in
-      ap (λ (i : ℕ). take i (padded paramLimit (nowhere (length line)) (map spanOf (params body)))) (sym n) ∙ take-padded (nowhere (length line)) paramLimit (map spanOf (params body)) (omega arith)
+      ap (λ (i : ℕ). take i (padded paramLimit (emptyAt (length line)) (map spanOf (params body)))) (sym n) ∙ take-padded (emptyAt (length line)) paramLimit (map spanOf (params body)) (omega arith)
 
   prefix-placed : Placed line (parts .prefix) (prefix body)
   unfolding bodyOf

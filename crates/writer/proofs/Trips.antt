@@ -13,7 +13,7 @@ use borrow.Author.Tests.{ne-eqb, leb-true, le-ltb, not-true}
 use Rattle.refusal.specs.Numbers.{accepted}
 use Rattle.refusal.specs.Rules.{firstOf}
 use Rattle.octets.specs.Bytes.{space, colon, isPlain, isNonSpace}
-use Rattle.octets.specs.Lists.{all, isNil, sameBy}
+use Rattle.octets.specs.Lists.{all, isNil, sameBy, startsWith}
 use Rattle.octets.proofs.Bools.{and-left, and-right}
 use Rattle.octets.proofs.Lists.{nil-length, all-head, all-cons, all-append}
 use Rattle.message.specs.Grammar.{Part, paramLimit, spaces, isMiddle, rest, hasPrefix, prefix, prefixEnd, commandStart, command, commandEnd, isCommand, params}
@@ -100,7 +100,7 @@ module _ (t : List ℕ) where
   spaces-none (b ∷ w) h = rw (not-true (eqb b space) (all-head isNonSpace b w (middle-clear (b ∷ w) h)))
 
   prefix-none : (w : List ℕ) → isMiddle w ≡ true → hasPrefix (w ++ t) ≡ false
-  unfolding hasPrefix isMiddle
+  unfolding startsWith isMiddle
   prefix-none [] h = absurd (true≢false (sym h))
   prefix-none (b ∷ w) h = not-true (eqb b colon) (and-left (not (eqb b colon)) (all isNonSpace (b ∷ w)) h)
 
@@ -131,15 +131,15 @@ module _ (c : List ℕ) (ps : List (List ℕ)) (is : isMiddle c ≡ true) (ok : 
     body = colon ∷ (p ++ (space ∷ tail))
 
     prefix-there : prefix body ≡ p
-    unfolding prefix hasPrefix
+    unfolding prefix startsWith
     prefix-there = word-append (space ∷ tail) refl p clear
 
     end-there : prefixEnd body ≡ 1 + length p
-    unfolding prefixEnd hasPrefix
+    unfolding prefixEnd startsWith
     end-there = rw prefix-there
 
     start-there : commandStart body ≡ 1 + length p + 1
-    unfolding commandStart hasPrefix spaces
+    unfolding commandStart startsWith spaces
     start-there =
         let e : drop (1 + length p) body ≡ space ∷ tail = drop-at (colon ∷ p) (space ∷ tail) (1 + length p) (omega arith) in
         rw (end-there, e, spaces-none (writtenParams 0 ps) c is)
@@ -190,7 +190,7 @@ source-full p h = not-true (isNil p) (and-left (not (isNil p)) _ h)
 -- ---- what the written form of a good message holds
 parts-back : (o : Option (List ℕ)) (c : List ℕ) (ps : List (List ℕ)) → goodSource o ≡ true → isMiddle c ≡ true → goodParams ps ≡ true
     → contentIn (writtenPrefix o ++ c ++ writtenParams 0 ps) ≡ content o c ps
-unfolding contentIn hasPrefix writtenPrefix goodSource
+unfolding contentIn startsWith writtenPrefix goodSource
 parts-back none c ps h is ok =
     let b : List ℕ = c ++ writtenParams 0 ps in
     let e = bare-start c ps is ok in

@@ -1,5 +1,5 @@
--- What the private functions of src/fit.rt test. No public contract cites this file: nobody needs to believe it. `Fitting` of proofs/ shows
--- that the tests are exactly those of number 24.
+-- What private functions promise: the tests of src/fit.rt, which `Fitting` of proofs/ shows to be exactly those of number 24, and the answer of a
+-- refusal. No public contract cites this file: nobody needs to believe it.
 use Prim.Native.Nat.{ℕ}
 use mathlib.Core.Bool.{Bool, true, not, _&&_, _||_}
 use mathlib.Core.List.{List, [], _∷_}
@@ -13,6 +13,7 @@ use Rattle.message.specs.declared.Message.{Message}
 use Rattle.message.specs.Grammar.{paramLimit, isCommand, isMiddle}
 use Rattle.message.specs.Content.{Content}
 use Rattle.message.specs.Parts.{bytesAt}
+use Rattle.writer.specs.declared.Written.{Written}
 use Rattle.writer.specs.Form.{liesIn}
 
 -- ---- of a message
@@ -51,3 +52,7 @@ fitParams text (s ∷ ss) = fitParam text (isNil ss) s && fitParams text ss
 
 unfoldable pub fit : List ℕ → Message → Bool
 fit text m = leb (m .count) paramLimit && (fitPrefix text m && (fitCommand text m && fitParams text (take (m .count) (m .params))))
+
+-- ---- the answer of a refusal: nothing is written
+abbrev pub refusedBy : ℕ → Written
+refusedBy k = record { number = k; len = 0 }

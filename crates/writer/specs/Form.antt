@@ -8,10 +8,10 @@ use lib.Dec.{eqb, leb}
 use Rattle.refusal.specs.Numbers.{accepted}
 use Rattle.refusal.specs.Rules.{firstOf}
 use Rattle.octets.specs.Bytes.{space, colon, isNonSpace, capital}
-use Rattle.octets.specs.Lists.{all, isNil, same, sameBy}
+use Rattle.octets.specs.Lists.{all, isNil, same, sameBy, startsWith}
 use Rattle.message.specs.declared.Span.{Span}
 use Rattle.message.specs.declared.Message.{Message}
-use Rattle.message.specs.Grammar.{paramLimit, hasPrefix}
+use Rattle.message.specs.Grammar.{paramLimit}
 use Rattle.message.specs.Content.{Content, contentIn}
 use Rattle.message.specs.Parts.{bytesAt}
 use Rattle.message.specs.Reading.{crlf, bodyOf, grammarRules}
@@ -19,7 +19,7 @@ use Rattle.message.specs.Reading.{crlf, bodyOf, grammarRules}
 -- ---- the form
 -- ':' stands before parameter k exactly if it is the last and is empty, starts with ':' or holds a SPACE. The rule doesn't depend on k.
 unfoldable pub takesColon : ℕ → Bool → List ℕ → Bool
-takesColon k last p = last && (isNil p || (hasPrefix p || not (all isNonSpace p)))
+takesColon k last p = last && (isNil p || (startsWith colon p || not (all isNonSpace p)))
 
 unfoldable pub writtenParam : ℕ → Bool → List ℕ → List ℕ
 writtenParam k last p = cond (takesColon k last p) (colon ∷ p) p

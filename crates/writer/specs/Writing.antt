@@ -34,7 +34,3 @@ emitted rules w = cond (eqb (firstOf rules) accepted) w []
 
 unfoldable pub answerFor : List Rule → List ℕ → Written
 answerFor rules w = record { number = firstOf rules; len = length (emitted rules w) }
-
--- a refusal: nothing is written
-abbrev pub refusedBy : ℕ → Written
-refusedBy k = record { number = k; len = 0 }

@@ -7,7 +7,7 @@ ghost use mathlib.Core.Option.{some, none};
 ghost use Prim.Native.Nat.{_≤_};
 ghost use lib.ListN.{take};
 ghost use Rattle.octets.specs.Bytes.{space};
-ghost use Rattle.octets.specs.Room.{Adds};
+ghost use Rattle.octets.specs.Held.{Adds};
 ghost use Rattle.message.specs.Grammar.{paramLimit};
 ghost use Rattle.message.specs.Parts.{bytesAt};
 ghost use Rattle.writer.specs.Form.{takesColon, writtenParam, writtenParams, writtenPrefix, written, contentBy, withCommand};

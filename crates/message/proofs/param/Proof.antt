@@ -10,9 +10,9 @@ use Rattle.octets.proofs.Lists.{getD-any}
 use Rattle.message.specs.declared.Span.{Span}
 use Rattle.message.specs.declared.Message.{Message}
 use Rattle.message.specs.Grammar.{paramLimit}
-use Rattle.message.specs.Parts.{span, nowhere}
+use Rattle.message.specs.Parts.{span, emptyAt}
 use Rattle.message.specs.Reading.{messageOf}
-use Rattle.message.proofs.Places.{placed-start, nowhere-placed}
+use Rattle.message.proofs.Places.{placed-start, empty-placed}
 use Rattle.message.proofs.Readings.{param-at, param-past, span-past, spans-length}
 use Rattle.message.proofs.param.Statement.{statement}
 use Rattle.message.proofs.param.Tie as tie
@@ -24,9 +24,9 @@ returns : tie.Need-returns
 returns c =
     let line = c .before .before .before .args .line in
     let k = c .before .before .before .args .k in
-    let p = nowhere-placed (line .now) in (
+    let p = empty-placed (line .now) in (
       c .part .ensures .0 ∙ p .same ∙ sym (param-past (line .now) k (c .before .if1 .taken)),
-      c .part .ensures .1 ∙ ap (placeIn line) (placed-start (line .now) (nowhere (length (line .now))) _ p ∙ sym (ap (λ (s : Span). s .start) (span-past (line .now) k (c .before .if1 .taken)))),
+      c .part .ensures .1 ∙ ap (placeIn line) (placed-start (line .now) (emptyAt (length (line .now))) _ p ∙ sym (ap (λ (s : Span). s .start) (span-past (line .now) k (c .before .if1 .taken)))),
     )
 
 parts-requires : tie.Need-parts-requires
@@ -49,8 +49,8 @@ returns-2 c =
     let is = c .before .before .parts .ensures in
     let lt : k < paramLimit = omega arith in
     let p = param-at (line .now) m is k (span 0 0) lt in
-    let any : getD (messageOf (line .now) .params) k (span 0 0) ≡ getD (messageOf (line .now) .params) k (nowhere (length (line .now))) =
-    getD-any (messageOf (line .now) .params) k (span 0 0) (nowhere (length (line .now))) (omega (arith, spans-length (line .now))) in (
+    let any : getD (messageOf (line .now) .params) k (span 0 0) ≡ getD (messageOf (line .now) .params) k (emptyAt (length (line .now))) =
+    getD-any (messageOf (line .now) .params) k (span 0 0) (emptyAt (length (line .now))) (omega (arith, spans-length (line .now))) in (
       c .part2 .ensures .0 ∙ p .same,
       c .part2 .ensures .1
           ∙ ap (placeIn line) (placed-start (line .now) (getD (m .params) k (span 0 0)) _ p ∙ ap (λ (x : Message). getD (x .params) k (span 0 0) .start) is ∙ ap (λ (s : Span). s .start) any),

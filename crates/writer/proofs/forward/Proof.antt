@@ -8,12 +8,13 @@ use native.Mathlib.Omega.{arith}
 use lib.ListN.{length, replicate}
 use borrow.Author.Needs.{needs}
 use Rattle.refusal.specs.Numbers.{accepted, outputTooShort}
-use Rattle.octets.specs.Room.{Adds}
+use Rattle.octets.specs.Held.{Adds}
 use Rattle.message.specs.declared.Message.{Message}
 use Rattle.message.specs.Grammar.{lineLimit}
 use Rattle.message.specs.Reading.{isRead, numberFor, contentOf, messageOf}
 use Rattle.message.proofs.Readings.{reading-line, reading-refused, number-none, refused-number, count-few}
-use Rattle.writer.specs.Writing.{forwardRules, forwarded, refusedBy}
+use Rattle.writer.specs.Writing.{forwardRules, forwarded}
+use Rattle.writer.specs.Fit.{refusedBy}
 use Rattle.writer.proofs.Rounds.{forward-number}
 use Rattle.writer.proofs.Answers.{answers-refused, answers-written, forward-short, forwarded-is, forwarded-short, Raised, raised, fits-short, ends-at, part-length, copied}
 use Rattle.writer.proofs.forward.Statement.{statement}

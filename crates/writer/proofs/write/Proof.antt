@@ -8,7 +8,7 @@ use lib.ListN.{length, replicate}
 use borrow.Author.Needs.{needs}
 use borrow.Author.Tests.{not-true, not-false}
 use Rattle.refusal.specs.Numbers.{outputTooShort, unwritable, noRoom}
-use Rattle.octets.specs.Room.{Adds}
+use Rattle.octets.specs.Held.{Adds}
 use Rattle.message.specs.declared.Message.{Message}
 use Rattle.message.specs.Grammar.{lineLimit}
 use Rattle.writer.specs.Form.{written, contentBy, withCommand}

@@ -6,18 +6,19 @@ use Prim.Native.Nat.{ℕ}
 use native.Mathlib.Omega.{arith}
 use lib.Dec.{eqb}
 use lib.ListN.{length, getD}
+use Rattle.octets.specs.Lists.{startsWith}
 use Rattle.message.specs.Grammar.{hasPrefix}
 use borrow.Author.Needs.{needs}
 use Rattle.message.proofs.scan.has_prefix.Statement.{statement}
 use Rattle.message.proofs.scan.has_prefix.Tie as tie
 
 bare : (s : List ℕ) → length s ≡ 0 → false ≡ hasPrefix s
-unfolding hasPrefix
+unfolding startsWith
 bare [] = λ e. refl
 bare (x ∷ s) = λ e. absurd (omega arith)
 
 coloned : (s : List ℕ) → eqb (getD s 0 0) 58 ≡ hasPrefix s
-unfolding hasPrefix
+unfolding startsWith
 coloned [] = refl
 coloned (x ∷ s) = refl
 
