@@ -15,6 +15,7 @@ use Rattle.refusal.proofs.Rules.{first-none}
 use Rattle.octets.specs.Bytes.{cr, lf, isPlain}
 use Rattle.octets.specs.Lists.{all, isNil, sameBy}
 use Rattle.octets.specs.Room.{part}
+use Rattle.octets.proofs.Room.{part-front}
 use Rattle.octets.proofs.Lists.{nil-length, drop-step, length-padded}
 use Rattle.message.specs.declared.Span.{Span}
 use Rattle.message.specs.declared.Message.{Message}
@@ -62,8 +63,8 @@ module _ (line : List ℕ) where
       go false h = ltb-false (length line) 2 h
 
   pub body-is : part line 0 (length line - 2) ≡ bodyOf line
-  unfolding part bodyOf
-  body-is = let k : length line - 2 - 0 ≡ length line - 2 = omega arith in rw k
+  unfolding bodyOf
+  body-is = part-front line (length line - 2)
 
   pub body-length : length (bodyOf line) ≡ length line - 2
   unfolding bodyOf

@@ -2,4 +2,6 @@
 pub mod Bools
 pub mod Lists
 pub mod Bytes
+pub mod Ordered
 pub mod Room
+pub mod Examples

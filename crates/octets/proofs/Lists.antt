@@ -1,6 +1,6 @@
 -- Laws of lists: a list at a place, tests of every element, equal lists, padding, and parts of lists. Assumes nothing.
 use mathlib.Core.Path.{_≡_, refl, sym, ap, _∙_}
-use mathlib.Core.Bool.{Bool, true, false, true≢false}
+use mathlib.Core.Bool.{Bool, true, false, true≢false, _&&_}
 use mathlib.Core.List.{List, [], _∷_, _++_, map}
 use Prim.Native.Nat.{ℕ, zero, suc, _+_, _≤_, _<_}
 use native.Mathlib.Numerals.{add-one}
@@ -101,6 +101,10 @@ module _ {A : Type 0} (t : A → A → Bool) where
   unfolding sameBy
   sameBy-refl f [] = refl
   sameBy-refl f (x ∷ l) = and-intro (t x x) (sameBy t l l) (f x) (sameBy-refl f l)
+
+  pub sameBy-cons : (x y : A) (l m : List A) → sameBy t (x ∷ l) (y ∷ m) ≡ t x y && sameBy t l m
+  unfolding sameBy
+  sameBy-cons x y l m = refl
 
   pub sameBy-true : ((x y : A) → t x y ≡ true → x ≡ y) → (l m : List A) → sameBy t l m ≡ true → l ≡ m
   unfolding sameBy

@@ -1,15 +1,24 @@
--- Laws of bytes put into room: what is put keeps the length, and adds to what a line holds. Assumes nothing.
+-- Laws of parts of lent bytes, and of bytes put into room: what is put keeps the length, and adds to what a line holds. Assumes nothing.
 use mathlib.Core.Path.{_≡_, refl, sym, ap, _∙_}
 use mathlib.Core.Bool.{Bool, true, false}
 use mathlib.Core.List.{List, [], _++_, append-nil, append-assoc}
-use Prim.Native.Nat.{ℕ, suc, _+_, _≤_, _<_}
+use Prim.Native.Nat.{ℕ, suc, _+_, _-_, _≤_, _<_}
 use native.Mathlib.Nat.{zero-add}
 use native.Mathlib.Omega.{arith}
 use lib.ListN.{length, take, drop, length-append, length-drop}
-use lib.Seq.{take-at, length-take-le}
+use lib.Seq.{take-at, take-all, length-take-le}
 use borrow.Author.Tests.{le-leb, leb-true, leb-false, lt-leb}
-use Rattle.octets.specs.Room.{fits, putAt, endOf, front}
+use Rattle.octets.specs.Room.{part, fits, putAt, endOf, front}
 use Rattle.octets.specs.Held.{Holds, Adds}
+
+-- ---- a part at either end
+pub part-front : (s : List ℕ) (n : ℕ) → part s 0 n ≡ take n s
+unfolding part
+part-front s n = let e : n - 0 ≡ n = omega arith in rw e
+
+pub part-back : (s : List ℕ) (start end : ℕ) → length s ≤ end → part s start end ≡ drop start s
+unfolding part
+part-back s start end h = take-all (end - start) (drop start s) (omega (arith, length-drop start s))
 
 -- ---- what is put
 module _ (out : List ℕ) (at : ℕ) (p : List ℕ) where

@@ -3,10 +3,13 @@ use Prim.Native.Nat.{ℕ, _-_}
 use mathlib.Core.Bool.{Bool, not, cond, _&&_, _||_}
 use lib.Dec.{eqb, leb}
 use Rattle.octets.specs.declared.Class.{Class}
-use Rattle.octets.specs.declared.Class.the-variants.{Plain, NonSpace, Letter, Digit}
+use Rattle.octets.specs.declared.Class.the-variants.{Plain, NonSpace, Letter, Digit, Id, Name}
 
 abbrev pub nul : ℕ
 nul = 0
+
+abbrev pub bell : ℕ
+bell = 7
 
 abbrev pub lf : ℕ
 lf = 10
@@ -16,6 +19,9 @@ cr = 13
 
 abbrev pub space : ℕ
 space = 32
+
+abbrev pub comma : ℕ
+comma = 44
 
 abbrev pub colon : ℕ
 colon = 58
@@ -39,12 +45,22 @@ isLetter b = within 65 b 90 || within 97 b 122
 unfoldable pub isDigit : ℕ → Bool
 isDigit b = within 48 b 57
 
+-- 'A' to 'Z' or '0' to '9'
+unfoldable pub isIdByte : ℕ → Bool
+isIdByte b = within 65 b 90 || within 48 b 57
+
+-- none of SPACE, BELL, NUL, CR, LF and comma
+unfoldable pub isNameByte : ℕ → Bool
+isNameByte b = isPlain b && (not (eqb b space) && (not (eqb b bell) && not (eqb b comma)))
+
 -- the bytes of a class
 abbrev pub inClass : Class → ℕ → Bool
 inClass Plain = isPlain
 inClass NonSpace = isNonSpace
 inClass Letter = isLetter
 inClass Digit = isDigit
+inClass Id = isIdByte
+inClass Name = isNameByte
 
 -- a small letter's capital, any other byte itself
 unfoldable pub capital : ℕ → ℕ

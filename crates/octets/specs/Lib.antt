@@ -1,4 +1,5 @@
 pub mod Bytes
 pub mod Lists
+pub mod Order
 pub mod Room
 pub mod Held

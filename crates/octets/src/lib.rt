@@ -1,4 +1,4 @@
-// Bytes: their classes, a part of a lent slice, bytes put into lent room, and capital letters.
+// Bytes: their classes, byte strings compared, a part of a lent slice, bytes put into lent room, and capital letters.
 // Every function takes any bytes and refuses nothing.
 ghost use mathlib.Core.Path.{_≡_};
 ghost use mathlib.Core.List.{map};
@@ -6,9 +6,13 @@ ghost use Prim.Native.Nat.{_+_, _≤_, min};
 ghost use lib.ListN.{length};
 ghost use lib.Seq.{paste};
 ghost use denote.Ref.{ptr};
-ghost use Rattle.octets.specs.Bytes.{within, isPlain, isLetter, inClass, capital as capitalOf};
+ghost use Rattle.octets.specs.Bytes.{within, isPlain, isLetter, isIdByte, isNameByte, inClass, capital as capitalOf};
 ghost use Rattle.octets.specs.Lists.{all};
+ghost use Rattle.octets.specs.Order.{compare as compareOf};
 ghost use Rattle.octets.specs.Room.{part as partOf, placeIn, putAt, endOf};
+
+// The byte of a bell, which no channel name holds.
+const BELL: u8 = 7;
 
 // What a byte may be, for `all_in`.
 pub enum Class {
@@ -20,6 +24,17 @@ pub enum Class {
     Letter,
     // '0' to '9'
     Digit,
+    // 'A' to 'Z' or '0' to '9'
+    Id,
+    // any but SPACE, BELL, NUL, CR, LF and comma
+    Name,
+}
+
+// How two byte strings stand to each other.
+pub enum Order {
+    Less,
+    Same,
+    More,
 }
 
 // Whether lo ≤ b ≤ hi.
@@ -55,6 +70,32 @@ fn is_letter(b: u8) -> bool
     between(b, b'a', b'z')
 }
 
+// Whether the byte is a capital letter or a digit.
+fn is_id_byte(b: u8) -> bool
+    ensures { λ r. ⌜ r ≡ isIdByte b ⌝ }
+{
+    if between(b, b'A', b'Z') {
+        return true;
+    }
+    between(b, b'0', b'9')
+}
+
+// Whether the byte may stand in a channel name.
+fn is_name_byte(b: u8) -> bool
+    ensures { λ r. ⌜ r ≡ isNameByte b ⌝ }
+{
+    if !is_plain(b) {
+        return false;
+    }
+    if b == b' ' {
+        return false;
+    }
+    if b == BELL {
+        return false;
+    }
+    b != b','
+}
+
 // Whether the byte is of the class.
 fn is_in(b: u8, class: Class) -> bool
     ensures { λ r. ⌜ r ≡ inClass class b ⌝ }
@@ -64,6 +105,8 @@ fn is_in(b: u8, class: Class) -> bool
         Class::NonSpace => b != b' ',
         Class::Letter => is_letter(b),
         Class::Digit => between(b, b'0', b'9'),
+        Class::Id => is_id_byte(b),
+        Class::Name => is_name_byte(b),
     }
 }
 
@@ -79,6 +122,31 @@ pub fn all_in(s: &[u8], class: Class) -> bool
         i += 1;
     }
     true
+}
+
+// How a stands to b: by the first byte that differs, a proper beginning being smaller.
+pub fn compare(a: &[u8], b: &[u8]) -> Order
+    ensures { λ r. ⌜ r ≡ compareOf (now (a .entry)) (now (b .entry)) ⌝ }
+{
+    let mut same = 0;
+    while same < a.len() {
+        if same == b.len() {
+            return Order::More;
+        }
+        let x = a[same];
+        let y = b[same];
+        if x < y {
+            return Order::Less;
+        }
+        if y < x {
+            return Order::More;
+        }
+        same += 1;
+    }
+    if same < b.len() {
+        return Order::Less;
+    }
+    Order::Same
 }
 
 // The lesser of two numbers.

@@ -2,7 +2,7 @@
 use Prim.Native.Nat.{ℕ}
 use mathlib.Core.Bool.{Bool, true, cond, _&&_}
 use mathlib.Core.List.{List, [], _∷_}
-use lib.Dec.{ltb}
+use lib.Dec.{eqb, ltb}
 use Rattle.refusal.specs.Numbers.{accepted}
 
 -- A refusal's number, and whether it applies.
@@ -18,6 +18,10 @@ n when t = record { number = n; applies = t }
 unfoldable pub firstOf : List Rule → ℕ
 firstOf [] = accepted
 firstOf (r ∷ rs) = cond (r .applies) (r .number) (firstOf rs)
+
+-- what is written: the bytes w, or none where a rule applies
+unfoldable pub emitted : List Rule → List ℕ → List ℕ
+emitted rules w = cond (eqb (firstOf rules) accepted) w []
 
 -- each rule's number is above n, and above the one before it: so the first that applies has the lowest number that applies
 unfoldable pub ascendFrom : ℕ → List Rule → Bool

@@ -10,7 +10,7 @@ use lib.Seq.{take-at}
 use lib.Dec.{leb}
 use borrow.Author.Tests.{ne-eqb, lt-ltb, le-ltb, leb-true}
 use Rattle.refusal.specs.Numbers.{accepted, outputTooShort, unwritable, noRoom}
-use Rattle.refusal.specs.Rules.{Rule, firstOf}
+use Rattle.refusal.specs.Rules.{Rule, firstOf, emitted}
 use Rattle.octets.specs.Bytes.{capital}
 use Rattle.octets.specs.Room.{putAt, endOf, front}
 use Rattle.octets.specs.Held.{Holds, Adds}
@@ -23,7 +23,7 @@ use Rattle.message.proofs.Places.{placed-length}
 use Rattle.message.proofs.Readings.{read-small, command-at}
 use Rattle.writer.specs.declared.Written.{Written}
 use Rattle.writer.specs.Form.{written, contentBy, withCommand}
-use Rattle.writer.specs.Writing.{writeRules, forwardRules, forwarded, emitted, answerFor}
+use Rattle.writer.specs.Writing.{writeRules, forwardRules, forwarded, answerFor}
 use Rattle.writer.specs.Fit.{fit, refusedBy}
 use Rattle.writer.proofs.Fitting.{fit-exactly}
 use Rattle.writer.proofs.Rounds.{message-holds, forwarded-reads}

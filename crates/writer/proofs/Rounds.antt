@@ -17,6 +17,7 @@ use Rattle.refusal.proofs.Rules.{first-none}
 use Rattle.octets.specs.Bytes.{capital}
 use Rattle.octets.specs.Lists.{all, padded}
 use Rattle.octets.proofs.Bools.{and-left, and-right, and-intro}
+use Rattle.octets.proofs.Bytes.{capitals-twice}
 use Rattle.octets.proofs.Lists.{take-padded}
 use Rattle.message.specs.declared.Span.{Span}
 use Rattle.message.specs.declared.Message.{Message}
@@ -29,7 +30,7 @@ use Rattle.message.proofs.Readings.{Formed, ends-long, body-length, read-small,
 use Rattle.writer.specs.Form.{writtenBody, written, readsBack, contentBy, liesIn, lies, withCommand, inCapitals}
 use Rattle.writer.specs.Writing.{writeRules, forwardRules, forwarded}
 use Rattle.writer.specs.Fit.{goodSource, goodParams, good}
-use Rattle.writer.proofs.Words.{command-long, command-capital, capitals-twice}
+use Rattle.writer.proofs.Words.{command-long, command-capital}
 use Rattle.writer.proofs.Trips.{content-eq, good-command}
 use Rattle.writer.proofs.Fitting.{formed-good, good-form, good-exactly}
 use Rattle.writer.proofs.Lengths.{body-short}

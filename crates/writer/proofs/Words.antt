@@ -3,11 +3,11 @@
 use mathlib.Core.Path.{_≡_, refl}
 use mathlib.Core.Bool.{Bool, true, false, not, _&&_, _||_, or-true}
 use mathlib.Core.List.{List, [], _∷_, map}
-use Prim.Native.Nat.{ℕ, _-_, _≤_, _<_}
+use Prim.Native.Nat.{ℕ, _≤_, _<_}
 use native.Mathlib.Omega.{arith}
 use lib.ListN.{length, length-map}
 use lib.Dec.{eqb, leb, ltb}
-use borrow.Author.Tests.{ne-eqb, eqb-true, lt-ltb, lt-leb, ltb-true, leb-true}
+use borrow.Author.Tests.{ne-eqb, eqb-true, lt-ltb, ltb-true, leb-true}
 use Rattle.octets.specs.Bytes.{nul, lf, cr, space, colon, within, isPlain, isNonSpace, isLetter, isDigit, capital}
 use Rattle.octets.specs.Lists.{all}
 use Rattle.octets.proofs.Bools.{and-left, and-right, and-intro}
@@ -120,24 +120,3 @@ command-capital w is = rw (length-map w capital) (go (leb 1 (length w) && all is
         let k : eqb (length w) 3 && all isDigit w ≡ true = rw h at is in
         rw (and-left (eqb (length w) 3) (all isDigit w) k, all-map isDigit capital capital-digit w (and-right (eqb (length w) 3) (all isDigit w) k))
         (or-true (leb 1 (length w) && all isLetter (map capital w)))
-
--- ---- what is in capitals stays as it is
-below-within : (lo b hi : ℕ) → b < lo → within lo b hi ≡ false
-unfolding within
-below-within lo b hi h = rw (lt-leb lo b h)
-
-capital-large : (b : ℕ) → within 97 (capital b) 122 ≡ false
-unfolding capital
-capital-large b = go (within 97 b 122) refl
-  where
-    go : (t : Bool) → within 97 b 122 ≡ t → within 97 (capital b) 122 ≡ false
-    go true h = rw h (below-within 97 (b - 32) 122 (omega (arith, within-bounds 97 b 122 h)))
-    go false h = rw (h, h)
-
-large-capital : (b : ℕ) → within 97 b 122 ≡ false → capital b ≡ b
-unfolding capital
-large-capital b h = rw h
-
-pub capitals-twice : (s : List ℕ) → map capital (map capital s) ≡ map capital s
-capitals-twice [] = refl
-capitals-twice (b ∷ s) = rw (large-capital (capital b) (capital-large b), capitals-twice s)

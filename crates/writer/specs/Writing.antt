@@ -1,11 +1,11 @@
 -- When a line is written, and what is answered: the numbers 2, 24 and 25 of document 01, and of a line passed on the reader's 4 to 10.
 use Prim.Native.Nat.{ℕ}
-use mathlib.Core.Bool.{not, cond, _&&_}
+use mathlib.Core.Bool.{not, _&&_}
 use mathlib.Core.List.{List, [], _∷_}
 use lib.ListN.{length}
-use lib.Dec.{eqb, ltb}
-use Rattle.refusal.specs.Numbers.{accepted, outputTooShort, unwritable, noRoom}
-use Rattle.refusal.specs.Rules.{Rule, _when_, firstOf}
+use lib.Dec.{ltb}
+use Rattle.refusal.specs.Numbers.{outputTooShort, unwritable, noRoom}
+use Rattle.refusal.specs.Rules.{Rule, _when_, firstOf, emitted}
 use Rattle.message.specs.declared.Message.{Message}
 use Rattle.message.specs.Grammar.{lineLimit}
 use Rattle.message.specs.Reading.{lineRules, contentOf}
@@ -28,9 +28,5 @@ unfoldable pub forwarded : List ℕ → List ℕ
 forwarded line = written (inCapitals (contentOf line))
 
 -- ---- the answer
--- the bytes that go to the output: w, or none where a rule applies
-unfoldable pub emitted : List Rule → List ℕ → List ℕ
-emitted rules w = cond (eqb (firstOf rules) accepted) w []
-
 unfoldable pub answerFor : List Rule → List ℕ → Written
 answerFor rules w = record { number = firstOf rules; len = length (emitted rules w) }

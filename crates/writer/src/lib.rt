@@ -5,9 +5,10 @@ mod fit;
 mod form;
 
 ghost use mathlib.Core.Path.{_≡_};
+ghost use Rattle.refusal.specs.Rules.{emitted};
 ghost use Rattle.octets.specs.Room.{front};
 ghost use Rattle.writer.specs.Form.{written, contentBy};
-ghost use Rattle.writer.specs.Writing.{writeRules, forwardRules, forwarded, emitted, answerFor};
+ghost use Rattle.writer.specs.Writing.{writeRules, forwardRules, forwarded, answerFor};
 ghost use Rattle.writer.specs.Fit.{refusedBy};
 use fit::fit;
 use form::put_message;

@@ -27,6 +27,18 @@ enum-told-4 c = search needs
 between-requires : tie.Need-between-requires
 between-requires c κs = search needs
 
+enum-told-5 : tie.Need-enum-told-5
+enum-told-5 c = search needs
+
+is-id-byte-requires : tie.Need-is-id-byte-requires
+is-id-byte-requires c κs = search needs
+
+enum-told-6 : tie.Need-enum-told-6
+enum-told-6 c = search needs
+
+is-name-byte-requires : tie.Need-is-name-byte-requires
+is-name-byte-requires c κs = search needs
+
 returns : tie.Need-returns
 returns c = c .is-plain .ensures ∙ ap (λ (k : Class). inClass k (c .before .before .before .args .b)) (sym (c .before .enum-told .given .1))
 
@@ -40,6 +52,12 @@ returns-4 : tie.Need-returns-4
 unfolding isDigit
 returns-4 c = c .between .ensures ∙ ap (λ (k : Class). inClass k (c .before .before .before .args .b)) (sym (c .before .enum-told4 .given .1))
 
+returns-5 : tie.Need-returns-5
+returns-5 c = c .is-id-byte .ensures ∙ ap (λ (k : Class). inClass k (c .before .before .before .args .b)) (sym (c .before .enum-told5 .given .1))
+
+returns-6 : tie.Need-returns-6
+returns-6 c = c .is-name-byte .ensures ∙ ap (λ (k : Class). inClass k (c .before .before .before .args .b)) (sym (c .before .enum-told6 .given .1))
+
 pub is-in-spec : {M : Type 1} → statement M
 is-in-spec =
     tie.close
@@ -51,7 +69,13 @@ is-in-spec =
     is-letter-requires
     enum-told-4
     between-requires
+    enum-told-5
+    is-id-byte-requires
+    enum-told-6
+    is-name-byte-requires
     returns
     returns-2
     returns-3
-    returns-4)
+    returns-4
+    returns-5
+    returns-6)

@@ -1,0 +1,4 @@
+pub mod Masks
+pub mod Sound
+pub mod Steps
+pub mod Examples

@@ -1,0 +1,204 @@
+-- Every step of a match keeps what its state means, and raises its rank; the step that ends it answers rightly. Where a star is passed,
+-- the one before is forgotten: between the two the mask takes one byte for each of its own, so the first place where that part matches
+-- leaves the most to match. Assumes nothing.
+use mathlib.Core.Path.{_≡_, refl, sym, ap, _∙_}
+use mathlib.Core.Bool.{Bool, true, false, cond}
+use mathlib.Core.List.{List, [], _∷_}
+use Prim.Native.Nat.{ℕ, _+_, _-_, _*_, _≤_, _<_}
+use native.Mathlib.Nat.{mul-le-mul-right}
+use native.Mathlib.Omega.{arith}
+use lib.ListN.{length, drop, getD, drop-of-length-le}
+use lib.Seq.{drop-drop}
+use lib.Dec.{eqb}
+use borrow.Author.Tests.{eq-eqb, ne-eqb, eqb-true, eqb-false}
+use Rattle.octets.proofs.Bools.{both-ways}
+use Rattle.octets.proofs.Lists.{drop-step}
+use Rattle.glob.specs.declared.State.{State}
+use Rattle.glob.specs.declared.Progress.{Progress}
+use Rattle.glob.specs.declared.Progress.the-variants.{On, Done}
+use Rattle.glob.specs.Mask.{star, matchesByte, afterRun, matches}
+use Rattle.glob.specs.Stepping.{state, start, back, step}
+use Rattle.glob.proofs.Masks.{run-here, run-nil, run-next, run-first, matches-end, matches-over, matches-star, matches-none, matches-agree, matches-differ, matches-one}
+
+-- ---- what a state means
+-- what follows the last star passed, the whole mask while there is none
+abbrev since : List ℕ → State → List ℕ → Bool
+since mask s = matches (drop (s .star) mask)
+
+-- what is left of mask and text
+abbrev rest : List ℕ → List ℕ → State → Bool
+rest mask text s = matches (drop (s .mask) mask) (drop (s .text) text)
+
+pub record Sound (mask text : List ℕ) (s : State) : Type 0 where
+  pub passed : s .star ≤ s .mask
+  pub in-mask : s .mask ≤ length mask
+  pub in-text : s .text ≤ length text
+  -- since the star as many bytes of the text are taken as of the mask
+  pub level : s .text + s .star ≡ s .run + s .mask
+  -- and so in every text
+  pub exact : (t : List ℕ) → since mask s t ≡ true → matches (drop (s .mask) mask) (drop (s .mask - s .star) t) ≡ true
+  -- with the run as it is, what is left decides
+  pub here : since mask s (drop (s .run) text) ≡ rest mask text s
+  -- the run may grow, if there is a star
+  pub whole : matches mask text ≡ cond (eqb (s .star) 0) (since mask s (drop (s .run) text)) (afterRun (since mask s) (drop (s .run) text))
+
+-- the run never falls, and while it stays, the place in the mask rises
+abbrev pub rank : List ℕ → State → ℕ
+rank mask s = s .run * (length mask + 1) + s .mask
+
+-- what a step comes to
+abbrev pub Leads : List ℕ → List ℕ → State → Progress → Type 0
+Leads mask text s (On t) = Sound mask text t × (rank mask s < rank mask t)
+Leads mask text s (Done answer) = answer ≡ matches mask text
+
+pub start-sound : (mask text : List ℕ) → Sound mask text start
+start-sound mask text = record {
+  passed = omega arith;
+  in-mask = omega arith;
+  in-text = omega arith;
+  level = refl;
+  exact = λ t h. h;
+  here = refl;
+  whole = refl;
+}
+
+module _ (mask text : List ℕ) (s : State) (ok : Sound mask text s) where
+  pub run-in : s .run ≤ s .text
+  run-in = omega (arith, ok .passed, ok .level)
+
+  no-star : s .star ≡ 0 → matches mask text ≡ rest mask text s
+  no-star e = ok .whole ∙ rw (eq-eqb (s .star) 0 e) (ok .here)
+
+  a-star : (s .star ≡ 0 → ⊥) → matches mask text ≡ afterRun (since mask s) (drop (s .run) text)
+  a-star ne = ok .whole ∙ rw (ne-eqb (s .star) 0 ne)
+
+  -- a text that is used up, and one that is not
+  nil : s .text ≡ length text → drop (s .text) text ≡ []
+  nil e = drop-of-length-le text {i = s .text} (omega arith)
+
+  cons : s .text < length text → drop (s .text) text ≡ getD text (s .text) 0 ∷ drop (s .text + 1) text
+  cons h = drop-step text (s .text) 0 h
+
+  -- ---- the end of both
+  ends : s .mask ≡ length mask → s .text ≡ length text → matches mask text ≡ true
+  ends m t = go (eqb (s .star) 0) refl
+    where
+      rest-ends : rest mask text s ≡ true
+      rest-ends = rw (nil t) (matches-end mask (s .mask) (omega arith))
+
+      go : (z : Bool) → eqb (s .star) 0 ≡ z → matches mask text ≡ true
+      go true e = no-star (eqb-true (s .star) 0 e) ∙ rest-ends
+      go false e = a-star (eqb-false (s .star) 0 e) ∙ run-here (since mask s) (drop (s .run) text) (ok .here ∙ rest-ends)
+
+  -- ---- a star
+  module _ (lt : s .mask < length mask) (is : getD mask (s .mask) 0 ≡ star) where
+    abbrev after : List ℕ → Bool
+    after = matches (drop (s .mask + 1) mask)
+
+    -- the star before is forgotten
+    forgotten : afterRun (since mask s) (drop (s .run) text) ≡ afterRun after (drop (s .text) text)
+    forgotten = both-ways _ _ forth (λ e. run-here (since mask s) (drop (s .run) text) (ok .here ∙ matches-star mask (s .mask) lt is (drop (s .text) text) ∙ e))
+      where
+        same-place : drop (s .mask - s .star) (drop (s .run) text) ≡ drop (s .text) text
+        same-place = let e : s .run + (s .mask - s .star) ≡ s .text = omega (arith, ok .passed, ok .level) in drop-drop (s .mask - s .star) (s .run) text ∙ rw e
+
+        forth : afterRun (since mask s) (drop (s .run) text) ≡ true → afterRun after (drop (s .text) text) ≡ true
+        forth e =
+            rw same-place at (run-first (since mask s) after (s .mask - s .star)
+            (λ t h. sym (matches-star mask (s .mask) lt is (drop (s .mask - s .star) t)) ∙ ok .exact t h)
+            (drop (s .run) text) e)
+
+    star-whole : matches mask text ≡ afterRun after (drop (s .text) text)
+    star-whole = go (eqb (s .star) 0) refl
+      where
+        go : (z : Bool) → eqb (s .star) 0 ≡ z → matches mask text ≡ afterRun after (drop (s .text) text)
+        go true e = no-star (eqb-true (s .star) 0 e) ∙ matches-star mask (s .mask) lt is (drop (s .text) text)
+        go false e = a-star (eqb-false (s .star) 0 e) ∙ forgotten
+
+    star-leads : Leads mask text s (On (state (s .mask + 1) (s .text) (s .mask + 1) (s .text)))
+    star-leads = (
+      record {
+        passed = omega arith;
+        in-mask = omega arith;
+        in-text = ok .in-text;
+        level = refl;
+        exact = λ t h. let z : s .mask + 1 - (s .mask + 1) ≡ 0 = omega arith in rw z h;
+        here = refl;
+        whole = star-whole ∙ sym (rw (ne-eqb (s .mask + 1) 0 (λ e. omega arith)));
+      },
+      omega (arith, mul-le-mul-right (length mask + 1) run-in),
+    )
+
+  -- ---- a byte that matches
+  byte-leads : s .mask < length mask → (getD mask (s .mask) 0 ≡ star → ⊥) → s .text < length text → matchesByte (getD mask (s .mask) 0) (getD text (s .text) 0) ≡ true
+      → Leads mask text s (On (state (s .mask + 1) (s .text + 1) (s .star) (s .run)))
+  byte-leads lt ne in-text e = (
+    record {
+      passed = omega (arith, ok .passed);
+      in-mask = omega arith;
+      in-text = omega arith;
+      level = omega (arith, ok .level);
+      exact = λ t h.
+          let n : s .mask - s .star + 1 ≡ s .mask + 1 - s .star = omega (arith, ok .passed) in
+          rw (drop-drop 1 (s .mask - s .star) t, n) at (matches-one mask (s .mask) lt ne (drop (s .mask - s .star) t) (ok .exact t h));
+      here = ok .here ∙ ap (matches (drop (s .mask) mask)) (cons in-text) ∙ matches-agree mask (s .mask) lt ne (getD text (s .text) 0) (drop (s .text + 1) text) e;
+      whole = ok .whole;
+    },
+    omega arith,
+  )
+
+  -- ---- no match with the run as it is
+  module _ (no : rest mask text s ≡ false) where
+    run-ends : (s .star ≡ 0 → ⊥) → s .run ≡ length text → matches mask text ≡ false
+    run-ends ne e =
+        let z : drop (s .run) text ≡ [] = drop-of-length-le text {i = s .run} (omega arith) in
+        a-star ne ∙ rw z (run-nil (since mask s)) ∙ rw z at (ok .here ∙ no)
+
+    run-grows : (s .star ≡ 0 → ⊥) → s .run < length text → matches mask text ≡ afterRun (since mask s) (drop (s .run + 1) text)
+    run-grows ne lt =
+        let z = drop-step text (s .run) 0 lt in
+        a-star ne ∙ rw z (run-next (since mask s) (getD text (s .run) 0) (drop (s .run + 1) text) (rw z at (ok .here ∙ no)))
+
+    back-leads : Leads mask text s (back s (length text))
+    unfolding back
+    back-leads = go (eqb (s .star) 0) refl (eqb (s .run) (length text)) refl
+      where
+        go : (y : Bool) → eqb (s .star) 0 ≡ y → (z : Bool) → eqb (s .run) (length text) ≡ z → Leads mask text s (back s (length text))
+        go true e z f = rw e (sym (no-star (eqb-true (s .star) 0 e) ∙ no))
+        go false e true f = rw (e, f) (sym (run-ends (eqb-false (s .star) 0 e) (eqb-true (s .run) (length text) f)))
+        go false e false f =
+            let lt : s .run < length text = omega (arith, eqb-false (s .run) (length text) f, run-in, ok .in-text) in
+            rw (e, f) (
+              record {
+                passed = omega arith;
+                in-mask = omega (arith, ok .passed, ok .in-mask);
+                in-text = omega arith;
+                level = refl;
+                exact = λ t h. let z : s .star - s .star ≡ 0 = omega arith in rw z h;
+                here = refl;
+                whole = run-grows (eqb-false (s .star) 0 e) lt ∙ sym (rw e);
+              },
+              omega (arith, ok .in-mask),
+            )
+
+  -- ---- any step
+  pub step-leads : Leads mask text s (step mask text s)
+  unfolding step
+  step-leads =
+      go (eqb (s .mask) (length mask)) refl (eqb (s .text) (length text)) refl (eqb (getD mask (s .mask) 0) star) refl (matchesByte (getD mask (s .mask) 0) (getD text (s .text) 0)) refl
+    where
+      in-mask : eqb (s .mask) (length mask) ≡ false → s .mask < length mask
+      in-mask e = omega (arith, eqb-false (s .mask) (length mask) e, ok .in-mask)
+
+      in-text : eqb (s .text) (length text) ≡ false → s .text < length text
+      in-text e = omega (arith, eqb-false (s .text) (length text) e, ok .in-text)
+
+      go : (h : Bool) → eqb (s .mask) (length mask) ≡ h → (i : Bool) → eqb (s .text) (length text) ≡ i
+          → (j : Bool) → eqb (getD mask (s .mask) 0) star ≡ j → (k : Bool) → matchesByte (getD mask (s .mask) 0) (getD text (s .text) 0) ≡ k
+          → Leads mask text s (step mask text s)
+      go true m true t j b k e = rw (m, t) (sym (ends (eqb-true (s .mask) (length mask) m) (eqb-true (s .text) (length text) t)))
+      go true m false t j b k e = rw (m, t) (back-leads (rw (cons (in-text t)) (matches-over mask (s .mask) (omega (arith, eqb-true (s .mask) (length mask) m)) (getD text (s .text) 0) (drop (s .text + 1) text))))
+      go false m i t true b k e = rw (m, b) (star-leads (in-mask m) (eqb-true (getD mask (s .mask) 0) star b))
+      go false m true t false b k e = rw (m, b, t) (back-leads (rw (nil (eqb-true (s .text) (length text) t)) (matches-none mask (s .mask) (in-mask m) (eqb-false (getD mask (s .mask) 0) star b))))
+      go false m false t false b true e = rw (m, b, t, e) (byte-leads (in-mask m) (eqb-false (getD mask (s .mask) 0) star b) (in-text t) e)
+      go false m false t false b false e = rw (m, b, t, e) (back-leads (rw (cons (in-text t)) (matches-differ mask (s .mask) (in-mask m) (eqb-false (getD mask (s .mask) 0) star b) (getD text (s .text) 0) (drop (s .text + 1) text) e)))

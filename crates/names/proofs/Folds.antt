@@ -1,0 +1,109 @@
+-- Laws of the fold and of equal names. Only this file and the proof of `fold` open the fold's definition. Assumes nothing.
+use mathlib.Core.Path.{_≡_, refl, sym, ap, _∙_}
+use mathlib.Core.Bool.{Bool, true, false, _&&_}
+use mathlib.Core.Logic.{_⊎_, inl, inr}
+use mathlib.Core.List.{List, [], _∷_, map}
+use Prim.Native.Nat.{ℕ, _+_, _≤_, _<_}
+use native.Mathlib.Omega.{arith}
+use lib.ListN.{length, drop, getD, length-map, drop-of-length-le}
+use lib.Dec.{eqb}
+use borrow.Author.Tests.{eq-eqb, ne-eqb}
+use Rattle.octets.specs.Bytes.{within}
+use Rattle.octets.proofs.Bytes.{within-bounds, below-within, above-within, same-refl, same-true}
+use Rattle.octets.proofs.Lists.{drop-step, sameBy-cons}
+use Rattle.names.specs.Fold.{fold, sameName}
+use Rattle.names.specs.Names.{hash}
+
+-- ---- single bytes
+-- no byte above ']' is folded
+fold-high : (b : ℕ) → 93 < b → fold b ≡ b
+unfolding fold
+fold-high b h = simp (above-within 65 b 90 (omega arith), ne-eqb b 91 (λ q. omega arith), ne-eqb b 93 (λ q. omega arith), ne-eqb b 92 (λ q. omega arith))
+
+-- a byte's fold lies above ']', or is the byte itself
+folded : (b : ℕ) → (93 < fold b) ⊎ (fold b ≡ b)
+unfolding fold
+folded b = go (within 65 b 90) refl (eqb b 91) refl (eqb b 93) refl (eqb b 92) refl
+  where
+    go : (t : Bool) → within 65 b 90 ≡ t → (u : Bool) → eqb b 91 ≡ u → (v : Bool) → eqb b 93 ≡ v → (w : Bool) → eqb b 92 ≡ w → (93 < fold b) ⊎ (fold b ≡ b)
+    go true e u f v g w h = inl (rw e (omega (arith, within-bounds 65 b 90 e)))
+    go false e true f v g w h = inl (simp (e, f) (omega arith))
+    go false e false f true g w h = inl (simp (e, f, g) (omega arith))
+    go false e false f false g true h = inl (simp (e, f, g, h) (omega arith))
+    go false e false f false g false h = inr (simp (e, f, g, h))
+
+pub fold-idempotent : (b : ℕ) → fold (fold b) ≡ fold b
+fold-idempotent b = go (folded b)
+  where
+    go : (93 < fold b) ⊎ (fold b ≡ b) → fold (fold b) ≡ fold b
+    go (inl h) = fold-high (fold b) h
+    go (inr e) = ap fold e
+
+pub fold-hash : fold hash ≡ hash
+unfolding fold
+fold-hash = rw (below-within 65 hash 90 (omega arith))
+
+-- no other byte's fold is '#'
+pub hash-fold : (b : ℕ) → fold b ≡ hash → b ≡ hash
+hash-fold b e = go (folded b)
+  where
+    go : (93 < fold b) ⊎ (fold b ≡ b) → b ≡ hash
+    go (inl h) = absurd (omega arith)
+    go (inr f) = sym f ∙ e
+
+-- ---- whole names
+pub length-folds : (a : List ℕ) → length (map fold a) ≡ length a
+length-folds a = length-map a fold
+
+pub folds-idempotent : (a : List ℕ) → map fold (map fold a) ≡ map fold a
+folds-idempotent [] = refl
+folds-idempotent (x ∷ a) = rw (fold-idempotent x, folds-idempotent a)
+
+-- names are equal exactly if their folds are
+module _ (a b : List ℕ) where
+  pub name-folds : sameName a b ≡ true → map fold a ≡ map fold b
+  unfolding sameName
+  name-folds e = same-true (map fold a) (map fold b) e
+
+  pub folds-name : map fold a ≡ map fold b → sameName a b ≡ true
+  unfolding sameName
+  folds-name e = rw e (same-refl (map fold b))
+
+  pub name-lengths : sameName a b ≡ true → length a ≡ length b
+  name-lengths e = sym (length-folds a) ∙ ap (λ (l : List ℕ). length l) (name-folds e) ∙ length-folds b
+
+pub name-refl : (a : List ℕ) → sameName a a ≡ true
+name-refl a = folds-name a a refl
+
+pub name-sym : (a b : List ℕ) → sameName a b ≡ true → sameName b a ≡ true
+name-sym a b e = folds-name b a (sym (name-folds a b e))
+
+pub name-trans : (a b c : List ℕ) → sameName a b ≡ true → sameName b c ≡ true → sameName a c ≡ true
+name-trans a b c e f = folds-name a c (name-folds a b e ∙ name-folds b c f)
+
+-- ---- byte by byte
+pub name-cons : (x y : ℕ) (s t : List ℕ) → sameName (x ∷ s) (y ∷ t) ≡ eqb (fold x) (fold y) && sameName s t
+unfolding sameName
+name-cons x y s t = sameBy-cons eqb (fold x) (fold y) (map fold s) (map fold t)
+
+-- at a place of both
+module _ (a b : List ℕ) (i : ℕ) where
+  module _ (h : i < length a) (k : i < length b) where
+    name-step : sameName (drop i a) (drop i b) ≡ eqb (fold (getD a i 0)) (fold (getD b i 0)) && sameName (drop (i + 1) a) (drop (i + 1) b)
+    name-step = rw (drop-step a i 0 h, drop-step b i 0 k) (name-cons (getD a i 0) (getD b i 0) (drop (i + 1) a) (drop (i + 1) b))
+
+    pub name-stop : (fold (getD a i 0) ≡ fold (getD b i 0) → ⊥) → sameName (drop i a) (drop i b) ≡ false
+    name-stop ne = name-step ∙ rw (ne-eqb _ _ ne)
+
+    pub name-go : fold (getD a i 0) ≡ fold (getD b i 0) → sameName (drop i a) (drop i b) ≡ sameName (drop (i + 1) a) (drop (i + 1) b)
+    name-go e = name-step ∙ rw (eq-eqb _ _ e)
+
+  pub name-past : length a ≤ i → length b ≤ i → sameName (drop i a) (drop i b) ≡ true
+  name-past h k = rw (drop-of-length-le a h, drop-of-length-le b k) (name-refl [])
+
+pub lengths-differ : (a b : List ℕ) → (length a ≡ length b → ⊥) → sameName a b ≡ false
+lengths-differ a b ne = go (sameName a b) refl
+  where
+    go : (t : Bool) → sameName a b ≡ t → sameName a b ≡ false
+    go true e = absurd (ne (name-lengths a b e))
+    go false e = e

@@ -1,0 +1,3 @@
+-- Laws that the crates above cite, and examples.
+pub mod Folds
+pub mod Examples

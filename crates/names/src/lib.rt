@@ -1,0 +1,106 @@
+// Channel names, server ids and user ids (document 01, 'Names and ids'): the fold that makes names equal, a test for each kind, and the order
+// of user ids. Any bytes are taken and nothing is refused.
+ghost use mathlib.Core.Path.{_≡_};
+ghost use Rattle.octets.specs.Order.{compare};
+ghost use Rattle.names.specs.Fold.{fold as foldOf, sameName};
+ghost use Rattle.names.specs.Names.{isChannel, isServerId, isUserId};
+use octets::Class;
+use octets::Order;
+use octets::all_in;
+use octets::part;
+
+// The most bytes of a channel name, '#' counted.
+pub const NAME_LIMIT: usize = 50;
+
+// The bytes of a server id, with which a user id begins.
+pub const SERVER_ID: usize = 3;
+
+// The bytes of a user id.
+pub const USER_ID: usize = 9;
+
+// The byte as names are compared: without case, '[', ']' and '\' being the capitals of '{', '}' and '|'.
+pub fn fold(b: u8) -> u8
+    ensures { λ r. ⌜ r ≡ foldOf b ⌝ }
+{
+    match b {
+        b'A'..=b'Z' => b + 32,
+        b'[' => b'{',
+        b']' => b'}',
+        b'\\' => b'|',
+        _ => b,
+    }
+}
+
+// Whether two names are equal: their folds are.
+pub fn equal(a: &[u8], b: &[u8]) -> bool
+    ensures { λ r. ⌜ r ≡ sameName (now (a .entry)) (now (b .entry)) ⌝ }
+{
+    if a.len() != b.len() {
+        return false;
+    }
+    let mut i = 0;
+    while i < a.len() {
+        if fold(a[i]) != fold(b[i]) {
+            return false;
+        }
+        i += 1;
+    }
+    true
+}
+
+// A channel name: '#' and 1 to 49 further bytes, none of them SPACE, BELL, NUL, CR, LF or comma.
+pub fn is_channel(name: &[u8]) -> bool
+    ensures { λ r. ⌜ r ≡ isChannel (now (name .entry)) ⌝ }
+{
+    let n = name.len();
+    if n < 2 {
+        return false;
+    }
+    if NAME_LIMIT < n {
+        return false;
+    }
+    if name[0] != b'#' {
+        return false;
+    }
+    all_in(part(name, 1, n), Class::Name)
+}
+
+// A server id: three bytes, a digit, then two of 'A' to 'Z' or '0' to '9'.
+pub fn is_server_id(id: &[u8]) -> bool
+    ensures { λ r. ⌜ r ≡ isServerId (now (id .entry)) ⌝ }
+{
+    if id.len() != SERVER_ID {
+        return false;
+    }
+    if !all_in(part(id, 0, 1), Class::Digit) {
+        return false;
+    }
+    all_in(part(id, 1, SERVER_ID), Class::Id)
+}
+
+// A user id: nine bytes, a server id, a letter of 'A' to 'Z', then five of 'A' to 'Z' or '0' to '9'.
+pub fn is_user_id(id: &[u8]) -> bool
+    ensures { λ r. ⌜ r ≡ isUserId (now (id .entry)) ⌝ }
+{
+    if id.len() != USER_ID {
+        return false;
+    }
+    if !is_server_id(part(id, 0, SERVER_ID)) {
+        return false;
+    }
+    let b = id[SERVER_ID];
+    if b < b'A' {
+        return false;
+    }
+    if b'Z' < b {
+        return false;
+    }
+    all_in(part(id, SERVER_ID + 1, USER_ID), Class::Id)
+}
+
+// How one user id, held whole, stands to another: byte by byte, as unsigned numbers.
+pub fn compare_ids(a: [u8; USER_ID], b: [u8; USER_ID]) -> Order
+    ensures { λ r. ⌜ r ≡ compare a b ⌝ }
+{
+    octets::compare(&a, &b)
+}
