@@ -3,7 +3,7 @@ use Prim.Native.Nat.{ℕ, _-_}
 use mathlib.Core.Bool.{Bool, not, cond, _&&_, _||_}
 use lib.Dec.{eqb, leb}
 use Rattle.octets.specs.declared.Class.{Class}
-use Rattle.octets.specs.declared.Class.the-variants.{Plain, NonSpace, Letter, Digit, Id, Name}
+use Rattle.octets.specs.declared.Class.the-variants.{Plain, NonSpace, Letter, Digit, Id, Name, Key}
 
 abbrev pub nul : ℕ
 nul = 0
@@ -53,6 +53,10 @@ isIdByte b = within 65 b 90 || within 48 b 57
 unfoldable pub isNameByte : ℕ → Bool
 isNameByte b = isPlain b && (not (eqb b space) && (not (eqb b bell) && not (eqb b comma)))
 
+-- 33 to 126 without comma
+unfoldable pub isKeyByte : ℕ → Bool
+isKeyByte b = not (eqb b comma) && within 33 b 126
+
 -- the bytes of a class
 abbrev pub inClass : Class → ℕ → Bool
 inClass Plain = isPlain
@@ -61,6 +65,7 @@ inClass Letter = isLetter
 inClass Digit = isDigit
 inClass Id = isIdByte
 inClass Name = isNameByte
+inClass Key = isKeyByte
 
 -- a small letter's capital, any other byte itself
 unfoldable pub capital : ℕ → ℕ

@@ -1,5 +1,7 @@
 pub mod Bytes
 pub mod Lists
 pub mod Order
+pub mod Joins
+pub mod Ascending
 pub mod Room
 pub mod Held

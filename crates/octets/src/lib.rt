@@ -6,7 +6,7 @@ ghost use Prim.Native.Nat.{_+_, _≤_, min};
 ghost use lib.ListN.{length};
 ghost use lib.Seq.{paste};
 ghost use denote.Ref.{ptr};
-ghost use Rattle.octets.specs.Bytes.{within, isPlain, isLetter, isIdByte, isNameByte, inClass, capital as capitalOf};
+ghost use Rattle.octets.specs.Bytes.{within, isPlain, isLetter, isIdByte, isNameByte, isKeyByte, inClass, capital as capitalOf};
 ghost use Rattle.octets.specs.Lists.{all};
 ghost use Rattle.octets.specs.Order.{compare as compareOf};
 ghost use Rattle.octets.specs.Room.{part as partOf, placeIn, putAt, endOf};
@@ -28,6 +28,8 @@ pub enum Class {
     Id,
     // any but SPACE, BELL, NUL, CR, LF and comma
     Name,
+    // 33 to 126 without comma
+    Key,
 }
 
 // How two byte strings stand to each other.
@@ -96,6 +98,16 @@ fn is_name_byte(b: u8) -> bool
     b != b','
 }
 
+// Whether the byte may stand in a key.
+fn is_key_byte(b: u8) -> bool
+    ensures { λ r. ⌜ r ≡ isKeyByte b ⌝ }
+{
+    if b == b',' {
+        return false;
+    }
+    between(b, b'!', b'~')
+}
+
 // Whether the byte is of the class.
 fn is_in(b: u8, class: Class) -> bool
     ensures { λ r. ⌜ r ≡ inClass class b ⌝ }
@@ -107,6 +119,7 @@ fn is_in(b: u8, class: Class) -> bool
         Class::Digit => between(b, b'0', b'9'),
         Class::Id => is_id_byte(b),
         Class::Name => is_name_byte(b),
+        Class::Key => is_key_byte(b),
     }
 }
 

@@ -39,6 +39,12 @@ enum-told-6 c = search needs
 is-name-byte-requires : tie.Need-is-name-byte-requires
 is-name-byte-requires c κs = search needs
 
+enum-told-7 : tie.Need-enum-told-7
+enum-told-7 c = search needs
+
+is-key-byte-requires : tie.Need-is-key-byte-requires
+is-key-byte-requires c κs = search needs
+
 returns : tie.Need-returns
 returns c = c .is-plain .ensures ∙ ap (λ (k : Class). inClass k (c .before .before .before .args .b)) (sym (c .before .enum-told .given .1))
 
@@ -58,6 +64,9 @@ returns-5 c = c .is-id-byte .ensures ∙ ap (λ (k : Class). inClass k (c .befor
 returns-6 : tie.Need-returns-6
 returns-6 c = c .is-name-byte .ensures ∙ ap (λ (k : Class). inClass k (c .before .before .before .args .b)) (sym (c .before .enum-told6 .given .1))
 
+returns-7 : tie.Need-returns-7
+returns-7 c = c .is-key-byte .ensures ∙ ap (λ (k : Class). inClass k (c .before .before .before .args .b)) (sym (c .before .enum-told7 .given .1))
+
 pub is-in-spec : {M : Type 1} → statement M
 is-in-spec =
     tie.close
@@ -73,9 +82,12 @@ is-in-spec =
     is-id-byte-requires
     enum-told-6
     is-name-byte-requires
+    enum-told-7
+    is-key-byte-requires
     returns
     returns-2
     returns-3
     returns-4
     returns-5
-    returns-6)
+    returns-6
+    returns-7)
