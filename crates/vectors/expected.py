@@ -5,8 +5,13 @@
     python3 expected.py --check    only compare them; exit 1 on a difference
 
 A record of `stdin` is a word of five bytes, which says what is tried, and
-then what it is tried on. There is one such word: 'line' and a SPACE, before
-a line as received, up to and including its LF.
+then what it is tried on, up to and including LF. The words are, each with a
+SPACE after it,
+
+    line    a line as received
+    name    any bytes, as a channel name, a server id and a user id
+    same    two names with a SPACE between them
+    mask    a mask, a SPACE and a text
 
 For a line that is read, `stdout` has
 
@@ -17,11 +22,21 @@ For a line that is read, `stdout` has
     written W       the fixed form, without CR LF
     forwarded F     the same, the command in capitals
 
-and for one that isn't, `refused K` with its number. An empty line follows.
+and for one that isn't, `refused K` with its number. For the others it has
 
-The reader and the writer below are made from the text of document 01 alone
-("Reading one line" and "The numbers a caller may get"). They share nothing
-with the program that they judge.
+    channel Y       Y being yes or no
+    server Y
+    user Y
+
+    same Y
+
+    match Y         or `refused K`
+
+An empty line follows each record's.
+
+What is below is made from the text of document 01 alone ("Reading one line",
+"Names and ids", "The numbers a caller may get"). It shares nothing with the
+program that it judges.
 """
 
 import argparse
@@ -34,6 +49,8 @@ FOLDER = Path(__file__).resolve().parent
 EXAMPLES = FOLDER / "examples.txt"
 STDIN = FOLDER / "stdin"
 STDOUT = FOLDER / "stdout"
+
+LINE, NAME, SAME, MASK = b"line", b"name", b"same", b"mask"
 
 CR_LF = b"\r\n"
 LF = b"\n"
@@ -62,39 +79,59 @@ def unescape(text: bytes) -> bytes:
     return ESCAPE.sub(escaped_byte, text)
 
 
-def filled_line(arguments: bytes, end: bytes) -> bytes:
-    """Expand 'N BYTE TEXT' to a line of N bytes that ends with `end`."""
-    size, byte, text = arguments.split(SPACE, 2)
+def filled(size: bytes, byte: bytes, text: bytes, end: bytes) -> bytes:
+    """Expand the '...' of a text to give it `size` bytes, its end counted."""
     before, after = text.split(b"...")
     head, tail = unescape(before), unescape(after) + end
     missing = int(size) - len(head) - len(tail)
     if missing < 1:
-        raise ValueError(f"no room to fill: {arguments!r}")
+        raise ValueError(f"no room to fill: {text!r}")
     return head + missing * unescape(byte) + tail
 
 
-def entry_line(entry: bytes) -> bytes:
-    """Return the line, its end included, that one entry or directive gives."""
+def filled_pair(arguments: bytes) -> bytes:
+    """Expand 'N BYTE MASK TEXT', where one of the two has N bytes."""
+    size, byte, *pair = arguments.split(SPACE)
+    parts = [
+        filled(size, byte, part, b"") if b"..." in part else unescape(part)
+        for part in pair
+    ]
+    return SPACE.join(parts)
+
+
+class Record(NamedTuple):
+    """What one entry gives: its word, and what it is tried on."""
+
+    word: bytes
+    text: bytes
+
+
+def entry_record(entry: bytes) -> Record:
+    """Return the record, its LF included, that an entry or directive gives."""
     if not entry.startswith(b"@"):
-        return unescape(entry) + CR_LF
+        return Record(LINE, unescape(entry) + CR_LF)
     directive, _, arguments = entry.partition(SPACE)
     if directive == b"@lf":
-        return unescape(arguments) + LF
+        return Record(LINE, unescape(arguments) + LF)
     if directive == b"@fill":
-        return filled_line(arguments, CR_LF)
+        return Record(LINE, filled(*arguments.split(SPACE, 2), CR_LF))
     if directive == b"@fill-lf":
-        return filled_line(arguments, LF)
+        return Record(LINE, filled(*arguments.split(SPACE, 2), LF))
+    if directive == b"@fill-mask":
+        return Record(MASK, filled_pair(arguments) + LF)
+    if directive[1:] in (NAME, SAME, MASK):
+        return Record(directive[1:], unescape(arguments) + LF)
     raise ValueError(f"unknown directive: {entry!r}")
 
 
-def example_lines(source: bytes) -> List[bytes]:
-    """Return all lines of examples.txt, comments and empty lines left out."""
+def example_records(source: bytes) -> List[Record]:
+    """Return all records of examples.txt, comments and empty lines left out."""
     entries = [text for text in source.split(LF) if text and text[:1] != b"#"]
-    lines = [entry_line(entry) for entry in entries]
-    for line in lines:
-        if LF in line[:-1]:
-            raise ValueError(f"LF inside a line: {line!r}")
-    return lines
+    records = [entry_record(entry) for entry in entries]
+    for record in records:
+        if LF in record.text[:-1]:
+            raise ValueError(f"LF inside a record: {record!r}")
+    return records
 
 
 # --- Reading one line -------------------------------------------------------
@@ -113,7 +150,7 @@ class Message(NamedTuple):
 
 
 class Refused(Exception):
-    """A line that isn't read, with the number that document 01 gives it."""
+    """What is refused, with the number that document 01 gives it."""
 
     def __init__(self, number: int):
         super().__init__(number)
@@ -191,9 +228,38 @@ def write(message: Message) -> bytes:
     return SPACE.join(parts)
 
 
+# --- Names and masks --------------------------------------------------------
+
+LONGEST_TEXT = 512
+CHANNEL = re.compile(rb"#[^ \x07\0\r\n,]{1,49}")
+SERVER_ID = re.compile(rb"[0-9][A-Z0-9]{2}")
+USER_ID = re.compile(rb"[0-9][A-Z0-9]{2}[A-Z][A-Z0-9]{5}")
+FOLD = bytes.maketrans(
+    b"ABCDEFGHIJKLMNOPQRSTUVWXYZ[]\\", b"abcdefghijklmnopqrstuvwxyz{}|"
+)
+
+
+def mask_pattern(mask: bytes) -> bytes:
+    """Return a regular expression that matches what a folded mask does."""
+    wild = {b"*": b".*", b"?": b"."}
+    single = [mask[i : i + 1] for i in range(len(mask))]
+    return b"".join(wild.get(byte) or re.escape(byte) for byte in single)
+
+
+def matches(mask: bytes, text: bytes) -> bool:
+    """Match a mask, or refuse it or the text for its length."""
+    if len(mask) > LONGEST_TEXT or len(text) > LONGEST_TEXT:
+        raise Refused(23)
+    pattern = mask_pattern(mask.translate(FOLD))
+    return bool(re.fullmatch(pattern, text.translate(FOLD), re.DOTALL))
+
+
 # --- The two files ----------------------------------------------------------
 
-LINE_WORD = b"line "
+
+def answer(label: bytes, yes: object) -> bytes:
+    """Return one line of output that answers yes or no."""
+    return label + (b" yes" if yes else b" no")
 
 
 def message_report(message: Message) -> List[bytes]:
@@ -209,21 +275,38 @@ def message_report(message: Message) -> List[bytes]:
     return report
 
 
-def line_report(line: bytes) -> bytes:
-    """Return the output for one input line and the empty line after it."""
+def report(record: Record) -> List[bytes]:
+    """Return the output lines for one record, or refuse it."""
+    if record.word == LINE:
+        return message_report(read(record.text))
+    text = record.text[: -len(LF)]
+    if record.word == NAME:
+        return [
+            answer(b"channel", CHANNEL.fullmatch(text)),
+            answer(b"server", SERVER_ID.fullmatch(text)),
+            answer(b"user", USER_ID.fullmatch(text)),
+        ]
+    first, _, second = text.partition(SPACE)
+    if record.word == SAME:
+        return [answer(b"same", first.translate(FOLD) == second.translate(FOLD))]
+    return [answer(b"match", matches(first, second))]
+
+
+def record_output(record: Record) -> bytes:
+    """Return the output for one record and the empty line after it."""
     try:
-        report = message_report(read(line))
+        lines = report(record)
     except Refused as refusal:
-        report = [b"refused %d" % refusal.number]
-    return LF.join(report) + LF + LF
+        lines = [b"refused %d" % refusal.number]
+    return LF.join(lines) + LF + LF
 
 
 def made_files() -> Dict[Path, bytes]:
     """Return the contents that `stdin` and `stdout` must have."""
-    lines = example_lines(EXAMPLES.read_bytes())
+    records = example_records(EXAMPLES.read_bytes())
     return {
-        STDIN: b"".join(LINE_WORD + line for line in lines),
-        STDOUT: b"".join(line_report(line) for line in lines),
+        STDIN: b"".join(r.word + SPACE + r.text for r in records),
+        STDOUT: b"".join(record_output(record) for record in records),
     }
 
 

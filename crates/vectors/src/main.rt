@@ -1,6 +1,9 @@
-// Runs the records of standard input through the reader and the writer, and prints what comes of each, then an empty line.
+// Tries the records of standard input on the reader, the writer, the tests of names and the matching of masks, and prints what comes of each, then an
+// empty line.
 // A record is a word of five bytes, which says what is tried, and then what it is tried on, up to and including LF.
 // Bytes after the last LF are no record.
+ghost use Prim.Native.Nat.{_≤_};
+ghost use lib.ListN.{length};
 use libc::STDIN_FILENO;
 use libc::STDOUT_FILENO;
 use message::LINE_LIMIT;
@@ -101,15 +104,96 @@ fn show_line(line: &[u8]) {
     show_forwarded(line);
 }
 
-// A whole record. Here alone its first word is looked at.
-fn show_record(record: &[u8]) {
-    let word = part(record, 0, WORD);
-    let rest = part(record, WORD, record.len());
+// One line of output: a label, and yes or no.
+fn print_answer(label: &[u8], yes: bool) {
+    if yes {
+        print_bytes(label, b"yes");
+        return;
+    }
+    print_bytes(label, b"no");
+}
+
+// What the bytes are a name or an id of.
+fn show_name(name: &[u8]) {
+    print_answer(b"channel ", names::is_channel(name));
+    print_answer(b"server ", names::is_server_id(name));
+    print_answer(b"user ", names::is_user_id(name));
+}
+
+// The place of the first SPACE, or the end.
+fn first_space(s: &[u8]) -> usize
+    ensures { λ r. ⌜ r ≤ length (now (s .entry)) ⌝ }
+{
+    let mut i = 0;
+    while i < s.len() {
+        if s[i] == b' ' {
+            return i;
+        }
+        i += 1;
+    }
+    i
+}
+
+// What follows the first SPACE.
+fn after_space(s: &[u8]) -> &[u8] {
+    let at = first_space(s);
+    if at == s.len() {
+        return part(s, at, at);
+    }
+    part(s, at + 1, s.len())
+}
+
+// Whether two names are equal.
+fn show_same(pair: &[u8]) {
+    let first = part(pair, 0, first_space(pair));
+    print_answer(b"same ", names::equal(first, after_space(pair)));
+}
+
+// Whether a mask matches a text.
+fn show_mask(pair: &[u8]) {
+    let mask = part(pair, 0, first_space(pair));
+    let m = glob::matches(mask, after_space(pair));
+    if m.number != ACCEPTED {
+        print_refusal(m.number);
+        return;
+    }
+    print_answer(b"match ", m.yes);
+}
+
+// What is tried on a record's bytes, which end with LF, by its word. Here alone the word is looked at.
+fn show_by(word: &[u8], rest: &[u8]) {
     if check::same(word, b"line ") {
         show_line(rest);
-    } else {
-        print(b"unknown\n");
+        return;
     }
+    let text = without_end(rest);
+    if check::same(word, b"name ") {
+        show_name(text);
+        return;
+    }
+    if check::same(word, b"same ") {
+        show_same(text);
+        return;
+    }
+    if check::same(word, b"mask ") {
+        show_mask(text);
+        return;
+    }
+    print(b"unknown\n");
+}
+
+// The bytes before the last.
+fn without_end(s: &[u8]) -> &[u8] {
+    let n = s.len();
+    if n == 0 {
+        return s;
+    }
+    part(s, 0, n - 1)
+}
+
+// A whole record.
+fn show_record(record: &[u8]) {
+    show_by(part(record, 0, WORD), part(record, WORD, record.len()));
     print(b"\n");
 }
 
