@@ -6,7 +6,7 @@ use Prim.Native.Nat.{ℕ, suc, _+_, _-_, _≤_, _<_}
 use native.Mathlib.Nat.{zero-add}
 use native.Mathlib.Omega.{arith}
 use lib.ListN.{length, take, drop, length-append, length-drop}
-use lib.Seq.{take-at, take-all, length-take-le}
+use lib.Seq.{take-append-seam, drop-append-add, drop-drop, take-at, take-all, length-take-le}
 use borrow.Author.Tests.{le-leb, leb-true, leb-false, lt-leb}
 use Rattle.octets.specs.Room.{part, fits, putAt, endOf, front}
 use Rattle.octets.specs.Held.{Holds, Adds}
@@ -41,6 +41,12 @@ module _ (out : List ℕ) (at : ℕ) (p : List ℕ) where
 -- what is put at the front
 pub put-front : (out p : List ℕ) → length p ≤ length out → putAt out 0 p ≡ front p out
 put-front out p h = put-fits out 0 p (omega arith) ∙ rw (zero-add (length p))
+
+-- and right behind what stands there
+pub put-behind : (out p q : List ℕ) → length p + length q ≤ length out → putAt (front p out) (length p) q ≡ front (p ++ q) out
+put-behind out p q h =
+    put-fits (front p out) (length p) q (omega (arith, length-append p (drop (length p) out), length-drop (length p) out))
+    ∙ rw (take-append-seam p (drop (length p) out), drop-append-add p (drop (length p) out) (length q), drop-drop (length q) (length p) out, length-append p q)
 
 pub length-put : (out : List ℕ) (at : ℕ) (p : List ℕ) → length (putAt out at p) ≡ length out
 length-put out at p = go (fits out at p) refl

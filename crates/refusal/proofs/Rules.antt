@@ -1,4 +1,4 @@
--- Laws of ordered rules: what is known where none applies, and that ascending numbers make the first the lowest. Assumes nothing.
+-- Laws of ordered rules: what is known where none applies, what is written, and that ascending numbers make the first the lowest. Assumes nothing.
 use mathlib.Core.Path.{_≡_, refl, sym, _∙_}
 use mathlib.Core.Bool.{Bool, true, false, true≢false, cond}
 use mathlib.Core.Logic.{_⊎_, inl, inr}
@@ -6,9 +6,9 @@ use mathlib.Core.List.{List, [], _∷_, List·Memᴰ, List·Memᴰ·cases-cons, 
 use Prim.Native.Nat.{ℕ, _≤_, _<_}
 use native.Mathlib.Omega.{arith}
 use lib.Dec.{ltb}
-use borrow.Author.Tests.{ltb-true}
+use borrow.Author.Tests.{ne-eqb, ltb-true}
 use Rattle.refusal.specs.Numbers.{accepted}
-use Rattle.refusal.specs.Rules.{Rule, firstOf, ascendFrom, ascend}
+use Rattle.refusal.specs.Rules.{Rule, firstOf, emitted, ascendFrom, ascend}
 
 -- ---- where none applies
 pub first-none : (r : Rule) (rs : List Rule) → (r .number ≡ accepted → ⊥) → firstOf (r ∷ rs) ≡ accepted → (r .applies ≡ false) × (firstOf rs ≡ accepted)
@@ -18,6 +18,15 @@ first-none r rs ne e = go (r .applies) refl
     go : (t : Bool) → r .applies ≡ t → (r .applies ≡ false) × (firstOf rs ≡ accepted)
     go true h = absurd (ne (rw h at e))
     go false h = (h, rw h at e)
+
+-- ---- what is written
+pub emitted-none : (rules : List Rule) (w : List ℕ) (k : ℕ) → firstOf rules ≡ k → (k ≡ accepted → ⊥) → emitted rules w ≡ []
+unfolding emitted
+emitted-none rules w k e ne = rw (e, ne-eqb k accepted ne)
+
+pub emitted-all : (rules : List Rule) (w : List ℕ) → firstOf rules ≡ accepted → emitted rules w ≡ w
+unfolding emitted
+emitted-all rules w e = rw e
 
 -- ---- the lowest number that applies
 above : (n : ℕ) (r : Rule) (rs : List Rule) → ascendFrom n (r ∷ rs) ≡ true → (n < r .number) × (ascendFrom (r .number) rs ≡ true)

@@ -8,9 +8,10 @@ use native.Mathlib.Omega.{arith}
 use lib.ListN.{length, take, drop, length-map, length-take}
 use lib.Seq.{take-at}
 use lib.Dec.{leb}
-use borrow.Author.Tests.{ne-eqb, lt-ltb, le-ltb, leb-true}
+use borrow.Author.Tests.{lt-ltb, le-ltb, leb-true}
 use Rattle.refusal.specs.Numbers.{accepted, outputTooShort, unwritable, noRoom}
 use Rattle.refusal.specs.Rules.{Rule, firstOf, emitted}
+use Rattle.refusal.proofs.Rules.{emitted-none, emitted-all}
 use Rattle.octets.specs.Bytes.{capital}
 use Rattle.octets.specs.Room.{putAt, endOf, front}
 use Rattle.octets.specs.Held.{Holds, Adds}
@@ -31,13 +32,13 @@ use Rattle.writer.proofs.Rounds.{message-holds, forwarded-reads}
 -- ---- any rules
 module _ (rules : List Rule) (w out : List ℕ) where
   pub answers-refused : (k : ℕ) → firstOf rules ≡ k → (k ≡ accepted → ⊥) → (r : Written) → r ≡ refusedBy k → (r ≡ answerFor rules w) × (out ≡ front (emitted rules w) out)
-  unfolding answerFor emitted
-  answers-refused k e ne r f = (f ∙ rw (e, ne-eqb k accepted ne), rw (e, ne-eqb k accepted ne))
+  unfolding answerFor
+  answers-refused k e ne r f = rw (emitted-none rules w k e ne, e) (f, refl)
 
   pub answers-written : firstOf rules ≡ accepted → (len : ℕ) → len ≡ length w → (next : List ℕ) → next ≡ front w out
       → (record { number = accepted; len = len } ≡ answerFor rules w) × (next ≡ front (emitted rules w) out)
-  unfolding answerFor emitted
-  answers-written e len n next f = (rw (e, n), rw e f)
+  unfolding answerFor
+  answers-written e len n next f = rw (emitted-all rules w e, e, n) (refl, f)
 
 -- ---- a message of spans
 module _ (text : List ℕ) (m : Message) (out : List ℕ) where

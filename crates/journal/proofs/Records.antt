@@ -1,0 +1,71 @@
+-- Laws of day-log records: link and line can be had back from a log that begins with one, and what each rule makes of the answer. Assumes nothing.
+use mathlib.Core.Path.{_≡_, refl, ap, _∙_}
+use mathlib.Core.Bool.{true}
+use mathlib.Core.List.{List, _++_}
+use Prim.Native.Nat.{ℕ, _+_, _≤_, _<_}
+use native.Mathlib.Nat.{div-add-mod'}
+use native.Mathlib.Omega.{arith}
+use lib.ListN.{length}
+use lib.Seq.{take-append-seam}
+use borrow.Author.Tests.{lt-ltb, le-ltb}
+use Rattle.refusal.specs.Numbers.{accepted, badLink, lineTooLong, noRoom}
+use Rattle.refusal.specs.Rules.{firstOf, emitted, ascend, ascendFrom}
+use Rattle.refusal.proofs.Rules.{emitted-none, emitted-all}
+use Rattle.octets.specs.Room.{putAt, front}
+use Rattle.octets.proofs.Room.{put-front, put-behind}
+use Rattle.message.specs.Grammar.{lineLimit}
+use Rattle.journal.specs.declared.Logged.{Logged}
+use Rattle.journal.specs.Journal.{lastLink, headLength, headOf, recordOf, linkIn, lineIn, logRules, answerFor, refusedBy}
+
+-- ---- read back
+pub link-back : (link : ℕ) (line more : List ℕ) → linkIn (recordOf link line ++ more) ≡ link
+unfolding linkIn recordOf
+link-back link line more = refl
+
+pub line-back : (link : ℕ) (line more : List ℕ) → lineIn (recordOf link line ++ more) ≡ line
+unfolding lineIn recordOf
+line-back link line more = rw (div-add-mod' (length line) 256) (take-append-seam line more)
+
+-- ---- the answer
+-- The numbers ascend: the lowest that applies is given.
+pub rules-ascend : (link : ℕ) (line log : List ℕ) → ascend (logRules link line log) ≡ true
+unfolding ascendFrom logRules
+rules-ascend link line log = refl
+
+module _ (link : ℕ) (line log : List ℕ) where
+  answers-refused : (k : ℕ) → firstOf (logRules link line log) ≡ k → (k ≡ accepted → ⊥) → (r : Logged) → r ≡ refusedBy k
+      → (r ≡ answerFor link line log) × (log ≡ front (emitted (logRules link line log) (recordOf link line)) log)
+  unfolding answerFor
+  answers-refused k e ne r f = rw (emitted-none (logRules link line log) (recordOf link line) k e ne, e) (f, refl)
+
+  pub logs-no-link : lastLink < link → (r : Logged) → r ≡ refusedBy badLink
+      → (r ≡ answerFor link line log) × (log ≡ front (emitted (logRules link line log) (recordOf link line)) log)
+  unfolding logRules firstOf
+  logs-no-link h = answers-refused badLink (rw (lt-ltb lastLink link h)) (λ q. omega arith)
+
+  module _ (known : link ≤ lastLink) where
+    pub logs-long : lineLimit < length line → (r : Logged) → r ≡ refusedBy lineTooLong
+        → (r ≡ answerFor link line log) × (log ≡ front (emitted (logRules link line log) (recordOf link line)) log)
+    unfolding logRules firstOf
+    logs-long h = answers-refused lineTooLong (simp (le-ltb lastLink link known, lt-ltb lineLimit (length line) h)) (λ q. omega arith)
+
+    module _ (small : length line ≤ lineLimit) where
+      pub logs-no-room : length log < length line + headLength → (r : Logged) → r ≡ refusedBy noRoom
+          → (r ≡ answerFor link line log) × (log ≡ front (emitted (logRules link line log) (recordOf link line)) log)
+      unfolding logRules firstOf
+      logs-no-room h =
+          answers-refused noRoom (simp (le-ltb lastLink link known, le-ltb lineLimit (length line) small, lt-ltb (length log) (length line + headLength) h)) (λ q. omega arith)
+
+      module _ (room : length line + headLength ≤ length log) where
+        accepts : firstOf (logRules link line log) ≡ accepted
+        unfolding logRules firstOf
+        accepts = simp (le-ltb lastLink link known, le-ltb lineLimit (length line) small, le-ltb (length log) (length line + headLength) room)
+
+        -- head and line, put one behind the other, are the record
+        pub logs : (first next : List ℕ) → first ≡ putAt log 0 (headOf link line) → next ≡ putAt first headLength line
+            → (record { number = accepted; size = length line + headLength } ≡ answerFor link line log) × (next ≡ front (emitted (logRules link line log) (recordOf link line)) log)
+        unfolding answerFor recordOf headOf
+        logs first next e f =
+            let n : length (recordOf link line) ≡ length line + headLength = omega arith in
+            rw (emitted-all (logRules link line log) (recordOf link line) accepts, accepts, n)
+            (refl, f ∙ ap (λ (l : List ℕ). putAt l headLength line) (e ∙ put-front log (headOf link line) (omega arith)) ∙ put-behind log (headOf link line) line (omega arith))
