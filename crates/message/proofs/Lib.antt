@@ -4,3 +4,4 @@ pub mod Relation
 pub mod Places
 pub mod Gathered
 pub mod Readings
+pub mod Examples

@@ -6,3 +6,4 @@ pub mod Fitting
 pub mod Lengths
 pub mod Rounds
 pub mod Answers
+pub mod Examples
