@@ -5,3 +5,4 @@ pub mod Places
 pub mod Gathered
 pub mod Readings
 pub mod Examples
+pub mod Splits

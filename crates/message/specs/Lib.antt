@@ -3,4 +3,5 @@ pub mod Syntax
 pub mod Content
 pub mod Parts
 pub mod Reading
+pub mod Words
 pub mod Scan

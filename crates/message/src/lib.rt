@@ -14,6 +14,7 @@ ghost use Rattle.octets.specs.Room.{placeIn};
 ghost use Rattle.message.specs.Grammar.{lineLimit, isCommand};
 ghost use Rattle.message.specs.Parts.{emptyAt};
 ghost use Rattle.message.specs.Reading.{endsLine, numberOf, countOf, numberFor, readingOf, contentOf, messageOf};
+ghost use Rattle.message.specs.Words.{nextWord};
 ghost use Rattle.message.specs.Scan.{bodyReading};
 use octets::Class;
 use octets::all_in;
@@ -28,6 +29,8 @@ use refusal::NO_LINE_END;
 use refusal::TOO_MANY_PARAMS;
 use scan::blank;
 use scan::message_in;
+use scan::spaces_end;
+use scan::word_end;
 
 // The most bytes of a line, CR LF counted.
 pub const LINE_LIMIT: usize = 512;
@@ -197,4 +200,18 @@ pub fn param(line: &[u8], k: usize) -> &[u8]
     let m = parts(line);
     let s = m.params[k];
     part(line, s.start, s.end)
+}
+
+// The first word at a place or after it: words are parted by one or more SPACEs, and SPACEs at either end are passed over. Where there is none, the
+// empty part at the end.
+pub fn next_word(s: &[u8], at: usize) -> Span
+    ensures { λ r. ⌜ r ≡ nextWord (now (s .entry)) at ⌝ }
+{
+    let n = s.len();
+    if n <= at {
+        return Span { start: n, end: n };
+    }
+    let start = spaces_end(s, at);
+    let end = word_end(s, start);
+    Span { start, end }
 }

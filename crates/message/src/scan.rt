@@ -10,7 +10,7 @@ use crate::PARAM_LIMIT;
 use crate::Span;
 
 // The place after the word at `at`: the next SPACE or the end.
-fn word_end(body: &[u8], at: usize) -> usize
+pub(crate) fn word_end(body: &[u8], at: usize) -> usize
     requires { ⌜ at ≤ length (now body) ⌝ }
     ensures { λ r. ⌜ r ≡ at + length (word (drop at (now (body .entry)))) ⌝ }
 {
@@ -25,7 +25,7 @@ fn word_end(body: &[u8], at: usize) -> usize
 }
 
 // The place after the SPACEs at `at`.
-fn spaces_end(body: &[u8], at: usize) -> usize
+pub(crate) fn spaces_end(body: &[u8], at: usize) -> usize
     requires { ⌜ at ≤ length (now body) ⌝ }
     ensures { λ r. ⌜ r ≡ at + spaces (drop at (now (body .entry))) ⌝ }
 {
