@@ -3,5 +3,7 @@ pub mod Bools
 pub mod Lists
 pub mod Bytes
 pub mod Ordered
+pub mod Joins
+pub mod Bitwise
 pub mod Room
 pub mod Examples

@@ -1,0 +1,43 @@
+-- Laws of tests: at a place of a list, of its first n elements, and of a test that is to come out as another does. Assumes nothing.
+use mathlib.Core.Path.{_≡_, refl, sym, ap, _∙_}
+use mathlib.Core.Bool.{Bool, true, false, not, _&&_, Bool·beq}
+use mathlib.Core.List.{List, _∷_}
+use Prim.Native.Nat.{ℕ, _+_, _≤_, _<_, min}
+use native.Mathlib.Omega.{arith}
+use lib.ListN.{length, take, drop, getD}
+use lib.Seq.{take-all, length-take-le, getD-take}
+use lib.Dec.{leb}
+use borrow.Author.Tests.{leb-true, leb-false}
+use Rattle.octets.specs.Lists.{all}
+use Rattle.octets.proofs.Lists.{drop-step}
+
+-- ---- every element from a place on: the one there, and those behind it
+pub all-step : {A : Type 0} (p : A → Bool) (l : List A) (i : ℕ) (d : A) → i < length l → all p (drop i l) ≡ p (getD l i d) && all p (drop (i + 1) l)
+unfolding all
+all-step p l i d h = rw (drop-step l i d h)
+
+-- ---- the first n at a place
+module _ {A : Type 0} (l : List A) (n i : ℕ) (d : A) (h : i < n) (k : n ≤ length l) where
+  pub front-step : drop i (take n l) ≡ getD l i d ∷ drop (i + 1) (take n l)
+  front-step = drop-step (take n l) i d (omega (arith, length-take-le n l k)) ∙ ap (λ (x : A). x ∷ drop (i + 1) (take n l)) (getD-take n l i d h)
+
+  pub all-front : (p : A → Bool) → all p (drop i (take n l)) ≡ p (getD l i d) && all p (drop (i + 1) (take n l))
+  unfolding all
+  all-front p = rw front-step
+
+-- no more are the first n than there are
+pub take-within : {A : Type 0} (l : List A) (n i : ℕ) → i ≡ min n (length l) → take i l ≡ take n l
+take-within l n i e = go (leb n (length l)) refl
+  where
+    go : (t : Bool) → leb n (length l) ≡ t → take i l ≡ take n l
+    go true h = let q : i ≡ n = omega (arith, leb-true n (length l) h) in rw q
+    go false h = rw (take-all n l (omega (arith, leb-false n (length l) h))) (take-all i l (omega (arith, leb-false n (length l) h)))
+
+-- ---- a test that is to come out as another does
+pub beq-true : (t : Bool) → Bool·beq t true ≡ t
+beq-true true = refl
+beq-true false = refl
+
+pub beq-false : (t : Bool) → Bool·beq t false ≡ not t
+beq-false true = refl
+beq-false false = refl

@@ -1,0 +1,9 @@
+pub mod Limits
+pub mod Modes
+pub mod Key
+pub mod Channel
+pub mod Record
+pub mod WellFormed
+pub mod Merging
+pub mod Members
+pub mod Plain

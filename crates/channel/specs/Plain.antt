@@ -1,0 +1,60 @@
+-- The plain record of lines (document 01, 'Many joins, for demand 3'), of which there is one or more: each line is the channel that it tells of. It is
+-- told of the lines alone and not by merging.
+use Prim.Native.Nat.{ℕ, min, max}
+use mathlib.Core.Bool.{Bool, cond}
+use mathlib.Core.List.{List, [], _∷_, _++_, map}
+use lib.Bits.{bitOr}
+use lib.Dec.{eqb}
+use Rattle.octets.specs.Lists.{same}
+use Rattle.octets.specs.Joins.{total}
+use Rattle.octets.specs.Ascending.{unite}
+use Rattle.channel.specs.declared.Member.{Member}
+use Rattle.channel.specs.Key.{greater}
+use Rattle.channel.specs.Channel.{Channel, member, byId}
+
+-- time: the smallest of their times
+unfoldable pub earliest : Channel → List Channel → ℕ
+earliest l [] = l .time
+earliest l (k ∷ s) = min (l .time) (earliest k s)
+
+-- a line with that time counts
+unfoldable pub counts : ℕ → Channel → Bool
+counts time c = eqb (c .time) time
+
+-- what a line gives if it counts, and nothing otherwise
+abbrev pub counted : {A : Type 0} → A → (Channel → A) → ℕ → Channel → A
+counted nothing f time c = cond (counts time c) (f c) nothing
+
+-- every entry of every line
+unfoldable pub entries : List Channel → List Member
+entries [] = []
+entries (c ∷ s) = c .members ++ entries s
+
+-- every user id that any line names, once, ascending
+unfoldable pub everyone : List Channel → List Member
+everyone s = unite byId [] (entries s)
+
+-- the status that some members give an id: voice if one gives it voice, operator if one gives it operator
+unfoldable pub statusIn : List ℕ → List Member → ℕ
+statusIn id l = total bitOr 0 (λ m. cond (same id (m .id)) (m .status) 0) l
+
+-- the status that the lines that count give an id
+unfoldable pub statusAt : ℕ → List Channel → List ℕ → ℕ
+statusAt time s id = total bitOr 0 (counted 0 (λ c. statusIn id (c .members)) time) s
+
+-- the record of the lines l and s, in that order
+unfoldable pub plain : Channel → List Channel → Channel
+plain l s =
+    let time : ℕ = earliest l s in
+    record {
+      name = l .name;
+      time = time;
+      modes = total bitOr 0 (counted 0 (λ c. c .modes) time) (l ∷ s);
+      key = total greater [] (counted [] (λ c. c .key) time) (l ∷ s);
+      limit = total max 0 (counted 0 (λ c. c .limit) time) (l ∷ s);
+      members = map (λ m. member (m .id) (statusAt time (l ∷ s) (m .id))) (everyone (l ∷ s));
+    }
+
+-- the same channel under another spelling of its name
+unfoldable pub spelled : List ℕ → Channel → Channel
+spelled name c = record { name = name; time = c .time; modes = c .modes; key = c .key; limit = c .limit; members = c .members }

@@ -1,0 +1,121 @@
+// A channel's record (document 01, 'The channel record'): its limits, its modes, its key, its members, and two records merged by the rules of SJOIN.
+// Any record is taken; those that aren't well formed are refused, or answered by the definition that the contract cites.
+pub mod key;
+pub mod members;
+pub mod modes;
+mod well;
+
+ghost use mathlib.Core.Path.{_≡_};
+ghost use Rattle.names.specs.Names.{nameLimit};
+ghost use Rattle.channel.specs.Limits.{memberLimit, keyLimit, slotCount};
+ghost use Rattle.channel.specs.Record.{emptyRecord};
+ghost use Rattle.channel.specs.WellFormed.{wellFormed};
+use members::vacant;
+use names::NAME_LIMIT;
+use names::USER_ID;
+use names::is_channel;
+use octets::part;
+use well::good_key;
+use well::good_limit;
+use well::good_members;
+use well::in_room;
+use well::vacant_from;
+use well::zero_from;
+
+// A member of a channel: its user id, held whole, and its status, voice 1 plus operator 2.
+pub struct Member {
+    pub id: [u8; USER_ID],
+    pub status: u8,
+}
+
+// A channel's record. Unused room is zero. Without k there is no key, without l no limit: 0.
+pub struct Record {
+    pub name: [u8; Record::NAME],
+    pub name_len: usize,
+    pub time: u32,
+    pub modes: u8,
+    pub key: [u8; Record::KEY],
+    pub key_len: usize,
+    pub limit: u16,
+    pub members: [Member; Record::MEMBERS],
+    pub count: usize,
+}
+
+impl Record {
+    // The most members.
+    pub const MEMBERS: usize = 64;
+
+    // The most bytes of a name.
+    pub const NAME: usize = NAME_LIMIT;
+
+    // The most bytes of a key.
+    pub const KEY: usize = 23;
+
+    // The records of a table.
+    pub const SLOTS: usize = 16;
+
+    // No channel: a free slot. The limits of the code are those of the definitions.
+    pub fn empty() -> Record
+        ensures { λ r. ⌜ r ≡ emptyRecord ⌝ }
+        ensures { λ r. do ⌜ ((← ⟦Record::MEMBERS⟧ .entry) ≡ memberLimit) × ((← ⟦Record::NAME⟧ .entry) ≡ nameLimit) × ((← ⟦Record::KEY⟧ .entry) ≡ keyLimit) × ((← ⟦Record::SLOTS⟧ .entry) ≡ slotCount) ⌝ }
+    {
+        let members = vacant();
+        Record {
+            name: [0u8; Record::NAME],
+            name_len: 0,
+            time: 0,
+            modes: 0,
+            key: [0u8; Record::KEY],
+            key_len: 0,
+            limit: 0,
+            members,
+            count: 0,
+        }
+    }
+}
+
+// The number of a refusal, or ACCEPTED, and the merged record, or the first one as given.
+pub struct Merged {
+    pub number: u8,
+    pub result: Record,
+}
+
+// Members in room for all that a record can have, those in use first, the unused places zero.
+pub struct Roster {
+    pub list: [Member; Record::MEMBERS],
+    pub count: usize,
+}
+
+// Whether the record is well formed: what is in use keeps to its room, unused room is zero, and what it holds is a channel.
+pub fn is_well_formed(r: Record) -> bool
+    ensures { λ t. ⌜ t ≡ wellFormed r ⌝ }
+{
+    let name = r.name;
+    let key = r.key;
+    let members = r.members;
+    if !in_room(r.name_len, r.key_len, r.count) {
+        return false;
+    }
+    if !zero_from(&name, r.name_len) {
+        return false;
+    }
+    if !zero_from(&key, r.key_len) {
+        return false;
+    }
+    if !vacant_from(members, r.count) {
+        return false;
+    }
+    if !is_channel(part(&name, 0, r.name_len)) {
+        return false;
+    }
+    if r.time == 0 {
+        return false;
+    }
+    if !good_key(r.modes, part(&key, 0, r.key_len)) {
+        return false;
+    }
+    if !good_limit(r.modes, r.limit) {
+        return false;
+    }
+    good_members(members, r.count)
+}

@@ -1,0 +1,88 @@
+// Member lists: put in order, united in one pass, and a member removed.
+ghost use mathlib.Core.Path.{_≡_};
+ghost use mathlib.Core.List.{[]};
+ghost use Prim.Native.Nat.{min};
+ghost use lib.ListN.{take};
+ghost use Rattle.octets.specs.Lists.{same, padded};
+ghost use Rattle.channel.specs.Limits.{memberLimit};
+ghost use Rattle.channel.specs.Record.{nobody as nobodyOf};
+ghost use Rattle.channel.specs.Members.{roster, ordered as orderedOf, others as othersOf, without as withoutOf};
+use crate::Member;
+use crate::Record;
+use crate::Roster;
+use names::USER_ID;
+use names::compare_ids;
+use octets::Order;
+
+// An unused place.
+pub(crate) fn nobody() -> Member
+    ensures { λ r. ⌜ r ≡ nobodyOf ⌝ }
+{
+    Member {
+        id: [0u8; USER_ID],
+        status: 0,
+    }
+}
+
+// A list with every place unused.
+pub(crate) fn vacant() -> [Member; Record::MEMBERS]
+    ensures { λ r. ⌜ r ≡ padded memberLimit nobodyOf [] ⌝ }
+{
+    let none = nobody();
+    [none; Record::MEMBERS]
+}
+
+// A number of members, or all that there is room for where it is more.
+fn within(n: usize) -> usize
+    ensures { λ r. ⌜ r ≡ min n memberLimit ⌝ }
+{
+    if n < Record::MEMBERS {
+        return n;
+    }
+    Record::MEMBERS
+}
+
+// Whether the member has the id.
+fn has_id(m: Member, id: [u8; USER_ID]) -> bool
+    ensures { λ r. ⌜ r ≡ same id (m .id) ⌝ }
+{
+    let other = m.id;
+    match compare_ids(id, other) {
+        Order::Less => false,
+        Order::Same => true,
+        Order::More => false,
+    }
+}
+
+// All but those with the id, of the first n.
+fn others(members: [Member; Record::MEMBERS], n: usize, id: [u8; USER_ID]) -> Roster
+    ensures { λ r. ⌜ r ≡ roster (othersOf id (take n members)) ⌝ }
+{
+    let mut list = vacant();
+    let mut count = 0;
+    for i in 0..within(n) {
+        let m = members[i];
+        if has_id(m, id) {
+            continue;
+        }
+        list[count] = m;
+        count += 1;
+    }
+    Roster { list, count }
+}
+
+// The record without the member that has the id: the rest moves up, and the freed place is zero. Where nobody is left, the empty record.
+pub fn without(r: Record, id: [u8; USER_ID]) -> Record
+    ensures { λ s. ⌜ s ≡ withoutOf id r ⌝ }
+{
+    let members = r.members;
+    let left = others(members, r.count, id);
+    if left.count == 0 {
+        return Record::empty();
+    }
+    let list = left.list;
+    let mut next = r;
+    next.members = list;
+    next.count = left.count;
+    next
+}

@@ -1,0 +1,173 @@
+// The tests of a well-formed record, each of the part that it judges.
+ghost use mathlib.Core.Path.{_≡_};
+ghost use mathlib.Core.Bool.{not, _&&_, _||_, Bool·beq};
+ghost use Prim.Native.Nat.{_≤_};
+ghost use lib.ListN.{take, drop};
+ghost use lib.Dec.{leb, ltb};
+ghost use Rattle.octets.specs.Lists.{all, isNil};
+ghost use Rattle.octets.specs.Order.{compare};
+ghost use Rattle.octets.specs.Ascending.{isLess, ascends};
+ghost use Rattle.names.specs.Names.{nameLimit};
+ghost use Rattle.channel.specs.Limits.{memberLimit, keyLimit};
+ghost use Rattle.channel.specs.Modes.{hasMode, keyMode, limitMode};
+ghost use Rattle.channel.specs.Key.{isKey};
+ghost use Rattle.channel.specs.Channel.{byId};
+ghost use Rattle.channel.specs.WellFormed.{isZero, isVacant, goodMember};
+use crate::Member;
+use crate::Record;
+use crate::key::is_key;
+use crate::modes::KEY_MODE;
+use crate::modes::LIMIT_MODE;
+use crate::modes::has_mode;
+use names::compare_ids;
+use names::is_user_id;
+use octets::Order;
+
+// The statuses that there are: voice 1 plus operator 2.
+const BOTH: u8 = 3;
+
+// Whether what is in use keeps to its room.
+pub(crate) fn in_room(name_len: usize, key_len: usize, count: usize) -> bool
+    ensures { λ r. ⌜ r ≡ leb «name_len» nameLimit && (leb «key_len» keyLimit && leb count memberLimit) ⌝ }
+{
+    if Record::NAME < name_len {
+        return false;
+    }
+    if Record::KEY < key_len {
+        return false;
+    }
+    count <= Record::MEMBERS
+}
+
+// Whether every byte from a place on is zero: an or over the bytes, and one test.
+pub(crate) fn zero_from(s: &[u8], from: usize) -> bool
+    ensures { λ r. ⌜ r ≡ all isZero (drop from (now (s .entry))) ⌝ }
+{
+    let mut bits = 0u8;
+    let mut i = from;
+    while i < s.len() {
+        bits = bits | s[i];
+        i += 1;
+    }
+    bits == 0
+}
+
+// Whether a place is unused.
+fn is_vacant(m: Member) -> bool
+    ensures { λ r. ⌜ r ≡ isVacant m ⌝ }
+{
+    let id = m.id;
+    if !zero_from(&id, 0) {
+        return false;
+    }
+    m.status == 0
+}
+
+// Whether every place from one on is unused.
+pub(crate) fn vacant_from(members: [Member; Record::MEMBERS], from: usize) -> bool
+    ensures { λ r. ⌜ r ≡ all isVacant (drop from members) ⌝ }
+{
+    let mut i = from;
+    while i < Record::MEMBERS {
+        let m = members[i];
+        if !is_vacant(m) {
+            return false;
+        }
+        i += 1;
+    }
+    true
+}
+
+// Whether there is a key exactly with the mode k, and a good one.
+pub(crate) fn good_key(modes: u8, key: &[u8]) -> bool
+    ensures { λ r. ⌜ r ≡ Bool·beq (hasMode modes keyMode) (not (isNil (now (key .entry)))) && (isNil (now (key .entry)) || isKey (now (key .entry))) ⌝ }
+{
+    if key.len() == 0 {
+        return !has_mode(modes, KEY_MODE);
+    }
+    if !has_mode(modes, KEY_MODE) {
+        return false;
+    }
+    is_key(key)
+}
+
+// Whether there is a limit exactly with the mode l.
+pub(crate) fn good_limit(modes: u8, limit: u16) -> bool
+    ensures { λ r. ⌜ r ≡ Bool·beq (hasMode modes limitMode) (ltb 0 limit) ⌝ }
+{
+    if limit == 0 {
+        return !has_mode(modes, LIMIT_MODE);
+    }
+    has_mode(modes, LIMIT_MODE)
+}
+
+// Whether it is a user id with a status that there is.
+fn good_member(m: Member) -> bool
+    ensures { λ r. ⌜ r ≡ goodMember m ⌝ }
+{
+    let id = m.id;
+    if !is_user_id(&id) {
+        return false;
+    }
+    m.status <= BOTH
+}
+
+// Whether the first n are members.
+fn all_good(members: [Member; Record::MEMBERS], n: usize) -> bool
+    requires { ⌜ n ≤ memberLimit ⌝ }
+    ensures { λ r. ⌜ r ≡ all goodMember (take n members) ⌝ }
+{
+    let mut i = 0;
+    while i < n {
+        let m = members[i];
+        if !good_member(m) {
+            return false;
+        }
+        i += 1;
+    }
+    true
+}
+
+// Whether the first one's id is smaller.
+fn is_below(m: Member, next: Member) -> bool
+    ensures { λ r. ⌜ r ≡ isLess (compare (m .id) (next .id)) ⌝ }
+{
+    let id = m.id;
+    let other = next.id;
+    match compare_ids(id, other) {
+        Order::Less => true,
+        Order::Same => false,
+        Order::More => false,
+    }
+}
+
+// Whether the ids of the first n ascend.
+fn ascending(members: [Member; Record::MEMBERS], n: usize) -> bool
+    requires { ⌜ n ≤ memberLimit ⌝ }
+    ensures { λ r. ⌜ r ≡ ascends byId (take n members) ⌝ }
+{
+    let mut i = 0;
+    while i + 1 < n {
+        let m = members[i];
+        let next = members[i + 1];
+        if !is_below(m, next) {
+            return false;
+        }
+        i += 1;
+    }
+    true
+}
+
+// Whether the first n, one or more, are members in ascending order.
+pub(crate) fn good_members(members: [Member; Record::MEMBERS], n: usize) -> bool
+    requires { ⌜ n ≤ memberLimit ⌝ }
+    ensures { λ r. ⌜ r ≡ leb 1 n && (all goodMember (take n members) && ascends byId (take n members)) ⌝ }
+{
+    if n == 0 {
+        return false;
+    }
+    if !all_good(members, n) {
+        return false;
+    }
+    ascending(members, n)
+}
