@@ -1,6 +1,6 @@
 -- A well-formed record is one that passes the tests of `is_well_formed`, made in that order: what a byte, a number of 16 or 32 bits and an array cannot
 -- be isn't tested. Assumes nothing.
-use mathlib.Core.Path.{_≡_, refl, sym, ap, _∙_}
+use mathlib.Core.Path.{_≡_, refl}
 use mathlib.Core.Bool.{Bool, true, false, not, _&&_, _||_, Bool·beq, and-true, and-assoc}
 use mathlib.Core.List.{List, [], _∷_}
 use Prim.Native.Nat.{ℕ, _≤_, _<_}

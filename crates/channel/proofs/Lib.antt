@@ -1,4 +1,14 @@
--- Laws that the crates above cite, and those that this crate's proofs share.
+-- Laws that the crates above cite, examples, and laws that only this crate's proofs share.
+pub mod Keys
+pub mod Letters
+pub mod Sides
+pub mod Rules
+pub mod Records
+pub mod Proper
+pub mod Plains
+pub mod Merges
+pub mod Removals
+pub mod Examples
 mod Tests
 mod Judging
 mod Gathering

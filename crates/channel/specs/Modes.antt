@@ -1,5 +1,5 @@
 -- Modes kept as one byte: i 1, m 2, n 4, p 8, s 16, t 32, k 64, l 128.
-use Prim.Native.Nat.{ℕ, suc, _/_, _%_, _^_, _<_}
+use Prim.Native.Nat.{ℕ, suc, _/_, _%_, _^_}
 use mathlib.Core.Bool.{Bool, cond}
 use mathlib.Core.List.{List, [], _∷_}
 use lib.Bits.{bitOr}

@@ -1,6 +1,5 @@
 -- The record that holds a channel: arrays with the unused room zero.
-use Prim.Native.Nat.{ℕ}
-use mathlib.Core.List.{List, []}
+use mathlib.Core.List.{[]}
 use lib.ListN.{length, take, replicate}
 use Rattle.octets.specs.Lists.{padded}
 use Rattle.names.specs.Names.{nameLimit, userIdLength}

@@ -6,7 +6,7 @@ ghost use lib.ListN.{take};
 ghost use Rattle.octets.specs.Lists.{same, padded};
 ghost use Rattle.channel.specs.Limits.{memberLimit};
 ghost use Rattle.channel.specs.Record.{nobody as nobodyOf};
-ghost use Rattle.channel.specs.Members.{roster, ordered as orderedOf, others as othersOf, without as withoutOf};
+ghost use Rattle.channel.specs.Members.{roster, others as othersOf, without as withoutOf};
 use crate::Member;
 use crate::Record;
 use crate::Roster;

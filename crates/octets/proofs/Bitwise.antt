@@ -1,13 +1,13 @@
 -- Laws of bits: a shift and a mask test one, a number's bits lie below its width, and a union has the bits of both. Assumes nothing.
-use mathlib.Core.Path.{_≡_, refl, sym, ap, _∙_}
-use mathlib.Core.Bool.{Bool, true, false, true≢false, not, _&&_, _||_}
-use Prim.Native.Nat.{ℕ, zero, suc, _+_, _-_, _*_, _/_, _%_, _^_, _≤_, _<_, max}
-use native.Mathlib.Nat.{div-eq-of-lt, mod-lt, mod-eq-of-lt, one-mul}
+use mathlib.Core.Path.{_≡_, refl, sym, _∙_}
+use mathlib.Core.Bool.{Bool, true, false, true≢false, _||_}
+use Prim.Native.Nat.{ℕ, zero, suc, _*_, _/_, _%_, _^_, _≤_, _<_, max}
+use native.Mathlib.Nat.{div-eq-of-lt, mod-eq-of-lt, one-mul}
 use native.Mathlib.Omega.{arith}
 use lib.Bits.{bitAnd, bitOr, and-mask}
-use lib.Dec.{eqb, leb, ltb}
-use lib.Pow.{pow-lt, pow-mono, pow-pos, split, high, low, shr-shr}
-use borrow.Author.Tests.{eq-eqb, ne-eqb, eqb-true, eqb-false, leb-true, leb-false}
+use lib.Dec.{eqb, leb}
+use lib.Pow.{pow-lt, pow-mono}
+use borrow.Author.Tests.{leb-true, leb-false}
 use Rattle.octets.specs.Bits.{hasBit}
 use Rattle.octets.proofs.Joins.{bits-digit}
 

@@ -1,6 +1,6 @@
--- Laws of `&&`, and of two tests that imply each other. Assumes nothing.
+-- Laws of `&&`, and of two tests that imply or equal each other. Assumes nothing.
 use mathlib.Core.Path.{_≡_, refl, sym}
-use mathlib.Core.Bool.{Bool, true, false, true≢false, _&&_}
+use mathlib.Core.Bool.{Bool, true, false, true≢false, _&&_, Bool·beq}
 
 pub and-left : (a b : Bool) → a && b ≡ true → a ≡ true
 and-left true b e = refl
@@ -13,6 +13,9 @@ and-right false b e = absurd (true≢false (sym e))
 pub and-intro : (a b : Bool) → a ≡ true → b ≡ true → a && b ≡ true
 and-intro a b e f = rw e f
 
+pub and-three : (a b c : Bool) → a && (b && c) ≡ true → (a ≡ true) × (b ≡ true) × (c ≡ true)
+and-three a b c h = let k = and-right a (b && c) h in (and-left a (b && c) h, and-left b c k, and-right b c k)
+
 pub and-swap : (a b c d : Bool) → (a && b) && (c && d) ≡ (a && c) && (b && d)
 and-swap true true c d = refl
 and-swap true false true d = refl
@@ -24,3 +27,14 @@ pub both-ways : (a b : Bool) → (a ≡ true → b ≡ true) → (b ≡ true →
 both-ways true b f g = sym (f refl)
 both-ways false true f g = g refl
 both-ways false false f g = refl
+
+-- the test of equal tests
+pub beq-says : (a b : Bool) → Bool·beq a b ≡ true → a ≡ b
+beq-says true true e = refl
+beq-says true false e = sym e
+beq-says false true e = e
+beq-says false false e = refl
+
+pub beq-refl : (a : Bool) → Bool·beq a a ≡ true
+beq-refl true = refl
+beq-refl false = refl

@@ -1,14 +1,14 @@
--- Laws of lists: a list at a place, tests of every element, equal lists, padding, and parts of lists. Assumes nothing.
+-- Laws of lists: a list at a place, tests of every element, lists of tests, equal lists, padding, and parts of lists. Assumes nothing.
 use mathlib.Core.Path.{_≡_, refl, sym, ap, _∙_}
 use mathlib.Core.Bool.{Bool, true, false, true≢false, _&&_}
 use mathlib.Core.List.{List, [], _∷_, _++_, map}
-use Prim.Native.Nat.{ℕ, zero, suc, _+_, _≤_, _<_}
+use Prim.Native.Nat.{ℕ, zero, suc, _+_, _-_, _≤_, _<_}
 use native.Mathlib.Numerals.{add-one}
 use native.Mathlib.Omega.{arith}
-use lib.ListN.{length, take, drop, getD, set, replicate, drop-of-length-le, length-append, length-drop, length-map, length-replicate, getD-replicate}
-use lib.Seq.{drop-cons, take-append-le, drop-append-le, take-append-seam, length-take-le, take-take, getD-take, sets}
-use lib.Dec.{eqb}
-use borrow.Author.Tests.{ne-eqb}
+use lib.ListN.{length, take, drop, getD, set, replicate, drop-of-length-le, length-append, length-take, length-drop, length-map, length-replicate, getD-replicate, List·getD-eq-default}
+use lib.Seq.{drop-cons, take-append-le, drop-append-le, take-append-seam, length-take-le, take-take, getD-take, getD-drop, ext-getD, sets}
+use lib.Dec.{eqb, ltb}
+use borrow.Author.Tests.{ne-eqb, ltb-true, ltb-false}
 use Rattle.octets.specs.Lists.{all, isNil, sameBy, padded}
 use Rattle.octets.proofs.Bools.{and-left, and-right, and-intro}
 
@@ -85,6 +85,16 @@ module _ {A : Type 0} (p : A → Bool) where
   all-at (x ∷ s) zero d h = λ lt. all-head x s h
   all-at (x ∷ s) (suc k) d h = λ lt. all-at s k d (all-tail x s h) (omega arith)
 
+  pub all-from : (n : ℕ) (s : List A) (d : A) → all p (drop n s) ≡ true → (k : ℕ) → n ≤ k → k < length s → p (getD s k d) ≡ true
+  all-from n s d h k f g =
+      let e : n + (k - n) ≡ k = omega arith in
+      rw (getD-drop n s (k - n) d, e) at (all-at (drop n s) (k - n) d h (omega (arith, length-drop n s)))
+
+  pub at-all : (s : List A) (d : A) → ((k : ℕ) → k < length s → p (getD s k d) ≡ true) → all p s ≡ true
+  unfolding all
+  at-all [] d h = refl
+  at-all (x ∷ s) d h = all-cons x s (h zero (omega arith)) (at-all s d (λ k lt. h (suc k) (omega arith)))
+
   pub all-imp : (q : A → Bool) → ((x : A) → p x ≡ true → q x ≡ true) → (s : List A) → all p s ≡ true → all q s ≡ true
   unfolding all
   all-imp q f [] h = refl
@@ -94,6 +104,15 @@ module _ {A : Type 0} (p : A → Bool) where
   unfolding all
   all-map f keeps [] h = refl
   all-map f keeps (x ∷ s) h = and-intro (p (f x)) (all p (map f s)) (keeps x (all-head x s h)) (all-map f keeps s (all-tail x s h))
+
+-- ---- a list of tests that all pass
+abbrev pub Passed : List Bool → Type 0
+Passed [] = Unit {0}
+Passed (t ∷ l) = (t ≡ true) × Passed l
+
+pub all-passed : (l : List Bool) → all (λ t. t) l ≡ true → Passed l
+all-passed [] h = tt
+all-passed (t ∷ l) h = (all-head (λ u. u) t l h, all-passed l (all-tail (λ u. u) t l h))
 
 -- ---- equal lists, over any test of two elements that tells equal from different
 module _ {A : Type 0} (t : A → A → Bool) where
@@ -137,6 +156,26 @@ module _ {A : Type 0} (x : A) where
   pub take-padded : (n : ℕ) (l : List A) → length l ≤ n → take (length l) (padded n x l) ≡ l
   unfolding padded
   take-padded n l h = take-take (length l) n (l ++ replicate n x) h ∙ take-append-seam l (replicate n x)
+
+  -- the places that it leaves open hold x
+  pub all-padded : (p : A → Bool) → p x ≡ true → (n : ℕ) (l : List A) → all p (drop (length l) (padded n x l)) ≡ true
+  all-padded p h n l = at-all p (drop (length l) (padded n x l)) x (λ k lt. rw (free k (omega (arith, length-drop (length l) (padded n x l), length-padded n l))) h)
+    where
+      free : (k : ℕ) → length l + k < n → getD (drop (length l) (padded n x l)) k x ≡ x
+      free k lt =
+          getD-drop (length l) (padded n x l) k x ∙ getD-padded n l (length l + k) x lt ∙ List·getD-eq-default l x {n = length l + k} (omega arith)
+
+  -- a list that holds x from a place on is the padded list of what stands before it
+  pub padded-take : (n m : ℕ) (l : List A) → length l ≡ m → ((k : ℕ) → n ≤ k → k < m → getD l k x ≡ x) → padded m x (take n l) ≡ l
+  padded-take n m l e room =
+      ext-getD x (padded m x (take n l)) l (length-padded m (take n l) ∙ sym e)
+      (λ k h. getD-padded m (take n l) k x (omega (arith, length-padded m (take n l))) ∙ go k (ltb k n) refl (omega (arith, length-padded m (take n l))))
+    where
+      go : (k : ℕ) (t : Bool) → ltb k n ≡ t → k < m → getD (take n l) k x ≡ getD l k x
+      go k true p h = getD-take n l k x (ltb-true k n p)
+      go k false p h =
+          let q : n ≤ k = ltb-false k n p in
+          List·getD-eq-default (take n l) x {n = k} (omega (arith, length-take n l)) ∙ sym (room k q h)
 
   -- values set one after the other from the front, those past the end lost, are the padded list of them
   sets-nil : (i : ℕ) (vs : List A) → sets [] i vs ≡ []

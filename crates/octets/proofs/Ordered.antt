@@ -9,6 +9,8 @@ use lib.Dec.{eqb, ltb}
 use borrow.Author.Tests.{eq-eqb, ne-eqb, lt-ltb, le-ltb, eqb-true, eqb-false, ltb-true, ltb-false}
 use Rattle.octets.specs.declared.Order.the-variants.{Less, Same, More}
 use Rattle.octets.specs.Order.{compare, opposite}
+use Rattle.octets.specs.Lists.{same}
+use Rattle.octets.proofs.Bytes.{same-true}
 
 -- ---- the first byte of each
 module _ (x y : ℕ) (s t : List ℕ) where
@@ -93,3 +95,23 @@ compare-trans (x ∷ s) (y ∷ t) (z ∷ u) e f = go (less-heads x y s t e) (les
     go (inl h) (inr k) ih = heads-less x z s u (omega arith)
     go (inr h) (inl k) ih = heads-less x z s u (omega arith)
     go (inr h) (inr k) ih = heads-same x z s u (h .0 ∙ k .0) ∙ ih (h .1) (k .1)
+
+-- ---- the smaller of two
+abbrev pub Below : List ℕ → List ℕ → Type 0
+Below a b = compare a b ≡ Less
+
+pub below-more : (a b : List ℕ) → Below a b → compare b a ≡ More
+unfolding opposite
+below-more a b h = compare-swap a b ∙ ap opposite h
+
+pub more-below : (a b : List ℕ) → compare a b ≡ More → Below b a
+unfolding opposite
+more-below a b h = compare-swap a b ∙ ap opposite h
+
+-- a smaller list is another one
+pub below-same : (a b : List ℕ) → Below a b → same a b ≡ false
+below-same a b h = go (same a b) refl
+  where
+    go : (t : Bool) → same a b ≡ t → t ≡ false
+    go true e = let q : compare b b ≡ Less = rw (same-true a b e) at h in let r = compare-refl b in let z : _≡_ {A = ℕ} 0 1 = cc in absurd (omega arith)
+    go false e = refl

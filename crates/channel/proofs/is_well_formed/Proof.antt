@@ -1,18 +1,14 @@
 -- `is_well_formed` meets its contract: each return is the first test that fails, after those that passed. Assumes nothing.
 use mathlib.Core.Path.{_≡_, sym, ap, _∙_}
-use mathlib.Core.Bool.{Bool, true, false}
-use mathlib.Core.List.{List}
-use Prim.Native.Nat.{ℕ, _≤_, _<_}
 use native.Mathlib.Omega.{arith}
 use lib.ListN.{length, take, drop}
-use lib.Dec.{leb}
 use borrow.Author.Needs.{needs}
 use borrow.Author.Tests.{le-leb, lt-leb, not-true, not-false}
 use Rattle.names.specs.Names.{isChannel}
 use Rattle.octets.proofs.Lists.{unmapped}
 use Rattle.octets.proofs.Room.{part-front}
 use Rattle.channel.specs.declared.Record.{Record}
-use Rattle.channel.specs.Limits.{memberLimit, timeLimit, limitLimit}
+use Rattle.channel.specs.Limits.{memberLimit}
 use Rattle.channel.specs.WellFormed.{inRoom, wellFormed}
 use Rattle.channel.proofs.Judging.{passed, pass, fail, last, keyTest, tests, well-tests, in-room-count}
 use Rattle.channel.proofs.is_well_formed.Statement.{statement}

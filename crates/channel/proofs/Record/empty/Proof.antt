@@ -1,5 +1,5 @@
 -- `Record::empty` meets its contract: nothing padded is all padding, and the limits are the same numbers. Assumes nothing.
-use mathlib.Core.Path.{_≡_, refl, ap}
+use mathlib.Core.Path.{refl, ap}
 use mathlib.Core.List.{List}
 use lib.ListN.{replicate}
 use borrow.Author.Needs.{needs}

@@ -1,17 +1,15 @@
 -- `others` meets its contract. The invariant: the list gathers those of the first i that stay. Assumes nothing.
-use mathlib.Core.Path.{_≡_, refl, sym, ap, subst, _∙_}
-use mathlib.Core.Bool.{true, false}
-use mathlib.Core.List.{List, []}
-use Prim.Native.Nat.{ℕ, _+_, _-_, _≤_, _<_}
+use mathlib.Core.Path.{_≡_, refl, sym, ap, _∙_}
+use mathlib.Core.List.{List}
+use Prim.Native.Nat.{_-_, _≤_, _<_}
 use native.Mathlib.Omega.{arith}
-use lib.ListN.{length, take, length-take}
-use lib.Seq.{take-all}
+use lib.ListN.{length, take}
 use borrow.Author.Needs.{needs}
 use Rattle.channel.specs.declared.Member.{Member}
 use Rattle.channel.specs.Limits.{memberLimit}
 use Rattle.channel.specs.Members.{roster, others}
-use Rattle.channel.proofs.Gathering.{Gathers, gathers-length, gathers-more, gathers-roster}
-use Rattle.channel.proofs.Others.{others-in, others-gone, others-stay}
+use Rattle.channel.proofs.Gathering.{Gathers, gathers-more, gathers-roster}
+use Rattle.channel.proofs.Others.{others-gone, others-stay}
 use Rattle.channel.proofs.Tests.{take-within}
 use Rattle.channel.proofs.members.others.Statement.{statement}
 use Rattle.channel.proofs.members.others.Tie as tie

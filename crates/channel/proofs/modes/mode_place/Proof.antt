@@ -1,6 +1,5 @@
 -- `mode_place` meets its contract: each arm is a letter whose place is computed, and a byte that is none of them passes all eight. Assumes nothing.
-use mathlib.Core.Path.{_≡_, sym, ap}
-use Prim.Native.Nat.{ℕ}
+use mathlib.Core.Path.{sym, ap}
 use borrow.Author.Tests.{ne-eqb}
 use Rattle.channel.specs.Modes.{placeAmong, modePlace}
 use Rattle.channel.proofs.modes.mode_place.Statement.{statement}

@@ -1,5 +1,4 @@
 -- `with_mode` meets its contract: 1 shifted to one of the eight places is that power of two, and still a byte. Assumes nothing.
-use mathlib.Core.Path.{_≡_}
 use Prim.Native.Nat.{_<_}
 use native.Mathlib.Nat.{one-mul, mod-eq-of-lt}
 use lib.Pow.{pow-lt}

@@ -1,17 +1,14 @@
 -- `all_good` meets its contract. The invariant: all of the first n are members exactly if those from i on are. Assumes nothing.
 use mathlib.Core.Path.{_≡_, refl, sym, ap, _∙_}
-use mathlib.Core.Bool.{Bool, _&&_, true, false}
-use mathlib.Core.List.{List}
-use Prim.Native.Nat.{ℕ, _-_, _+_, _≤_, _<_}
+use mathlib.Core.Bool.{Bool, _&&_}
+use Prim.Native.Nat.{_-_, _+_, _≤_}
 use native.Mathlib.Omega.{arith}
-use lib.ListN.{length, take, drop, getD}
-use lib.Seq.{length-take-le, getD-take}
+use lib.ListN.{take, drop}
+use lib.Seq.{length-take-le}
 use borrow.Author.Needs.{needs}
 use borrow.Author.Tests.{not-true, not-false}
 use Rattle.octets.specs.Lists.{all}
-use Rattle.octets.proofs.Lists.{all-past, all-stop, all-go}
-use Rattle.channel.specs.declared.Member.{Member}
-use Rattle.channel.specs.Limits.{memberLimit}
+use Rattle.octets.proofs.Lists.{all-past}
 use Rattle.channel.specs.WellFormed.{goodMember}
 use Rattle.channel.proofs.Tests.{all-front}
 use Rattle.channel.proofs.well.all_good.Statement.{statement}

@@ -1,0 +1,98 @@
+-- Merging is associative, commutative but for the spelling, and idempotent, and records merged one after the other give the plain record of all.
+-- A record whose members ascend is the plain record of itself alone, and merging plain records gives that of all their lines. Assumes nothing.
+use Prim.Native.Nat.{ℕ, _≤_, min}
+use mathlib.Core.Path.{_≡_, refl, sym, ap, ap₂, _∙_}
+use mathlib.Core.Bool.{Bool, false, _||_, or-assoc, or-false}
+use mathlib.Core.List.{List, [], _∷_, _++_, append-assoc, append-nil, List·Memᴰ, List·Memᴰ·head, List·Memᴰ·tail}
+use native.Mathlib.Omega.{arith}
+use lib.ListN.{length}
+use Rattle.octets.specs.Joins.{total}
+use Rattle.octets.proofs.Joins.{joining-max, joining-bits}
+use Rattle.octets.proofs.Ascends.{Ascending}
+use Rattle.octets.proofs.Contents.{has-unite, same-length, unite-comm, unite-self}
+use Rattle.channel.specs.Channel.{Channel, byId}
+use Rattle.channel.specs.Merging.{given, standing, merge}
+use Rattle.channel.specs.Plain.{earliest, everyone, plain, spelled}
+use Rattle.channel.proofs.Keys.{joining-greater}
+use Rattle.channel.proofs.Sides.{channel-path, lawful-byId, named, Timed, stands-own, has-standing, ascending-standing, ascending-merge}
+use Rattle.channel.proofs.Plains.{earliest-append, has-everyone, ascending-everyone, merge-plain, plain-single}
+
+-- A record whose members ascend, and which has a time.
+abbrev pub Fair : Channel → Type 0
+Fair c = Ascending byId (c .members) × Timed c
+
+-- ---- commutative but for the spelling, and idempotent
+pub merge-comm : (a b : Channel) → Ascending byId (a .members) → Ascending byId (b .members) → merge a b ≡ spelled (a .name) (merge b a)
+unfolding merge spelled
+merge-comm a b h k =
+    let m : ℕ = min (b .time) (a .time) in
+    let e : min (a .time) (b .time) ≡ m = omega arith in
+    rw e (channel-path refl refl
+    (joining-bits .comm (given 0 (λ c. c .modes) m a) (given 0 (λ c. c .modes) m b))
+    (joining-greater .comm (given [] (λ c. c .key) m a) (given [] (λ c. c .key) m b))
+    (joining-max .comm (given 0 (λ c. c .limit) m a) (given 0 (λ c. c .limit) m b))
+    (unite-comm byId 0 lawful-byId (standing m a) (standing m b) (ascending-standing m a h) (ascending-standing m b k)))
+
+pub merge-self : (a : Channel) → Ascending byId (a .members) → merge a a ≡ a
+unfolding merge standing
+merge-self a h =
+    let e : min (a .time) (a .time) ≡ a .time = omega arith in
+    rw (e, stands-own a) (channel-path refl refl (joining-bits .idem _) (joining-greater .idem _) (joining-max .idem _) (unite-self byId 0 lawful-byId (a .members) h))
+
+-- ---- one after the other
+-- the records of s merged into l
+unfoldable pub folded : Channel → List Channel → Channel
+folded l [] = l
+folded l (k ∷ s) = folded (merge l k) s
+
+-- one record more
+plain-snoc : (l k : Channel) (s : List Channel) → 1 ≤ earliest l s → Fair k → merge (plain l s) k ≡ plain l (s ++ k ∷ [])
+unfolding earliest
+plain-snoc l k s g h = ap (merge (plain l s)) (sym (plain-single k (h .0))) ∙ merge-plain l k s [] g (h .1)
+
+plain-folded : (l : Channel) (s t : List Channel) → 1 ≤ earliest l s → ((k : Channel) → List·Memᴰ k t → Fair k) → folded (plain l s) t ≡ plain l (s ++ t)
+unfolding folded earliest
+plain-folded l s [] g h = ap (plain l) (sym (append-nil s))
+plain-folded l s (k ∷ t) g h =
+    let f : Fair k = h k (List·Memᴰ·head refl) in
+    ap (λ (c : Channel). folded c t) (plain-snoc l k s g f)
+    ∙ plain-folded l (s ++ k ∷ []) t (omega (arith, earliest-append l k s [])) (λ j i. h j (List·Memᴰ·tail i)) ∙ ap (plain l) (append-assoc s (k ∷ []) t)
+
+-- records merged one after the other give the plain record
+pub folded-plain : (l : Channel) (s : List Channel) → ((k : Channel) → List·Memᴰ k (l ∷ s) → Fair k) → folded l s ≡ plain l s
+unfolding earliest
+folded-plain l s h =
+    let f : Fair l = h l (List·Memᴰ·head refl) in
+    ap (λ (c : Channel). folded c s) (sym (plain-single l (f .0))) ∙ plain-folded l [] s (f .1) (λ k i. h k (List·Memᴰ·tail i))
+
+-- ---- associative
+merge-pair : (a b : Channel) → Fair a → Fair b → merge a b ≡ plain a (b ∷ [])
+unfolding earliest
+merge-pair a b p q = ap (λ (c : Channel). merge c b) (sym (plain-single a (p .0))) ∙ plain-snoc a b [] (p .1) q
+
+pub merge-assoc : (a b c : Channel) → Fair a → Fair b → Fair c → merge (merge a b) c ≡ merge a (merge b c)
+unfolding earliest
+merge-assoc a b c p q r =
+    ap (λ (d : Channel). merge d c) (merge-pair a b p q) ∙ plain-snoc a c (b ∷ []) (omega arith) r
+    ∙ sym (ap₂ merge (sym (plain-single a (p .0))) (merge-pair b c q r) ∙ merge-plain a b [] (c ∷ []) (p .1) (omega arith))
+
+-- ---- whatever the times
+merge-has : (x : List ℕ) (a b : Channel) → named x (merge a b) ≡ (named x a || named x b)
+unfolding merge
+merge-has x a b = has-unite byId 0 lawful-byId x _ _ ∙ ap₂ _||_ (has-standing _ a x) (has-standing _ b x)
+
+ascending-folded : (l : Channel) (s : List Channel) → Ascending byId (l .members) → Ascending byId (folded l s .members)
+unfolding folded
+ascending-folded l [] h = h
+ascending-folded l (k ∷ s) h = ascending-folded (merge l k) s (ascending-merge l k h)
+
+-- the ids that some line names
+pub folded-has : (x : List ℕ) (l : Channel) (s : List Channel) → named x (folded l s) ≡ total _||_ false (named x) (l ∷ s)
+unfolding folded
+folded-has x l [] = sym (or-false (named x l))
+folded-has x l (k ∷ s) = folded-has x (merge l k) s ∙ ap (λ (b : Bool). b || total _||_ false (named x) s) (merge-has x l k) ∙ or-assoc (named x l) (named x k) (total _||_ false (named x) s)
+
+-- as many as they name
+pub length-folded : (l : Channel) (s : List Channel) → Ascending byId (l .members) → length (folded l s .members) ≡ length (everyone (l ∷ s))
+length-folded l s h =
+    same-length byId 0 lawful-byId (folded l s .members) (everyone (l ∷ s)) (ascending-folded l s h) (ascending-everyone (l ∷ s)) (λ x. folded-has x l s ∙ sym (has-everyone x (l ∷ s)))

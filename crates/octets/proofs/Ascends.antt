@@ -1,0 +1,235 @@
+-- Laws of lists of entries that ascend by their keys, over any kind of entry: what is put or united stands in its place, so that ascending lists
+-- stay so, are united in one pass, and take an entry from the end. Assumes nothing.
+use Prim.Native.Nat.{ℕ, zero, suc, _+_, _≤_, _<_}
+use mathlib.Core.Path.{_≡_, refl, sym, ap, _∙_}
+use mathlib.Core.Bool.{Bool, true, true≢false}
+use mathlib.Core.List.{List, [], _∷_, _++_}
+use native.Mathlib.Numerals.{add-one}
+use native.Mathlib.Omega.{arith}
+use lib.ListN.{length, take, drop, getD}
+use Rattle.octets.specs.declared.Order.{Order}
+use Rattle.octets.specs.declared.Order.the-variants.{Less, Same, More}
+use Rattle.octets.specs.Order.{compare}
+use Rattle.octets.specs.Lists.{all}
+use Rattle.octets.specs.Ascending.{Kind, isLess, insert, put, unite, ascends}
+use Rattle.octets.proofs.Bools.{and-left, and-right}
+use Rattle.octets.proofs.Lists.{all-head, all-tail, all-cons}
+use Rattle.octets.proofs.Ordered.{Below, compare-refl, compare-trans, below-more, more-below}
+use Rattle.octets.proofs.Joins.{Joining}
+
+-- The parts of an entry fit together, and its loads join, `none` being neutral.
+pub record Lawful {E P : Type 0} (K : Kind E P) (none : P) : Type 0 where
+  pub key-made : (k : List ℕ) (p : P) → K .key (K .make k p) ≡ k
+  pub load-made : (k : List ℕ) (p : P) → K .load (K .make k p) ≡ p
+  pub made : (e : E) → K .make (K .key e) (K .load e) ≡ e
+  pub joining : Joining (K .join) none
+
+module _ {E P : Type 0} (K : Kind E P) where
+  -- every key is above x
+  abbrev pub Above : List ℕ → List E → Type 0
+  Above x [] = Unit {0}
+  Above x (e ∷ l) = Below x (K .key e) × Above x l
+
+  -- every key is below x
+  abbrev pub Under : List ℕ → List E → Type 0
+  Under x [] = Unit {0}
+  Under x (e ∷ l) = Below (K .key e) x × Under x l
+
+  abbrev pub Ascending : List E → Type 0
+  Ascending [] = Unit {0}
+  Ascending (e ∷ l) = Above (K .key e) l × Ascending l
+
+  -- d's key with the load of e joined to its own
+  abbrev pub joined : E → E → E
+  joined e d = K .make (K .key d) (K .join (K .load e) (K .load d))
+
+-- ---- an entry put in its place
+module _ {E P : Type 0} (K : Kind E P) where
+  pub put-less : (e d : E) (l : List E) → Below (K .key e) (K .key d) → put K e (d ∷ l) ≡ e ∷ d ∷ l
+  unfolding put insert
+  put-less e d l h = rw h
+
+  pub put-same : (e d : E) (l : List E) → K .key e ≡ K .key d → put K e (d ∷ l) ≡ joined K e d ∷ l
+  unfolding put insert
+  put-same e d l h = rw (h, compare-refl (K .key d))
+
+  pub put-more : (e d : E) (l : List E) → Below (K .key d) (K .key e) → put K e (d ∷ l) ≡ d ∷ put K e l
+  unfolding put insert
+  put-more e d l h = rw (below-more (K .key d) (K .key e) h)
+
+  -- behind those that are below it
+  pub put-past : (e : E) (a b : List E) → Under K (K .key e) a → put K e (a ++ b) ≡ a ++ put K e b
+  put-past e [] b h = refl
+  put-past e (d ∷ a) b h = put-more e d (a ++ b) (h .0) ∙ ap (_∷_ d) (put-past e a b (h .1))
+
+  -- before those that are above it
+  pub put-front : (e : E) (b : List E) → Above K (K .key e) b → put K e b ≡ e ∷ b
+  unfolding put
+  put-front e [] h = refl
+  put-front e (d ∷ b) h = put-less e d b (h .0)
+
+  pub put-before : (e : E) (a b : List E) → Above K (K .key e) b → put K e (a ++ b) ≡ put K e a ++ b
+  unfolding put insert
+  put-before e [] b h = put-front e b h
+  put-before e (d ∷ a) b h = go (compare (K .key e) (K .key d)) (put-before e a b h)
+    where
+      go : (o : Order) → put K e (a ++ b) ≡ put K e a ++ b → insert K o e d (a ++ b) (put K e (a ++ b)) ≡ insert K o e d a (put K e a) ++ b
+      go Less ih = refl
+      go Same ih = refl
+      go More ih = ap (_∷_ d) ih
+
+  -- an insertion from the end stops behind the last that is below it, or at the one that has its key
+  pub put-between : (e : E) (a b : List E) → Under K (K .key e) a → Above K (K .key e) b → put K e (a ++ b) ≡ a ++ e ∷ b
+  put-between e a b h k = put-past e a b h ∙ ap (_++_ a) (put-front e b k)
+
+  pub put-joined : (e d : E) (a b : List E) → Under K (K .key e) a → K .key e ≡ K .key d → put K e (a ++ d ∷ b) ≡ a ++ joined K e d ∷ b
+  put-joined e d a b h k = put-past e a (d ∷ b) h ∙ ap (_++_ a) (put-same e d b k)
+
+-- ---- parts of ascending lists
+module _ {E P : Type 0} (K : Kind E P) where
+  pub above-trans : (x y : List ℕ) (l : List E) → Below x y → Above K y l → Above K x l
+  above-trans x y [] p h = tt
+  above-trans x y (e ∷ l) p h = (compare-trans x y (K .key e) p (h .0), above-trans x y l p (h .1))
+
+  above-at : (x : List ℕ) (l : List E) (i : ℕ) (d : E) → Above K x l → i < length l → Below x (K .key (getD l i d))
+  above-at x [] i d h = λ k. absurd (omega arith)
+  above-at x (e ∷ l) zero d h = λ k. h .0
+  above-at x (e ∷ l) (suc i) d h = λ k. above-at x l i d (h .1) (omega arith)
+
+  pub ascending-drop : (n : ℕ) (l : List E) → Ascending K l → Ascending K (drop n l)
+  ascending-drop zero l h = h
+  ascending-drop (suc n) [] h = tt
+  ascending-drop (suc n) (e ∷ l) h = ascending-drop n l (h .1)
+
+  -- what stands before a place is below the entry there
+  pub under-take : (l : List E) (i : ℕ) (d : E) → Ascending K l → i < length l → Under K (K .key (getD l i d)) (take i l)
+  under-take [] i d h = λ k. absurd (omega arith)
+  under-take (e ∷ l) zero d h = λ k. tt
+  under-take (e ∷ l) (suc i) d h = λ k. (above-at (K .key e) l i d (h .0) (omega arith), under-take l i d (h .1) (omega arith))
+
+  -- what stands up to a place is below whatever the entry there is below
+  pub under-upto : (x : List ℕ) (l : List E) (i : ℕ) (d : E) → Ascending K l → i < length l → Below (K .key (getD l i d)) x → Under K x (take (i + 1) l)
+  under-upto x l i d h k p = rw (add-one i) (go l i h k p)
+    where
+      go : (l : List E) (i : ℕ) → Ascending K l → i < length l → Below (K .key (getD l i d)) x → Under K x (take (suc i) l)
+      go [] i h = λ k p. absurd (omega arith)
+      go (e ∷ l) zero h = λ k p. (p, tt)
+      go (e ∷ l) (suc i) h = λ k p. (compare-trans (K .key e) (K .key (getD l i d)) x (above-at (K .key e) l i d (h .0) (omega arith)) p, go l i (h .1) (omega arith) p)
+
+-- ---- two ascending lists united in one pass: the smaller first is taken, equal ones are joined, and what one list has left over stands
+module _ {E P : Type 0} (K : Kind E P) where
+  unite-past : (x : E) (a b : List E) → Above K (K .key x) b → unite K (x ∷ a) b ≡ x ∷ unite K a b
+  unfolding unite
+  unite-past x a [] h = refl
+  unite-past x a (y ∷ b) h = ap (λ (l : List E). unite K l b) (put-more K y x a (h .0)) ∙ unite-past x (put K y a) b (h .1)
+
+  pub unite-nil-right : (a : List E) → unite K a [] ≡ a
+  unfolding unite
+  unite-nil-right a = refl
+
+  pub unite-nil-left : (b : List E) → Ascending K b → unite K [] b ≡ b
+  unfolding unite put
+  unite-nil-left [] h = refl
+  unite-nil-left (y ∷ b) h = unite-past y [] b (h .0) ∙ ap (_∷_ y) (unite-nil-left b (h .1))
+
+  module _ (x y : E) (a b : List E) (h : Ascending K (y ∷ b)) where
+    pub unite-less : Below (K .key x) (K .key y) → unite K (x ∷ a) (y ∷ b) ≡ x ∷ unite K a (y ∷ b)
+    unite-less p = unite-past x a (y ∷ b) (p, above-trans K (K .key x) (K .key y) b p (h .0))
+
+    pub unite-more : Below (K .key y) (K .key x) → unite K (x ∷ a) (y ∷ b) ≡ y ∷ unite K (x ∷ a) b
+    unfolding unite
+    unite-more p = ap (λ (l : List E). unite K l b) (put-less K y x a p) ∙ unite-past y (x ∷ a) b (h .0)
+
+    pub unite-same : (none : P) → Lawful K none → K .key x ≡ K .key y → unite K (x ∷ a) (y ∷ b) ≡ joined K y x ∷ unite K a b
+    unfolding unite
+    unite-same none L p =
+        ap (λ (l : List E). unite K l b) (put-same K y x a (sym p))
+        ∙ unite-past (joined K y x) a b (rw (L .key-made (K .key x) (K .join (K .load y) (K .load x)), p) (h .0))
+
+  pub unite-append : (a b c : List E) → unite K a (b ++ c) ≡ unite K (unite K a b) c
+  unfolding unite
+  unite-append a [] c = refl
+  unite-append a (e ∷ b) c = unite-append (put K e a) b c
+
+-- ---- the test is exactly what it tests for
+less-says : (o : Order) → isLess o ≡ true → o ≡ Less
+less-says Less h = refl
+less-says Same h = absurd (true≢false (sym h))
+less-says More h = absurd (true≢false (sym h))
+
+module _ {E P : Type 0} (K : Kind E P) where
+  pub ascends-says : (l : List E) → ascends K l ≡ true → Ascending K l
+  unfolding ascends
+  ascends-says [] h = tt
+  ascends-says (e ∷ []) h = (tt, tt)
+  ascends-says (e ∷ d ∷ l) h =
+      let p : Below (K .key e) (K .key d) = less-says (compare (K .key e) (K .key d)) (and-left (isLess (compare (K .key e) (K .key d))) (ascends K (d ∷ l)) h) in
+      let t : Ascending K (d ∷ l) = ascends-says (d ∷ l) (and-right (isLess (compare (K .key e) (K .key d))) (ascends K (d ∷ l)) h) in
+      ((p, above-trans K (K .key e) (K .key d) l p (t .0)), t)
+
+  pub ascends-passes : (l : List E) → Ascending K l → ascends K l ≡ true
+  unfolding ascends
+  ascends-passes [] h = refl
+  ascends-passes (e ∷ []) h = refl
+  ascends-passes (e ∷ d ∷ l) h = rw (h .0 .0) (ascends-passes (d ∷ l) (h .1))
+
+-- ---- how many
+module _ {E P : Type 0} (K : Kind E P) where
+  length-put : (e : E) (l : List E) → length l ≤ length (put K e l)
+  unfolding put insert
+  length-put e [] = omega arith
+  length-put e (d ∷ l) = go (compare (K .key e) (K .key d)) (length-put e l)
+    where
+      go : (o : Order) → length l ≤ length (put K e l) → length (d ∷ l) ≤ length (insert K o e d l (put K e l))
+      go Less h = omega arith
+      go Same h = omega arith
+      go More h = omega arith
+
+  pub length-unite-left : (a b : List E) → length a ≤ length (unite K a b)
+  unfolding unite
+  length-unite-left a [] = omega arith
+  length-unite-left a (e ∷ b) = omega (arith, length-put e a, length-unite-left (put K e a) b)
+
+-- ---- what holds of entries holds of those that are joined from them
+module _ {E P : Type 0} (K : Kind E P) (p : E → Bool) (add : (e d : E) → p e ≡ true → p d ≡ true → p (joined K e d) ≡ true) where
+  all-put : (e : E) (l : List E) → p e ≡ true → all p l ≡ true → all p (put K e l) ≡ true
+  unfolding put insert
+  all-put e [] h k = all-cons p e [] h k
+  all-put e (d ∷ l) h k = go (compare (K .key e) (K .key d)) (all-put e l h (all-tail p d l k))
+    where
+      go : (o : Order) → all p (put K e l) ≡ true → all p (insert K o e d l (put K e l)) ≡ true
+      go Less ih = all-cons p e (d ∷ l) h k
+      go Same ih = all-cons p (joined K e d) l (add e d h (all-head p d l k)) (all-tail p d l k)
+      go More ih = all-cons p d (put K e l) (all-head p d l k) ih
+
+  pub all-unite : (a b : List E) → all p a ≡ true → all p b ≡ true → all p (unite K a b) ≡ true
+  unfolding unite
+  all-unite a [] h k = h
+  all-unite a (e ∷ b) h k = all-unite (put K e a) b (all-put e a (all-head p e b k) h) (all-tail p e b k)
+
+-- ---- kinds whose parts fit together
+module _ {E P : Type 0} (K : Kind E P) (none : P) (L : Lawful K none) where
+  above-put : (x : List ℕ) (e : E) (l : List E) → Below x (K .key e) → Above K x l → Above K x (put K e l)
+  unfolding put insert
+  above-put x e [] p h = (p, tt)
+  above-put x e (d ∷ l) p h = go (compare (K .key e) (K .key d)) (above-put x e l p (h .1))
+    where
+      go : (o : Order) → Above K x (put K e l) → Above K x (insert K o e d l (put K e l))
+      go Less k = (p, h)
+      go Same k = (rw (L .key-made (K .key d) (K .join (K .load e) (K .load d))) (h .0), h .1)
+      go More k = (h .0, k)
+
+  pub ascending-put : (e : E) (l : List E) → Ascending K l → Ascending K (put K e l)
+  unfolding put insert
+  ascending-put e [] h = (tt, tt)
+  ascending-put e (d ∷ l) h = go (compare (K .key e) (K .key d)) refl (ascending-put e l (h .1))
+    where
+      go : (o : Order) → compare (K .key e) (K .key d) ≡ o → Ascending K (put K e l) → Ascending K (insert K o e d l (put K e l))
+      go Less p k = ((p, above-trans K (K .key e) (K .key d) l p (h .0)), h)
+      go Same p k = (rw (L .key-made (K .key d) (K .join (K .load e) (K .load d))) (h .0), h .1)
+      go More p k = (above-put (K .key d) e l (more-below (K .key e) (K .key d) p) (h .0), k)
+
+  pub ascending-unite : (a b : List E) → Ascending K a → Ascending K (unite K a b)
+  unfolding unite
+  ascending-unite a [] h = h
+  ascending-unite a (e ∷ b) h = ascending-unite (put K e a) b (ascending-put e a h)
