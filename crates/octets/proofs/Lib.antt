@@ -5,6 +5,7 @@ pub mod Bytes
 pub mod Ordered
 pub mod Joins
 pub mod Bitwise
+pub mod Digits
 pub mod Ascends
 pub mod Contents
 pub mod Room

@@ -4,5 +4,6 @@ pub mod Order
 pub mod Joins
 pub mod Ascending
 pub mod Bits
+pub mod Decimals
 pub mod Room
 pub mod Held

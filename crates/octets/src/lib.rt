@@ -1,4 +1,4 @@
-// Bytes: their classes, byte strings compared, a part of a lent slice, bytes put into lent room, and capital letters.
+// Bytes: their classes, byte strings compared, numbers in decimal, a part of a lent slice, bytes put into lent room, and capital letters.
 // Every function takes any bytes and refuses nothing.
 ghost use mathlib.Core.Path.{_≡_};
 ghost use mathlib.Core.List.{map};
@@ -10,6 +10,8 @@ ghost use Rattle.octets.specs.Bytes.{within, isPlain, isLetter, isIdByte
 ghost use Rattle.octets.specs.Lists.{all};
 ghost use Rattle.octets.specs.Order.{compare as compareOf};
 ghost use Rattle.octets.specs.Room.{part as partOf, placeIn, putAt, endOf};
+
+pub mod decimals;
 
 // The byte of a bell, which no channel name holds.
 const BELL: u8 = 7;
@@ -160,6 +162,13 @@ pub fn compare(a: &[u8], b: &[u8]) -> Order
         return Order::Less;
     }
     Order::Same
+}
+
+// What bytes are as a number in decimal, up to a limit.
+pub enum Decimal {
+    Value(u32),
+    // no number in decimal, or one past the limit
+    Malformed,
 }
 
 // The lesser of two numbers.
