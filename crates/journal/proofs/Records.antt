@@ -14,8 +14,9 @@ use Rattle.refusal.proofs.Rules.{emitted-none, emitted-all}
 use Rattle.octets.specs.Room.{putAt, front}
 use Rattle.octets.proofs.Room.{put-front, put-behind}
 use Rattle.message.specs.Grammar.{lineLimit}
+use Rattle.links.specs.Links.{linkCount}
 use Rattle.journal.specs.declared.Logged.{Logged}
-use Rattle.journal.specs.Journal.{lastLink, headLength, headOf, recordOf, linkIn, lineIn, logRules, answerFor, refusedBy}
+use Rattle.journal.specs.Journal.{headLength, headOf, recordOf, linkIn, lineIn, logRules, answerFor, refusedBy}
 
 -- ---- read back
 pub link-back : (link : ℕ) (line more : List ℕ) → linkIn (recordOf link line ++ more) ≡ link
@@ -38,28 +39,28 @@ module _ (link : ℕ) (line log : List ℕ) where
   unfolding answerFor
   answers-refused k e ne r f = rw (emitted-none (logRules link line log) (recordOf link line) k e ne, e) (f, refl)
 
-  pub logs-no-link : lastLink < link → (r : Logged) → r ≡ refusedBy badLink
+  pub logs-no-link : linkCount ≤ link → (r : Logged) → r ≡ refusedBy badLink
       → (r ≡ answerFor link line log) × (log ≡ front (emitted (logRules link line log) (recordOf link line)) log)
   unfolding logRules firstOf
-  logs-no-link h = answers-refused badLink (rw (lt-ltb lastLink link h)) (λ q. omega arith)
+  logs-no-link h = answers-refused badLink (rw (le-ltb link linkCount h)) (λ q. omega arith)
 
-  module _ (known : link ≤ lastLink) where
+  module _ (known : link < linkCount) where
     pub logs-long : lineLimit < length line → (r : Logged) → r ≡ refusedBy lineTooLong
         → (r ≡ answerFor link line log) × (log ≡ front (emitted (logRules link line log) (recordOf link line)) log)
     unfolding logRules firstOf
-    logs-long h = answers-refused lineTooLong (simp (le-ltb lastLink link known, lt-ltb lineLimit (length line) h)) (λ q. omega arith)
+    logs-long h = answers-refused lineTooLong (simp (lt-ltb link linkCount known, lt-ltb lineLimit (length line) h)) (λ q. omega arith)
 
     module _ (small : length line ≤ lineLimit) where
       pub logs-no-room : length log < length line + headLength → (r : Logged) → r ≡ refusedBy noRoom
           → (r ≡ answerFor link line log) × (log ≡ front (emitted (logRules link line log) (recordOf link line)) log)
       unfolding logRules firstOf
       logs-no-room h =
-          answers-refused noRoom (simp (le-ltb lastLink link known, le-ltb lineLimit (length line) small, lt-ltb (length log) (length line + headLength) h)) (λ q. omega arith)
+          answers-refused noRoom (simp (lt-ltb link linkCount known, le-ltb lineLimit (length line) small, lt-ltb (length log) (length line + headLength) h)) (λ q. omega arith)
 
       module _ (room : length line + headLength ≤ length log) where
         accepts : firstOf (logRules link line log) ≡ accepted
         unfolding logRules firstOf
-        accepts = simp (le-ltb lastLink link known, le-ltb lineLimit (length line) small, le-ltb (length log) (length line + headLength) room)
+        accepts = simp (lt-ltb link linkCount known, le-ltb lineLimit (length line) small, le-ltb (length log) (length line + headLength) room)
 
         -- head and line, put one behind the other, are the record
         pub logs : (first next : List ℕ) → first ≡ putAt log 0 (headOf link line) → next ≡ putAt first headLength line

@@ -1,16 +1,14 @@
 -- A day-log record, and what comes of writing one: the numbers 3, 4 and 25 of document 01.
 use Prim.Native.Nat.{ℕ, _+_, _*_, _/_, _%_}
+use mathlib.Core.Bool.{not}
 use mathlib.Core.List.{List, [], _∷_, _++_}
 use lib.ListN.{length, take, drop, getD}
 use lib.Dec.{ltb}
 use Rattle.refusal.specs.Numbers.{badLink, lineTooLong, noRoom}
 use Rattle.refusal.specs.Rules.{Rule, _when_, firstOf, emitted}
 use Rattle.message.specs.Grammar.{lineLimit}
+use Rattle.links.specs.Links.{linkCount}
 use Rattle.journal.specs.declared.Logged.{Logged}
-
--- the highest number of a link
-abbrev pub lastLink : ℕ
-lastLink = 31
 
 -- the bytes of a record before its line
 abbrev pub headLength : ℕ
@@ -35,7 +33,7 @@ lineIn log = take (getD log 3 0 * 256 + getD log 4 0) (drop headLength log)
 -- ---- the answer
 unfoldable pub logRules : ℕ → List ℕ → List ℕ → List Rule
 logRules link line log =
-    badLink when ltb lastLink link
+    badLink when not (ltb link linkCount)
     ∷ lineTooLong when ltb lineLimit (length line)
     ∷ noRoom when ltb (length log) (length line + headLength)
     ∷ []

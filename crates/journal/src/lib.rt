@@ -4,15 +4,13 @@ ghost use mathlib.Core.Path.{_≡_};
 ghost use Rattle.refusal.specs.Rules.{emitted};
 ghost use Rattle.octets.specs.Room.{front};
 ghost use Rattle.journal.specs.Journal.{logRules, recordOf, answerFor, refusedBy};
+use links::Links;
 use message::LINE_LIMIT;
 use octets::put;
 use refusal::ACCEPTED;
 use refusal::BAD_LINK;
 use refusal::LINE_TOO_LONG;
 use refusal::NO_ROOM;
-
-// The highest number of a link.
-pub const LAST_LINK: u32 = 31;
 
 // The bytes of a record before its line: mark, link and length.
 pub const HEAD: usize = 5;
@@ -36,7 +34,7 @@ pub fn write_record(link: u32, line: &[u8], log: &mut [u8]) -> Logged
     ensures log { λ _. ⌜ now (log .exit) ≡ front (emitted (logRules link (now (line .entry)) (now (log .entry))) (recordOf link (now (line .entry)))) (now (log .entry)) ⌝ }
 {
     let n = line.len();
-    if LAST_LINK < link {
+    if Links::COUNT <= link {
         return refused(BAD_LINK);
     }
     if LINE_LIMIT < n {

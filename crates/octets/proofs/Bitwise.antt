@@ -1,13 +1,14 @@
--- Laws of bits: a shift and a mask test one, a number's bits lie below its width, and a union has the bits of both. Assumes nothing.
-use mathlib.Core.Path.{_≡_, refl, sym, _∙_}
-use mathlib.Core.Bool.{Bool, true, false, true≢false, _||_}
-use Prim.Native.Nat.{ℕ, zero, suc, _*_, _/_, _%_, _^_, _≤_, _<_, max}
-use native.Mathlib.Nat.{div-eq-of-lt, mod-eq-of-lt, one-mul}
+-- Laws of bits: a shift and a mask test one, a number's bits lie below its width, a union has the bits of both, a power of two has one, and one that
+-- is taken off leaves the others. Assumes nothing.
+use mathlib.Core.Path.{_≡_, refl, sym, ap, _∙_}
+use mathlib.Core.Bool.{Bool, true, false, true≢false, not, _&&_, _||_, and-true, and-false}
+use Prim.Native.Nat.{ℕ, zero, suc, _-_, _*_, _/_, _%_, _^_, _≤_, _<_, max}
+use native.Mathlib.Nat.{div-eq-of-lt, div-div-eq-div-mul, div-one, mod-eq-of-lt, one-mul, pow-suc, pow-succ'}
 use native.Mathlib.Omega.{arith}
 use lib.Bits.{bitAnd, bitOr, and-mask}
-use lib.Dec.{eqb, leb}
-use lib.Pow.{pow-lt, pow-mono}
-use borrow.Author.Tests.{leb-true, leb-false}
+use lib.Dec.{eqb, leb, eqb·zero-suc, eqb·suc-zero, eqb·suc-suc}
+use lib.Pow.{pow-lt, pow-mono, pow-pos}
+use borrow.Author.Tests.{eqb-true, leb-true, leb-false}
 use Rattle.octets.specs.Bits.{hasBit}
 use Rattle.octets.proofs.Joins.{bits-digit}
 
@@ -53,3 +54,40 @@ bit-union a b k = rw (bits-digit k a b) (digits (a / 2 ^ k % 2) (b / 2 ^ k % 2) 
     digits (suc zero) (suc zero) p q = refl
     digits (suc zero) (suc (suc y)) p q = absurd (omega arith)
     digits (suc (suc x)) y p q = absurd (omega arith)
+
+-- ---- one bit alone, and one taken off
+-- a place further on is that place of the half
+pub bit-half : (n k : ℕ) → hasBit n (suc k) ≡ hasBit (n / 2) k
+unfolding hasBit
+bit-half n k = ap (λ (m : ℕ). eqb (n / m % 2) 1) (pow-succ' 2 k) ∙ ap (λ (m : ℕ). eqb (m % 2) 1) (sym (div-div-eq-div-mul n 2 (2 ^ k)))
+
+pub bit-last : (n : ℕ) → hasBit n 0 ≡ eqb (n % 2) 1
+unfolding hasBit
+bit-last n = rw div-one
+
+pub bit-power : (k j : ℕ) → hasBit (2 ^ k) j ≡ eqb j k
+bit-power zero zero = bit-last 1
+bit-power zero (suc j) = bit-half 1 j ∙ bit-small 0 j (pow-pos j) ∙ sym (eqb·suc-zero j)
+bit-power (suc k) zero =
+    let e : 2 ^ suc k % 2 ≡ 0 = omega (arith, pow-suc 2 k) in
+    bit-last (2 ^ suc k) ∙ rw (e, eqb·zero-suc k)
+bit-power (suc k) (suc j) =
+    let e : 2 ^ suc k / 2 ≡ 2 ^ k = omega (arith, pow-suc 2 k) in
+    bit-half (2 ^ suc k) j ∙ rw (e, eqb·suc-suc j k) (bit-power k j)
+
+pub bit-off : (n k j : ℕ) → hasBit n k ≡ true → hasBit (n - 2 ^ k) j ≡ hasBit n j && not (eqb j k)
+bit-off n zero zero e =
+    let odd : n % 2 ≡ 1 = eqb-true (n % 2) 1 (sym (bit-last n) ∙ e) in
+    let even : (n - 1) % 2 ≡ 0 = omega arith in
+    bit-last (n - 1) ∙ rw (even, and-false)
+bit-off n zero (suc j) e =
+    let odd : n % 2 ≡ 1 = eqb-true (n % 2) 1 (sym (bit-last n) ∙ e) in
+    let half : (n - 1) / 2 ≡ n / 2 = omega arith in
+    bit-half (n - 1) j ∙ rw (half, eqb·suc-zero j, and-true) (sym (bit-half n j))
+bit-off n (suc k) zero e =
+    let p = bit-value n (suc k) e in
+    let last : (n - 2 ^ suc k) % 2 ≡ n % 2 = omega (arith, pow-suc 2 k) in
+    bit-last (n - 2 ^ suc k) ∙ rw (last, eqb·zero-suc k, and-true) (sym (bit-last n))
+bit-off n (suc k) (suc j) e =
+    let half : (n - 2 ^ suc k) / 2 ≡ n / 2 - 2 ^ k = omega (arith, pow-suc 2 k) in
+    bit-half (n - 2 ^ suc k) j ∙ rw (half, eqb·suc-suc j k, bit-half n j) (bit-off (n / 2) k j (sym (bit-half n k) ∙ e))

@@ -1,0 +1,43 @@
+-- Sets of links as 32 bits: link i is bit i.
+use Prim.Native.Nat.{ℕ, zero, suc, _-_, _^_}
+use mathlib.Core.Bool.{cond}
+use mathlib.Core.List.{List, [], _∷_}
+use lib.Bits.{bitOr}
+use lib.Dec.{ltb}
+use Rattle.octets.specs.Bits.{hasBit}
+use Rattle.links.specs.declared.Links.{Links}
+
+-- how many links there can be
+abbrev pub linkCount : ℕ
+linkCount = 32
+
+abbrev pub links : ℕ → Links
+links set = record { set = set }
+
+abbrev pub noLinks : Links
+noLinks = links 0
+
+-- one more registered; a number that is no link's changes nothing
+unfoldable pub withLink : Links → ℕ → Links
+withLink l link = cond (ltb link linkCount) (links (bitOr (l .set) (2 ^ link))) l
+
+-- a set less one of its links
+unfoldable pub lessLink : ℕ → ℕ → ℕ
+lessLink set link = cond (hasBit set link) (set - 2 ^ link) set
+
+-- one dropped
+unfoldable pub withoutLink : Links → ℕ → Links
+withoutLink l link = links (lessLink (l .set) link)
+
+-- the registered links without the source
+unfoldable pub relaySet : Links → ℕ → ℕ
+relaySet l source = lessLink (l .set) source
+
+-- those of n numbers from i on that are in the set
+unfoldable pub linksFrom : ℕ → ℕ → ℕ → List ℕ
+linksFrom i zero set = []
+linksFrom i (suc n) set = cond (hasBit set i) (i ∷ linksFrom (suc i) n set) (linksFrom (suc i) n set)
+
+-- the links in a set, ascending
+abbrev pub linksIn : ℕ → List ℕ
+linksIn set = linksFrom 0 linkCount set
