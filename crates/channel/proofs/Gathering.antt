@@ -1,13 +1,13 @@
 -- A list of members gathered one behind the other, in room whose unused places are vacant. Assumes nothing.
 use mathlib.Core.Path.{_≡_, sym, ap, _∙_}
-use mathlib.Core.List.{List, [], _∷_, _++_}
-use Prim.Native.Nat.{ℕ, suc, _+_}
+use mathlib.Core.List.{List, [], _∷_, _++_, append-assoc}
+use Prim.Native.Nat.{ℕ, suc, _+_, _≤_, _<_}
 use native.Mathlib.Nat.{zero-add}
 use native.Mathlib.Omega.{arith}
-use lib.ListN.{length, set, replicate, length-append}
-use lib.Seq.{sets}
+use lib.ListN.{length, take, getD, set, replicate, length-append, List·getD-eq-default}
+use lib.Seq.{sets, set-append-seam, set-getD, take-set-lt}
 use Rattle.octets.specs.Lists.{padded}
-use Rattle.octets.proofs.Lists.{sets-padded, length-padded}
+use Rattle.octets.proofs.Lists.{getD-padded, take-padded, sets-padded}
 use Rattle.channel.specs.declared.Member.{Member}
 use Rattle.channel.specs.declared.Roster.{Roster}
 use Rattle.channel.specs.Limits.{memberLimit}
@@ -27,13 +27,23 @@ module _ {A : Type 0} (x : A) where
       ∙ sym (sets-snoc l (replicate n x) 0 v)
       ∙ sets-padded x n (l ++ (v ∷ []))
 
+  -- an element in another's stead
+  pub set-padded-at : (n : ℕ) (a b : List A) (y v : A) → length a < n → set (padded n x (a ++ y ∷ b)) (length a) v ≡ padded n x (a ++ v ∷ b)
+  unfolding padded
+  set-padded-at n a b y v h =
+      sym (take-set-lt n ((a ++ y ∷ b) ++ replicate n x) (length a) v h)
+      ∙ rw (append-assoc a (y ∷ b) (replicate n x), append-assoc a (v ∷ b) (replicate n x), set-append-seam a y (b ++ replicate n x) v)
+
+  -- what pads a list may as well stand in it
+  pub padded-more : (n : ℕ) (l : List A) → length l < n → padded n x (l ++ (x ∷ [])) ≡ padded n x l
+  padded-more n l h =
+      let e : getD (padded n x l) (length l) x ≡ x = getD-padded x n l (length l) x h ∙ List·getD-eq-default l x {n = length l} (omega arith) in
+      sym (set-padded n l x) ∙ ap (set (padded n x l) (length l)) (sym e) ∙ set-getD (padded n x l) (length l) x
+
 -- The list holds the members l, and no other.
 pub record Gathers (list : List Member) (count : ℕ) (l : List Member) : Type 0 where
   pub holds : list ≡ padded memberLimit nobody l
   pub counts : count ≡ length l
-
-pub gathers-length : (list : List Member) (count : ℕ) (l : List Member) → Gathers list count l → length list ≡ memberLimit
-gathers-length list count l g = ap (λ (m : List Member). length m) (g .holds) ∙ length-padded nobody memberLimit l
 
 pub gathers-more : (list : List Member) (count : ℕ) (l : List Member) (m : Member) → Gathers list count l → Gathers (set list count m) (count + 1) (l ++ (m ∷ []))
 gathers-more list count l m g = record {
@@ -44,3 +54,11 @@ gathers-more list count l m g = record {
 pub gathers-roster : (list : List Member) (count : ℕ) (l : List Member) → Gathers list count l → _≡_ {A = Roster} (record { list = list; count = count }) (roster l)
 unfolding roster
 gathers-roster list count l g = rw (g .holds, g .counts)
+
+pub roster-gathers : (r : Roster) (l : List Member) → r ≡ roster l → Gathers (r .list) (r .count) l
+unfolding roster
+roster-gathers r l e = record { holds = ap (λ (s : Roster). s .list) e; counts = ap (λ (s : Roster). s .count) e }
+
+-- they stand at the front
+pub gathers-take : (list : List Member) (count : ℕ) (l : List Member) → count ≤ memberLimit → Gathers list count l → take count list ≡ l
+gathers-take list count l h g = rw (g .holds, g .counts) (take-padded nobody memberLimit l (omega (arith, g .counts)))

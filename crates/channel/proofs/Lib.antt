@@ -13,3 +13,7 @@ mod Tests
 mod Judging
 mod Gathering
 mod Others
+mod Placing
+mod Ordering
+mod Uniting
+mod Answers

@@ -7,3 +7,4 @@ pub mod WellFormed
 pub mod Merging
 pub mod Members
 pub mod Plain
+pub mod Private

@@ -2,6 +2,7 @@
 // Any record is taken; those that aren't well formed are refused, or answered by the definition that the contract cites.
 pub mod key;
 pub mod members;
+mod merging;
 pub mod modes;
 mod well;
 
@@ -10,11 +11,17 @@ ghost use Rattle.names.specs.Names.{nameLimit};
 ghost use Rattle.channel.specs.Limits.{memberLimit, keyLimit, slotCount};
 ghost use Rattle.channel.specs.Record.{emptyRecord};
 ghost use Rattle.channel.specs.WellFormed.{wellFormed};
+ghost use Rattle.channel.specs.Merging.{mergeAnswer};
 use members::vacant;
+use merging::merged;
+use merging::refused;
 use names::NAME_LIMIT;
 use names::USER_ID;
+use names::equal;
 use names::is_channel;
 use octets::part;
+use refusal::BAD_NAME;
+use refusal::NOT_WELL_FORMED;
 use well::good_key;
 use well::good_limit;
 use well::good_members;
@@ -118,4 +125,23 @@ pub fn is_well_formed(r: Record) -> bool
         return false;
     }
     good_members(members, r.count)
+}
+
+// Two records of one channel merged by the rules of SJOIN, the first one's spelling kept. Refused where either isn't well formed, where their names
+// differ, and where more members would result than a record has room for.
+pub fn merge(a: Record, b: Record) -> Merged
+    ensures { λ r. ⌜ r ≡ mergeAnswer a b ⌝ }
+{
+    if !is_well_formed(a) {
+        return refused(NOT_WELL_FORMED, a);
+    }
+    if !is_well_formed(b) {
+        return refused(NOT_WELL_FORMED, a);
+    }
+    let name = a.name;
+    let other = b.name;
+    if !equal(part(&name, 0, a.name_len), part(&other, 0, b.name_len)) {
+        return refused(BAD_NAME, a);
+    }
+    merged(a, b)
 }

@@ -4,9 +4,13 @@ ghost use mathlib.Core.List.{[]};
 ghost use Prim.Native.Nat.{min};
 ghost use lib.ListN.{take};
 ghost use Rattle.octets.specs.Lists.{same, padded};
+ghost use Rattle.octets.specs.Order.{compare};
+ghost use Rattle.octets.specs.Ascending.{isLess, put};
 ghost use Rattle.channel.specs.Limits.{memberLimit};
 ghost use Rattle.channel.specs.Record.{nobody as nobodyOf};
-ghost use Rattle.channel.specs.Members.{roster, others as othersOf, without as withoutOf};
+ghost use Rattle.channel.specs.Channel.{byId};
+ghost use Rattle.channel.specs.Private.{Sorted};
+ghost use Rattle.channel.specs.Members.{roster, ordered as orderedOf, others as othersOf, without as withoutOf};
 use crate::Member;
 use crate::Record;
 use crate::Roster;
@@ -54,6 +58,19 @@ fn has_id(m: Member, id: [u8; USER_ID]) -> bool
     }
 }
 
+// Whether the first one's id is smaller.
+pub(crate) fn is_below(m: Member, next: Member) -> bool
+    ensures { λ r. ⌜ r ≡ isLess (compare (m .id) (next .id)) ⌝ }
+{
+    let id = m.id;
+    let other = next.id;
+    match compare_ids(id, other) {
+        Order::Less => true,
+        Order::Same => false,
+        Order::More => false,
+    }
+}
+
 // All but those with the id, of the first n.
 fn others(members: [Member; Record::MEMBERS], n: usize, id: [u8; USER_ID]) -> Roster
     ensures { λ r. ⌜ r ≡ roster (othersOf id (take n members)) ⌝ }
@@ -85,4 +102,65 @@ pub fn without(r: Record, id: [u8; USER_ID]) -> Record
     next.members = list;
     next.count = left.count;
     next
+}
+
+// The list with one member more in its place, which is looked for from the end: those with a greater id move up by one. Where the id is there
+// already, it has both statuses.
+fn with_member(list: [Member; Record::MEMBERS], count: usize, e: Member) -> Roster
+    requires { ⌜ Sorted list count ⌝ }
+    ensures { λ r. ⌜ r ≡ roster (put byId e (take count list)) ⌝ }
+{
+    let mut next = list;
+    let id = e.id;
+    let mut p = count;
+    while 0 < p {
+        let m = list[p - 1];
+        let other = m.id;
+        match compare_ids(id, other) {
+            Order::Less => {
+                next[p] = m;
+            }
+            Order::Same => {
+                let mut same = list;
+                same[p - 1] = Member {
+                    id: other,
+                    status: e.status | m.status,
+                };
+                return Roster { list: same, count };
+            }
+            Order::More => {
+                break;
+            }
+        }
+        p -= 1;
+    }
+    next[p] = e;
+    Roster {
+        list: next,
+        count: count + 1,
+    }
+}
+
+// Every id of the first n once, ascending, an id given twice having both statuses. One that comes behind all before it costs one comparison.
+pub fn ordered(entries: [Member; Record::MEMBERS], n: usize) -> Roster
+    ensures { λ r. ⌜ r ≡ roster (orderedOf (take n entries)) ⌝ }
+{
+    let mut list = vacant();
+    let mut count = 0;
+    // No id is smaller than this one's.
+    let mut last = nobody();
+    for i in 0..within(n) {
+        let e = entries[i];
+        if is_below(last, e) {
+            list[count] = e;
+            count += 1;
+            last = e;
+            continue;
+        }
+        let r = with_member(list, count, e);
+        list = r.list;
+        count = r.count;
+        last = list[count - 1];
+    }
+    Roster { list, count }
 }

@@ -5,8 +5,7 @@ ghost use Prim.Native.Nat.{_≤_};
 ghost use lib.ListN.{take, drop};
 ghost use lib.Dec.{leb, ltb};
 ghost use Rattle.octets.specs.Lists.{all, isNil};
-ghost use Rattle.octets.specs.Order.{compare};
-ghost use Rattle.octets.specs.Ascending.{isLess, ascends};
+ghost use Rattle.octets.specs.Ascending.{ascends};
 ghost use Rattle.names.specs.Names.{nameLimit};
 ghost use Rattle.channel.specs.Limits.{memberLimit, keyLimit};
 ghost use Rattle.channel.specs.Modes.{hasMode, keyMode, limitMode};
@@ -16,12 +15,11 @@ ghost use Rattle.channel.specs.WellFormed.{isZero, isVacant, goodMember}
 use crate::Member;
 use crate::Record;
 use crate::key::is_key;
+use crate::members::is_below;
 use crate::modes::KEY_MODE;
 use crate::modes::LIMIT_MODE;
 use crate::modes::has_mode;
-use names::compare_ids;
 use names::is_user_id;
-use octets::Order;
 
 // The statuses that there are: voice 1 plus operator 2.
 const BOTH: u8 = 3;
@@ -126,19 +124,6 @@ fn all_good(members: [Member; Record::MEMBERS], n: usize) -> bool
         i += 1;
     }
     true
-}
-
-// Whether the first one's id is smaller.
-fn is_below(m: Member, next: Member) -> bool
-    ensures { λ r. ⌜ r ≡ isLess (compare (m .id) (next .id)) ⌝ }
-{
-    let id = m.id;
-    let other = next.id;
-    match compare_ids(id, other) {
-        Order::Less => true,
-        Order::Same => false,
-        Order::More => false,
-    }
 }
 
 // Whether the ids of the first n ascend.

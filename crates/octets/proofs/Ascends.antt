@@ -152,7 +152,7 @@ module _ {E P : Type 0} (K : Kind E P) where
   unite-append a (e ∷ b) c = unite-append (put K e a) b c
 
 -- ---- the test is exactly what it tests for
-less-says : (o : Order) → isLess o ≡ true → o ≡ Less
+pub less-says : (o : Order) → isLess o ≡ true → o ≡ Less
 less-says Less h = refl
 less-says Same h = absurd (true≢false (sym h))
 less-says More h = absurd (true≢false (sym h))

@@ -2,8 +2,8 @@
 use mathlib.Core.Path.{sym, ap, _∙_}
 use borrow.Author.Needs.{needs}
 use Rattle.octets.specs.Ascending.{isLess}
-use Rattle.channel.proofs.well.is_below.Statement.{statement}
-use Rattle.channel.proofs.well.is_below.Tie as tie
+use Rattle.channel.proofs.members.is_below.Statement.{statement}
+use Rattle.channel.proofs.members.is_below.Tie as tie
 
 compare-ids-requires : tie.Need-compare-ids-requires
 compare-ids-requires c κs = search needs

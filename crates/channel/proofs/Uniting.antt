@@ -1,0 +1,150 @@
+-- Two ascending lists united in one pass: at each step the smaller first member is taken, or two with one id as one, and what is gathered so far
+-- with what is left comes to the whole. Assumes nothing.
+use mathlib.Core.Path.{_≡_, refl, sym, ap, ap₂, _∙_}
+use mathlib.Core.Bool.{Bool, true}
+use mathlib.Core.List.{List, [], _∷_, _++_, map, append-nil}
+use Prim.Native.Nat.{ℕ, zero, suc, _+_, _≤_, _<_}
+use native.Mathlib.Omega.{arith}
+use lib.ListN.{length, take, drop, getD, set, length-append, drop-of-length-le}
+use lib.Seq.{length-take-le, append-snoc}
+use Rattle.octets.specs.declared.Order.{Order}
+use Rattle.octets.specs.declared.Order.the-variants.{Less, Same, More}
+use Rattle.octets.specs.Lists.{padded}
+use Rattle.octets.specs.Order.{compare}
+use Rattle.octets.specs.Ascending.{unite, ascends}
+use Rattle.octets.proofs.Lists.{length-padded}
+use Rattle.octets.proofs.Ordered.{compare-same, more-below}
+use Rattle.octets.proofs.Ascends.{Above, Ascending, ascends-says, ascending-drop, unite-nil-left, unite-nil-right, unite-less, unite-more, unite-same}
+use Rattle.channel.specs.declared.Member.{Member}
+use Rattle.channel.specs.declared.Roster.{Roster}
+use Rattle.channel.specs.declared.merging.Taken.{Taken}
+use Rattle.channel.specs.Limits.{memberLimit}
+use Rattle.channel.specs.Channel.{byId}
+use Rattle.channel.specs.Record.{nobody}
+use Rattle.channel.specs.Members.{roster}
+use Rattle.channel.specs.Private.{Held, Fills, asGiven, takenFrom}
+use Rattle.channel.proofs.Sides.{lawful-byId}
+use Rattle.channel.proofs.Tests.{front-step}
+use Rattle.channel.proofs.Gathering.{Gathers, gathers-take, gathers-more, gathers-roster}
+
+-- ---- gathered so far, with what is left
+pub record Begun (list : List Member) (count : ℕ) (more goal : List Member) : Type 0 where
+  pub so-far : List Member
+  pub gathers : Gathers list count so-far
+  pub comes : so-far ++ more ≡ goal
+
+pub begun-none : (list goal : List Member) → list ≡ padded memberLimit nobody [] → Begun list 0 goal goal
+begun-none list goal e = record { so-far = []; gathers = record { holds = e; counts = refl }; comes = refl }
+
+pub begun-held : (list : List Member) (count : ℕ) (more : List Member) → Held list count → Begun list count more (take count list ++ more)
+begun-held list count more h =
+    let l : length list ≡ memberLimit = ap (λ (m : List Member). length m) (h .clear) ∙ length-padded nobody memberLimit (take count list) in
+    record { so-far = take count list; gathers = record { holds = h .clear; counts = sym (length-take-le count list (omega (arith, h .room))) }; comes = refl }
+
+module _ (list : List Member) (count : ℕ) (more goal : List Member) (b : Begun list count more goal) where
+  pub begun-step : (m : Member) (more′ : List Member) → more ≡ m ∷ more′ → Begun (set list count m) (count + 1) more′ goal
+  begun-step m more′ e = record {
+    so-far = b .so-far ++ (m ∷ []);
+    gathers = gathers-more list count (b .so-far) m (b .gathers);
+    comes = append-snoc (b .so-far) m more′ ∙ ap (λ (l : List Member). b .so-far ++ l) (sym e) ∙ b .comes;
+  }
+
+  -- nothing is left
+  pub begun-end : count ≤ memberLimit → more ≡ [] → Fills (record { list = list; count = count }) goal
+  begun-end h e =
+      let is : b .so-far ≡ goal = sym (append-nil (b .so-far)) ∙ ap (λ (l : List Member). b .so-far ++ l) (sym e) ∙ b .comes in
+      let n : count ≡ length goal = b .gathers .counts ∙ ap (λ (l : List Member). length l) is in
+      record { counts = omega arith; holds = λ k. gathers-roster list count (b .so-far) (b .gathers) ∙ ap roster is }
+
+  -- there is no room for what is left
+  pub begun-over : (r : Roster) (m : Member) (more′ : List Member) → count ≡ memberLimit → more ≡ m ∷ more′ → r .count ≡ suc memberLimit → Fills r goal
+  begun-over r m more′ h e k =
+      let n : length (b .so-far) + length more ≡ length goal = sym (length-append (b .so-far) more) ∙ ap (λ (l : List Member). length l) (b .comes) in
+      let p : length more ≡ suc (length more′) = ap (λ (l : List Member). length l) e in
+      record { counts = omega (arith, b .gathers .counts); holds = λ q. absurd (omega (arith, b .gathers .counts)) }
+
+  -- what is left is filled in behind
+  pub begun-holds : count ≤ memberLimit → Held list count
+  begun-holds h = record { room = h; clear = b .gathers .holds ∙ ap (padded memberLimit nobody) (sym (gathers-take list count (b .so-far) h (b .gathers))) }
+
+  pub begun-rest : (r : Roster) (rest : List Member) → count ≤ memberLimit → more ≡ rest → Fills r (take count list ++ rest) → Fills r goal
+  begun-rest r rest h e f =
+      let is : take count list ++ rest ≡ goal = rw (gathers-take list count (b .so-far) h (b .gathers)) (ap (λ (l : List Member). b .so-far ++ l) (sym e) ∙ b .comes) in
+      rw is at f
+
+-- ---- the members of a side
+drop-map : {X Y : Type 0} (f : X → Y) (i : ℕ) (l : List X) → drop i (map f l) ≡ map f (drop i l)
+drop-map f zero l = refl
+drop-map f (suc i) [] = refl
+drop-map f (suc i) (x ∷ l) = drop-map f i l
+
+module _ (counts : Bool) (l : List Member) (n : ℕ) where
+  abbrev pub side : List Member
+  side = map (asGiven counts) (take n l)
+
+  pub side-drop : (i : ℕ) → drop i side ≡ map (asGiven counts) (drop i (take n l))
+  side-drop i = drop-map (asGiven counts) i (take n l)
+
+  pub side-step : (i : ℕ) (d : Member) → i < n → n ≤ length l → map (asGiven counts) (drop i (take n l)) ≡ asGiven counts (getD l i d) ∷ map (asGiven counts) (drop (i + 1) (take n l))
+  side-step i d h k = ap (map (asGiven counts)) (front-step l n i d h k)
+
+  pub side-past : (i : ℕ) → n ≤ i → n ≤ length l → map (asGiven counts) (drop i (take n l)) ≡ []
+  side-past i h k = ap (map (asGiven counts)) (drop-of-length-le (take n l) {i = i} (omega (arith, length-take-le n l k)))
+
+-- statuses don't matter to the order
+above-given : (counts : Bool) (x : List ℕ) (l : List Member) → Above byId x l → Above byId x (map (asGiven counts) l)
+unfolding asGiven
+above-given counts x [] h = tt
+above-given counts x (m ∷ l) h = (h .0, above-given counts x l (h .1))
+
+ascending-given : (counts : Bool) (l : List Member) → Ascending byId l → Ascending byId (map (asGiven counts) l)
+unfolding asGiven
+ascending-given counts [] h = tt
+ascending-given counts (m ∷ l) h = (above-given counts (m .id) l (h .0), ascending-given counts l (h .1))
+
+-- ---- what is taken
+pub taken-some : (o : Order) (x y : Member) → (takenFrom o x y .first ≤ 1) × (takenFrom o x y .second ≤ 1) × (1 ≤ takenFrom o x y .first + takenFrom o x y .second)
+unfolding takenFrom
+taken-some Less x y = (omega arith, omega arith, omega arith)
+taken-some Same x y = (omega arith, omega arith, omega arith)
+taken-some More x y = (omega arith, omega arith, omega arith)
+
+module _ (A B : List Member) (i j : ℕ) (x y : Member) (ea : drop i A ≡ x ∷ drop (i + 1) A) (eb : drop j B ≡ y ∷ drop (j + 1) B) (asc : Ascending byId (y ∷ drop (j + 1) B)) where
+  unite-taken : (o : Order) → compare (x .id) (y .id) ≡ o → unite byId (drop i A) (drop j B) ≡ takenFrom o x y .member ∷ unite byId (drop (i + takenFrom o x y .first) A) (drop (j + takenFrom o x y .second) B)
+  unfolding takenFrom
+  unite-taken Less p =
+      let z : j ≡ j + 0 = omega arith in
+      ap₂ (unite byId) ea eb ∙ unite-less byId x y (drop (i + 1) A) (drop (j + 1) B) asc p
+      ∙ ap (λ (l : List Member). x ∷ unite byId (drop (i + 1) A) l) (sym eb ∙ ap (λ (k : ℕ). drop k B) z)
+  unite-taken Same p = ap₂ (unite byId) ea eb ∙ unite-same byId x y (drop (i + 1) A) (drop (j + 1) B) asc 0 lawful-byId (compare-same (x .id) (y .id) p)
+  unite-taken More p =
+      let z : i ≡ i + 0 = omega arith in
+      ap₂ (unite byId) ea eb ∙ unite-more byId x y (drop (i + 1) A) (drop (j + 1) B) asc (more-below (x .id) (y .id) p)
+      ∙ ap (λ (l : List Member). y ∷ unite byId l (drop (j + 1) B)) (sym ea ∙ ap (λ (k : ℕ). drop k A) z)
+
+-- ---- the first m of a and the first n of b, from i and j on
+module _ (first second : Bool) (a b : List Member) (m n : ℕ) (ma : m ≤ length a) (nb : n ≤ length b) (pb : ascends byId (take n b) ≡ true) where
+  abbrev A : List Member
+  A = side first a m
+
+  abbrev B : List Member
+  B = side second b n
+
+  asc : (j : ℕ) → Ascending byId (drop j B)
+  asc j = ascending-drop byId j B (ascending-given second (take n b) (ascends-says byId (take n b) pb))
+
+  module _ (i j : ℕ) where
+    -- both have one left
+    pub unite-step : (d : Member) → i < m → j < n → (x y : Member) (t : Taken) → x ≡ asGiven first (getD a i d) → y ≡ asGiven second (getD b j d) → t ≡ takenFrom (compare (x .id) (y .id)) x y
+        → unite byId (drop i A) (drop j B) ≡ t .member ∷ unite byId (drop (i + t .first) A) (drop (j + t .second) B)
+    unite-step d h k x y t ex ey et =
+        let ea : drop i A ≡ x ∷ drop (i + 1) A = side-drop first a m i ∙ side-step first a m i d h ma ∙ ap₂ _∷_ (sym ex) (sym (side-drop first a m (i + 1))) in
+        let eb : drop j B ≡ y ∷ drop (j + 1) B = side-drop second b n j ∙ side-step second b n j d k nb ∙ ap₂ _∷_ (sym ey) (sym (side-drop second b n (j + 1))) in
+        rw et (unite-taken A B i j x y ea eb (rw eb at (asc j)) (compare (x .id) (y .id)) refl)
+
+    -- only the first has some left, or only the second
+    pub unite-first : n ≤ j → unite byId (drop i A) (drop j B) ≡ map (asGiven first) (drop i (take m a))
+    unite-first h = ap (unite byId (drop i A)) (side-drop second b n j ∙ side-past second b n j h nb) ∙ unite-nil-right byId (drop i A) ∙ side-drop first a m i
+
+    pub unite-second : m ≤ i → unite byId (drop i A) (drop j B) ≡ map (asGiven second) (drop j (take n b))
+    unite-second h = ap (λ (l : List Member). unite byId l (drop j B)) (side-drop first a m i ∙ side-past first a m i h ma) ∙ unite-nil-left byId (drop j B) (asc j) ∙ side-drop second b n j
