@@ -7,25 +7,26 @@ use Rattle.refusal.specs.Rules.{firstOf}
 use Rattle.octets.specs.Bytes.{within, isDigit, isIdByte, isNameByte, isKeyByte, isPlain}
 use Rattle.octets.specs.Lists.{all, sameBy, padded, startsWith}
 use Rattle.octets.specs.Order.{compare}
+use Rattle.octets.specs.Bits.{hasBit}
 use Rattle.octets.specs.Ascending.{insert, put, unite, ascends}
 use Rattle.names.specs.Fold.{fold, sameName}
 use Rattle.names.specs.Names.{isChannel, isServerId, isUserId}
-use Rattle.channel.specs.Modes.{hasMode, withMode, keyMode, modePlace, placeAmong}
+use Rattle.channel.specs.Modes.{withMode, keyMode, modePlace, placeAmong}
 use Rattle.channel.specs.Key.{isKey, greater}
 use Rattle.channel.specs.Channel.{Channel, member}
 use Rattle.channel.specs.Record.{encode, decode}
-use Rattle.channel.specs.WellFormed.{goodTime, goodKey, goodLimit, goodMember, goodMembers, channelTests, inRoom, clear, wellFormed}
+use Rattle.channel.specs.WellFormed.{goodTime, goodModes, goodKey, goodLimit, goodMember, goodMembers, channelTests, inRoom, clear, wellFormed}
 use Rattle.channel.specs.Merging.{stands, bare, standing, merge, mergeRules, mergeAnswer}
 
 -- the ids 2CDAAAAAA, 1ABAAAAAA and 1ABAAAAAB
-2cd : List ℕ
+unfoldable pub 2cd : List ℕ
 2cd = 50 ∷ 67 ∷ 68 ∷ 65 ∷ 65 ∷ 65 ∷ 65 ∷ 65 ∷ 65 ∷ []
 
-1ab : ℕ → List ℕ
+unfoldable pub 1ab : ℕ → List ℕ
 1ab last = 49 ∷ 65 ∷ 66 ∷ 65 ∷ 65 ∷ 65 ∷ 65 ∷ 65 ∷ last ∷ []
 
 -- record `#Race`, time 1000, k with key `buoy`, member 2CDAAAAAA operator
-stored : Channel
+unfoldable pub stored : Channel
 stored = record {
   name = 35 ∷ 82 ∷ 97 ∷ 99 ∷ 101 ∷ [];
   time = 1000;
@@ -36,7 +37,7 @@ stored = record {
 }
 
 -- `SJOIN 1200 #race +nt :@1ABAAAAAA 1ABAAAAAB`
-incoming : Channel
+unfoldable pub incoming : Channel
 incoming = record {
   name = 35 ∷ 114 ∷ 97 ∷ 99 ∷ 101 ∷ [];
   time = 1200;
@@ -64,5 +65,5 @@ race = refl
 
 -- the same of whole records: accepted, and encoded
 race-records : mergeAnswer (encode stored) (encode incoming) ≡ record { number = accepted; result = encode after }
-unfolding mergeAnswer mergeRules firstOf wellFormed inRoom clear channelTests goodTime goodKey goodLimit goodMember goodMembers all sameBy padded startsWith within isDigit isIdByte isNameByte isKeyByte isPlain isChannel isServerId isUserId isKey hasMode ascends fold sameName encode decode merge standing stands bare insert put unite compare greater withMode placeAmong stored incoming after 1ab 2cd
+unfolding mergeAnswer mergeRules firstOf wellFormed inRoom clear channelTests goodTime goodModes goodKey goodLimit goodMember goodMembers all sameBy padded startsWith within isDigit isIdByte isNameByte isKeyByte isPlain isChannel isServerId isUserId isKey hasBit ascends fold sameName encode decode merge standing stands bare insert put unite compare greater withMode placeAmong stored incoming after 1ab 2cd
 race-records = refl

@@ -1,25 +1,24 @@
 -- A well-formed record is one that passes the tests of `is_well_formed`, made in that order: what a byte, a number of 16 or 32 bits and an array cannot
 -- be isn't tested. Assumes nothing.
 use mathlib.Core.Path.{_≡_, refl}
-use mathlib.Core.Bool.{Bool, true, false, not, _&&_, _||_, Bool·beq, and-true, and-assoc}
+use mathlib.Core.Bool.{Bool, true, false, _&&_, and-true, and-assoc}
 use mathlib.Core.List.{List, [], _∷_}
-use Prim.Native.Nat.{ℕ, _≤_, _<_}
+use Prim.Native.Nat.{ℕ, _≤_, _<_, _^_}
 use native.Mathlib.Omega.{arith}
 use lib.ListN.{length, take, drop, length-take}
-use lib.Dec.{leb, ltb}
+use lib.Dec.{leb}
 use borrow.Author.Tests.{le-leb, lt-leb, lt-ltb, leb-true, leb-false}
-use Rattle.octets.specs.Lists.{all, isNil}
+use Rattle.octets.specs.Lists.{all}
 use Rattle.octets.proofs.Bools.{and-right}
 use Rattle.octets.specs.Ascending.{ascends}
 use Rattle.names.specs.Names.{nameLimit, isChannel}
 use Rattle.channel.specs.declared.Member.{Member}
 use Rattle.channel.specs.declared.Record.{Record}
-use Rattle.channel.specs.Limits.{memberLimit, keyLimit, timeLimit, limitLimit}
-use Rattle.channel.specs.Modes.{hasMode, keyMode, limitMode}
-use Rattle.channel.specs.Key.{isKey}
+use Rattle.channel.specs.Limits.{memberLimit, keyLimit, timeLimit}
+use Rattle.channel.specs.Modes.{modeCount}
 use Rattle.channel.specs.Channel.{byId}
 use Rattle.channel.specs.Record.{decode}
-use Rattle.channel.specs.WellFormed.{isZero, isVacant, goodMember, goodTime, goodKey, goodLimit, goodMembers, channelTests, inRoom, clear, wellFormed}
+use Rattle.channel.specs.WellFormed.{isZero, isVacant, goodMember, goodTime, goodModes, goodKey, goodLimit, goodMembers, channelTests, inRoom, clear, wellFormed}
 
 -- every test of a list passes
 abbrev pub passed : List Bool → Bool
@@ -37,10 +36,6 @@ pub last : (t : Bool) → passed (t ∷ []) ≡ t
 unfolding all
 last t = and-true t
 
--- there is a key exactly with the mode k, and a good one
-abbrev pub keyTest : ℕ → List ℕ → Bool
-keyTest modes k = Bool·beq (hasMode modes keyMode) (not (isNil k)) && (isNil k || isKey k)
-
 -- the tests that are made
 abbrev pub tests : Record → List Bool
 tests r =
@@ -50,8 +45,8 @@ tests r =
     ∷ all isVacant (drop (r .count) (r .members))
     ∷ isChannel (take (r .«name_len») (r .name))
     ∷ leb 1 (r .time)
-    ∷ keyTest (r .modes) (take (r .«key_len») (r .key))
-    ∷ Bool·beq (hasMode (r .modes) limitMode) (ltb 0 (r .limit))
+    ∷ goodKey (r .modes) (take (r .«key_len») (r .key))
+    ∷ goodLimit (r .modes) (r .limit)
     ∷ (leb 1 (r .count) && (all goodMember (take (r .count) (r .members)) && ascends byId (take (r .count) (r .members))))
     ∷ []
 
@@ -74,13 +69,12 @@ module _ (l : List Member) (n : ℕ) (h : length l ≡ memberLimit) where
   not-over : leb (length (take n l)) memberLimit ≡ true
   not-over = le-leb (length (take n l)) memberLimit (omega (arith, length-take n l))
 
-module _ (r : Record) (m : length (r .members) ≡ memberLimit) (t : r .time ≤ timeLimit) (b : r .modes < 256) (n : r .limit ≤ limitLimit) where
+module _ (r : Record) (m : length (r .members) ≡ memberLimit) (t : r .time ≤ timeLimit) (b : r .modes < 2 ^ modeCount) where
   pub well-tests : wellFormed r ≡ passed (tests r)
-  unfolding wellFormed clear channelTests decode goodTime goodKey goodLimit goodMembers all
+  unfolding wellFormed clear channelTests decode goodTime goodModes goodMembers all
   well-tests = simp (
     le-leb (r .time) timeLimit t,
-    lt-ltb (r .modes) 256 b,
-    le-leb (r .limit) limitLimit n,
+    lt-ltb (r .modes) (2 ^ modeCount) b,
     some-used (r .members) (r .count) m,
     not-over (r .members) (r .count) m,
     and-true,

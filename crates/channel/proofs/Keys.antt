@@ -9,7 +9,7 @@ use Rattle.octets.specs.declared.Order.the-variants.{Less, Same, More}
 use Rattle.octets.specs.Order.{compare}
 use Rattle.octets.specs.Lists.{isNil}
 use Rattle.octets.specs.Ascending.{isLess}
-use Rattle.octets.proofs.Ordered.{Below, compare-refl, compare-same, compare-trans, below-more, more-below}
+use Rattle.octets.proofs.Ordered.{compare-nil, Below, compare-refl, compare-same, compare-trans, below-more, more-below}
 use Rattle.octets.proofs.Joins.{Joining}
 use Rattle.channel.specs.Key.{greater}
 
@@ -54,9 +54,8 @@ greater-assoc a b c = go (compare a b) (compare b c) refl refl
         cc (greater-more a b (more-below a b p), greater-more b c (more-below b c q), greater-more a c (compare-trans c b a (more-below b c q) (more-below a b p)))
 
 greater-unit : (a : List ℕ) → greater [] a ≡ a
-unfolding greater compare
-greater-unit [] = refl
-greater-unit (x ∷ a) = refl
+greater-unit [] = greater-self []
+greater-unit (x ∷ a) = greater-less [] (x ∷ a) (compare-nil x a)
 
 pub joining-greater : Joining greater []
 joining-greater = record { assoc = greater-assoc; comm = greater-comm; idem = greater-self; unit = greater-unit }

@@ -9,6 +9,7 @@ pub mod Plains
 pub mod Merges
 pub mod Removals
 pub mod Examples
+pub mod Witnesses
 mod Tests
 mod Judging
 mod Gathering

@@ -14,7 +14,7 @@ use Rattle.channel.specs.Channel.{Channel, byId}
 use Rattle.channel.specs.Merging.{given, standing, merge}
 use Rattle.channel.specs.Plain.{earliest, everyone, plain, spelled}
 use Rattle.channel.proofs.Keys.{joining-greater}
-use Rattle.channel.proofs.Sides.{channel-path, lawful-byId, named, Timed, stands-own, has-standing, ascending-standing, ascending-merge}
+use Rattle.channel.proofs.Sides.{channel-path, keyed-byId, lawful-byId, named, Timed, stands-own, has-standing, ascending-standing, ascending-merge}
 use Rattle.channel.proofs.Plains.{earliest-append, has-everyone, ascending-everyone, merge-plain, plain-single}
 
 -- A record whose members ascend, and which has a time.
@@ -79,7 +79,7 @@ merge-assoc a b c p q r =
 -- ---- whatever the times
 merge-has : (x : List ℕ) (a b : Channel) → named x (merge a b) ≡ (named x a || named x b)
 unfolding merge
-merge-has x a b = has-unite byId 0 lawful-byId x _ _ ∙ ap₂ _||_ (has-standing _ a x) (has-standing _ b x)
+merge-has x a b = has-unite byId keyed-byId x _ _ ∙ ap₂ _||_ (has-standing _ a x) (has-standing _ b x)
 
 ascending-folded : (l : Channel) (s : List Channel) → Ascending byId (l .members) → Ascending byId (folded l s .members)
 unfolding folded
@@ -95,4 +95,4 @@ folded-has x l (k ∷ s) = folded-has x (merge l k) s ∙ ap (λ (b : Bool). b |
 -- as many as they name
 pub length-folded : (l : Channel) (s : List Channel) → Ascending byId (l .members) → length (folded l s .members) ≡ length (everyone (l ∷ s))
 length-folded l s h =
-    same-length byId 0 lawful-byId (folded l s .members) (everyone (l ∷ s)) (ascending-folded l s h) (ascending-everyone (l ∷ s)) (λ x. folded-has x l s ∙ sym (has-everyone x (l ∷ s)))
+    same-length byId (folded l s .members) (everyone (l ∷ s)) (ascending-folded l s h) (ascending-everyone (l ∷ s)) (λ x. folded-has x l s ∙ sym (has-everyone x (l ∷ s)))

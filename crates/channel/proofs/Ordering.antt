@@ -22,7 +22,7 @@ use Rattle.channel.specs.Channel.{byId}
 use Rattle.channel.specs.Record.{nobody}
 use Rattle.channel.specs.Members.{roster, ordered}
 use Rattle.channel.specs.Private.{Sorted}
-use Rattle.channel.proofs.Sides.{lawful-byId}
+use Rattle.channel.proofs.Sides.{keyed-byId}
 use Rattle.channel.proofs.Gathering.{Gathers, gathers-more, gathers-take, roster-gathers}
 
 -- ---- how many there are when one is put
@@ -86,7 +86,7 @@ module _ (entries : List Member) (i : ℕ) (list : List Member) (count : ℕ) (l
         record {
           few = omega (arith, s .few);
           gathers = rw (next, is) (gathers-more list count so-far e (s .gathers));
-          ascending = rw next (ascending-put byId 0 lawful-byId e so-far (s .ascending));
+          ascending = rw next (ascending-put byId keyed-byId e so-far (s .ascending));
           behind = λ k p. rw (next, is) (under-append k so-far (e ∷ []) (s .behind k (compare-trans (last .id) (e .id) k b p)) (p, tt));
         }
 
@@ -106,7 +106,7 @@ module _ (entries : List Member) (i : ℕ) (list : List Member) (count : ℕ) (l
 
       pub inserted-put : (x : Member) → Inserted entries (i + 1) (r .list) (r .count) (getD (r .list) (r .count - 1) x)
       inserted-put x =
-          let asc : Ascending byId (put byId e so-far) = ascending-put byId 0 lawful-byId e so-far (s .ascending) in
+          let asc : Ascending byId (put byId e so-far) = ascending-put byId keyed-byId e so-far (s .ascending) in
           record {
             few = inserted-count .1;
             gathers = rw next g;

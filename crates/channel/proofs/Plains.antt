@@ -19,7 +19,7 @@ use Rattle.channel.specs.Channel.{Channel, byId}
 use Rattle.channel.specs.Merging.{given, merge}
 use Rattle.channel.specs.Plain.{earliest, counts, counted, entries, everyone, statusIn, statusAt, plain, spelled}
 use Rattle.channel.proofs.Keys.{joining-greater}
-use Rattle.channel.proofs.Sides.{channel-path, lawful-byId, named, stands-counts, status-absent, status-unite, same-members, has-standing, status-standing, ascending-merge}
+use Rattle.channel.proofs.Sides.{channel-path, keyed-byId, lawful-byId, named, stands-counts, status-absent, status-unite, same-members, has-standing, status-standing, ascending-merge}
 
 -- ---- time
 earliest-le : (l : Channel) (s : List Channel) (k : Channel) → List·Memᴰ k (l ∷ s) → earliest l s ≤ k .time
@@ -52,12 +52,12 @@ has-entries x (c ∷ s) = total-append _||_ false joining-or (λ m. same x (m .i
 -- every id that any line names, and no other
 pub has-everyone : (x : List ℕ) (s : List Channel) → has byId x (everyone s) ≡ total _||_ false (named x) s
 unfolding everyone
-has-everyone x s = has-unite byId 0 lawful-byId x [] (entries s) ∙ has-entries x s
+has-everyone x s = has-unite byId keyed-byId x [] (entries s) ∙ has-entries x s
 
 -- ascending, and so each once
 pub ascending-everyone : (s : List Channel) → Ascending byId (everyone s)
 unfolding everyone
-ascending-everyone s = ascending-unite byId 0 lawful-byId [] (entries s) tt
+ascending-everyone s = ascending-unite byId keyed-byId [] (entries s) tt
 
 entries-append : (s t : List Channel) → entries (s ++ t) ≡ entries s ++ entries t
 unfolding entries
@@ -72,18 +72,18 @@ length-everyone s t = rw (entries-append s t, unite-append byId [] (entries s) (
 -- the same lines name as many
 pub everyone-same : (s t : List Channel) → Within s t → Within t s → length (everyone s) ≡ length (everyone t)
 everyone-same s t h i =
-    same-length byId 0 lawful-byId (everyone s) (everyone t) (ascending-everyone s) (ascending-everyone t)
+    same-length byId (everyone s) (everyone t) (ascending-everyone s) (ascending-everyone t)
     (λ x. has-everyone x s ∙ total-same _||_ false joining-or (named x) s t h i ∙ sym (has-everyone x t))
 
 -- ---- the plain record's members
 pub ascending-plain : (l : Channel) (s : List Channel) → Ascending byId (plain l s .members)
 unfolding plain
-ascending-plain l s = ascending-restated byId 0 lawful-byId (statusAt (earliest l s) (l ∷ s)) (everyone (l ∷ s)) (ascending-everyone (l ∷ s))
+ascending-plain l s = ascending-restated byId keyed-byId (statusAt (earliest l s) (l ∷ s)) (everyone (l ∷ s)) (ascending-everyone (l ∷ s))
 
 -- every user id that any line names
 pub plain-has : (x : List ℕ) (l : Channel) (s : List Channel) → named x (plain l s) ≡ total _||_ false (named x) (l ∷ s)
 unfolding plain
-plain-has x l s = has-restated byId 0 lawful-byId x (statusAt (earliest l s) (l ∷ s)) (everyone (l ∷ s)) ∙ has-everyone x (l ∷ s)
+plain-has x l s = has-restated byId keyed-byId x (statusAt (earliest l s) (l ∷ s)) (everyone (l ∷ s)) ∙ has-everyone x (l ∷ s)
 
 -- where no line names an id, none gives it a status
 part-false : {X : Type 0} (g : X → Bool) {x : X} {s : List X} → total _||_ false g s ≡ false → List·Memᴰ x s → g x ≡ false
@@ -151,7 +151,7 @@ merge-plain l k s t p q =
     (both greater [] joining-greater (λ c. c .key) (λ c u. refl) l k s t g)
     (both max 0 joining-max (λ c. c .limit) (λ c u. refl) l k s t g)
     (same-members _ _ (ascending-merge (plain l s) (plain k t) (ascending-plain l s)) (ascending-plain l (s ++ k ∷ t))
-    (λ x. has-unite byId 0 lawful-byId x _ _ ∙ ap₂ _||_ (has-standing _ (plain l s) x ∙ plain-has x l s) (has-standing _ (plain k t) x ∙ plain-has x k t)
+    (λ x. has-unite byId keyed-byId x _ _ ∙ ap₂ _||_ (has-standing _ (plain l s) x ∙ plain-has x l s) (has-standing _ (plain k t) x ∙ plain-has x k t)
     ∙ sym (total-append _||_ false joining-or (named x) (l ∷ s) (k ∷ t)) ∙ sym (plain-has x l (s ++ k ∷ t)))
     (λ x. status-unite x _ _ ∙ ap₂ bitOr (status-standing _ (plain l s) x) (status-standing _ (plain k t) x)
     ∙ both bitOr 0 joining-bits (λ c. statusIn x (c .members)) (plain-status x) l k s t g))

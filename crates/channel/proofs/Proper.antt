@@ -7,13 +7,14 @@ use mathlib.Core.List.{List, [], _∷_}
 use native.Mathlib.Omega.{arith}
 use lib.Bits.{bitOr, or-lt}
 use lib.ListN.{length}
-use lib.Dec.{eqb, leb, ltb}
+use lib.Dec.{leb, ltb}
 use borrow.Author.Tests.{leb-true, ltb-true, ltb-false, le-leb, lt-ltb, le-ltb}
 use Rattle.octets.specs.Lists.{all, isNil}
 use Rattle.octets.proofs.Bools.{and-left, and-right, and-intro, beq-says, beq-refl}
 use Rattle.octets.proofs.Lists.{all-map, all-head, all-tail, all-passed}
 use Rattle.octets.proofs.Ascends.{Ascending, ascends-says, ascends-passes, all-unite, length-unite-left}
-use Rattle.names.specs.Names.{hash, nameLimit, isChannel, isUserId}
+use Rattle.names.specs.Names.{isChannel, isUserId}
+use Rattle.names.proofs.Channels.{channel-length}
 use Rattle.channel.specs.declared.Member.{Member}
 use Rattle.channel.specs.declared.Record.{Record}
 use Rattle.channel.specs.Limits.{memberLimit, keyLimit, timeLimit, limitLimit}
@@ -21,7 +22,7 @@ use Rattle.channel.specs.Modes.{hasMode, modeCount, keyMode, limitMode}
 use Rattle.channel.specs.Key.{isKey, greater}
 use Rattle.channel.specs.Channel.{Channel, member, byId}
 use Rattle.channel.specs.Record.{encode, decode}
-use Rattle.channel.specs.WellFormed.{goodTime, goodKey, goodLimit, goodMember, goodMembers, channelTests, inRoom, clear, wellFormed}
+use Rattle.channel.specs.WellFormed.{bothStatuses, goodTime, goodModes, goodKey, goodLimit, goodMember, goodMembers, channelTests, inRoom, clear, wellFormed}
 use Rattle.channel.specs.Merging.{stands, given, bare, standing, merge}
 use Rattle.channel.proofs.Keys.{greater-is, greater-nil}
 use Rattle.channel.proofs.Letters.{has-no-mode, has-either}
@@ -46,7 +47,7 @@ pub record Proper (c : Channel) : Type 0 where
 
 -- ---- the tests say just this
 pub proper-says : (c : Channel) → all (λ t. t) (channelTests c) ≡ true → Proper c
-unfolding channelTests goodTime goodKey goodLimit goodMembers
+unfolding channelTests goodTime goodModes goodKey goodLimit goodMembers
 proper-says c h =
     let t = all-passed (channelTests c) h in
     let counted = t .1 .1 .1 .1 .1 .0 in
@@ -68,7 +69,7 @@ proper-says c h =
     }
 
 pub proper-passes : (c : Channel) → Proper c → all (λ t. t) (channelTests c) ≡ true
-unfolding channelTests goodTime goodKey goodLimit goodMembers all
+unfolding channelTests goodTime goodModes goodKey goodLimit goodMembers all
 proper-passes c p =
     simp (
       p .name,
@@ -87,18 +88,13 @@ proper-passes c p =
     )
 
 -- ---- a record that holds such a channel is well formed, and a well-formed record holds one
-name-room : (n : List ℕ) → isChannel n ≡ true → length n ≤ nameLimit
-unfolding isChannel
-name-room [] h = omega arith
-name-room (b ∷ s) h = leb-true (length (b ∷ s)) nameLimit (and-left _ _ (and-right (leb 1 (length s)) _ (and-right (eqb b hash) _ h)))
-
 key-room : (k : List ℕ) → (isNil k || isKey k) ≡ true → length k ≤ keyLimit
 unfolding isKey
 key-room [] h = omega arith
 key-room (b ∷ s) h = leb-true (length (b ∷ s)) keyLimit (and-left _ _ (and-right (leb 1 (length (b ∷ s))) _ h))
 
 pub proper-fits : (c : Channel) → Proper c → Fits c
-proper-fits c p = record { name = name-room (c .name) (p .name); key = key-room (c .key) (p .key); members = p .few }
+proper-fits c p = record { name = channel-length (c .name) (p .name); key = key-room (c .key) (p .key); members = p .few }
 
 -- the three parts of being well formed
 pub record Well (r : Record) : Type 0 where
@@ -157,9 +153,9 @@ module _ (time : ℕ) (c : Channel) (p : Proper c) where
 both-statuses : (e d : Member) → goodMember e ≡ true → goodMember d ≡ true → goodMember (member (d .id) (bitOr (e .status) (d .status))) ≡ true
 unfolding goodMember
 both-statuses e d h k =
-    let s : e .status ≤ 3 = leb-true (e .status) 3 (and-right (isUserId (e .id)) _ h) in
-    let t : d .status ≤ 3 = leb-true (d .status) 3 (and-right (isUserId (d .id)) _ k) in
-    and-intro (isUserId (d .id)) _ (and-left _ _ k) (le-leb (bitOr (e .status) (d .status)) 3 (omega (arith, or-lt 2 (e .status) (d .status) (omega arith) (omega arith))))
+    let s : e .status ≤ bothStatuses = leb-true (e .status) bothStatuses (and-right (isUserId (e .id)) _ h) in
+    let t : d .status ≤ bothStatuses = leb-true (d .status) bothStatuses (and-right (isUserId (d .id)) _ k) in
+    and-intro (isUserId (d .id)) _ (and-left _ _ k) (le-leb (bitOr (e .status) (d .status)) bothStatuses (omega (arith, or-lt 2 (e .status) (d .status) (omega arith) (omega arith))))
 
 both-keys : (x y : List ℕ) → (not (isNil x) || not (isNil y)) ≡ not (isNil (greater x y))
 both-keys x y = rw (greater-nil x y) (go (isNil x) (isNil y))

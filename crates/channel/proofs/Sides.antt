@@ -10,7 +10,7 @@ use lib.ListN.{length, length-map}
 use borrow.Author.Tests.{eq-eqb, ne-eqb}
 use Rattle.octets.specs.Ascending.{unite}
 use Rattle.octets.proofs.Joins.{joining-bits}
-use Rattle.octets.proofs.Ascends.{Lawful, Ascending, ascending-unite}
+use Rattle.octets.proofs.Ascends.{Keyed, Lawful, Ascending, ascending-unite}
 use Rattle.octets.proofs.Contents.{has, content-absent, content-unite, same-entries, ascending-restated, has-restated, content-restated}
 use Rattle.channel.specs.declared.Member.{Member}
 use Rattle.channel.specs.Channel.{Channel, byId}
@@ -21,8 +21,11 @@ use Rattle.channel.specs.Plain.{counts, statusIn}
 pub channel-path : {c d : Channel} → c .name ≡ d .name → c .time ≡ d .time → c .modes ≡ d .modes → c .key ≡ d .key → c .limit ≡ d .limit → c .members ≡ d .members → c ≡ d
 channel-path p q r s t u = λ i. record { name = p i; time = q i; modes = r i; key = s i; limit = t i; members = u i }
 
+pub keyed-byId : Keyed byId
+keyed-byId = record { key-made = λ k p. refl; load-made = λ k p. refl; made = λ e. refl }
+
 pub lawful-byId : Lawful byId 0
-lawful-byId = record { key-made = λ k p. refl; load-made = λ k p. refl; made = λ e. refl; joining = joining-bits }
+lawful-byId = record { keyed = keyed-byId; joining = joining-bits }
 
 -- a channel has the member
 abbrev pub named : List ℕ → Channel → Bool
@@ -65,7 +68,7 @@ same-members = same-entries byId 0 lawful-byId
 module _ (x : List ℕ) (l : List Member) where
   has-bare : has byId x (bare l) ≡ has byId x l
   unfolding bare
-  has-bare = has-restated byId 0 lawful-byId x (λ y. 0) l
+  has-bare = has-restated byId keyed-byId x (λ y. 0) l
 
   pub status-bare : statusIn x (bare l) ≡ 0
   unfolding bare statusIn
@@ -85,7 +88,7 @@ module _ (time : ℕ) (c : Channel) where
   pub ascending-standing : Ascending byId (c .members) → Ascending byId (standing time c)
   unfolding standing bare
   ascending-standing h =
-      elim (stands time c) as (λ t. Ascending byId (cond t (c .members) (bare (c .members)))) [ true ↦ h | false ↦ ascending-restated byId 0 lawful-byId (λ y. 0) (c .members) h ]
+      elim (stands time c) as (λ t. Ascending byId (cond t (c .members) (bare (c .members)))) [ true ↦ h | false ↦ ascending-restated byId keyed-byId (λ y. 0) (c .members) h ]
 
   pub length-standing : length (standing time c) ≡ length (c .members)
   unfolding standing bare
@@ -96,4 +99,4 @@ pub ascending-merge : (a b : Channel) → Ascending byId (a .members) → Ascend
 unfolding merge
 ascending-merge a b h =
     let m : ℕ = min (a .time) (b .time) in
-    ascending-unite byId 0 lawful-byId (standing m a) (standing m b) (ascending-standing m a h)
+    ascending-unite byId keyed-byId (standing m a) (standing m b) (ascending-standing m a h)

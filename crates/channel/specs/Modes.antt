@@ -1,9 +1,10 @@
 -- Modes kept as one byte: i 1, m 2, n 4, p 8, s 16, t 32, k 64, l 128.
-use Prim.Native.Nat.{ℕ, suc, _/_, _%_, _^_}
+use Prim.Native.Nat.{ℕ, suc, _^_}
 use mathlib.Core.Bool.{Bool, cond}
 use mathlib.Core.List.{List, [], _∷_}
 use lib.Bits.{bitOr}
 use lib.Dec.{eqb, ltb}
+use Rattle.octets.specs.Bits.{hasBit}
 
 -- the letters, each in the place of its bit
 abbrev pub letters : List ℕ
@@ -20,8 +21,8 @@ abbrev pub limitMode : ℕ
 limitMode = 7
 
 -- the byte has the mode at a place
-unfoldable pub hasMode : ℕ → ℕ → Bool
-hasMode modes place = eqb (modes / 2 ^ place % 2) 1
+abbrev pub hasMode : ℕ → ℕ → Bool
+hasMode modes place = hasBit modes place
 
 -- the byte with the mode at a place, which is one of the eight
 unfoldable pub withMode : ℕ → ℕ → ℕ

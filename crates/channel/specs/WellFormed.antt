@@ -1,5 +1,5 @@
 -- A well-formed record (document 01, 'The channel record').
-use Prim.Native.Nat.{ℕ}
+use Prim.Native.Nat.{ℕ, _^_}
 use mathlib.Core.Bool.{Bool, not, _&&_, _||_, Bool·beq}
 use mathlib.Core.List.{List, [], _∷_}
 use lib.ListN.{length, drop}
@@ -10,35 +10,50 @@ use Rattle.names.specs.Names.{nameLimit, isChannel, isUserId}
 use Rattle.channel.specs.declared.Member.{Member}
 use Rattle.channel.specs.declared.Record.{Record}
 use Rattle.channel.specs.Limits.{memberLimit, keyLimit, timeLimit, limitLimit}
-use Rattle.channel.specs.Modes.{hasMode, keyMode, limitMode}
+use Rattle.channel.specs.Modes.{modeCount, hasMode, keyMode, limitMode}
 use Rattle.channel.specs.Key.{isKey}
 use Rattle.channel.specs.Channel.{Channel, byId}
 use Rattle.channel.specs.Record.{decode}
 
 -- ---- of the channel
 -- time 1 to 4,294,967,295
-unfoldable pub goodTime : Channel → Bool
-goodTime c = leb 1 (c .time) && leb (c .time) timeLimit
+unfoldable pub goodTime : ℕ → Bool
+goodTime time = leb 1 time && leb time timeLimit
+
+-- the modes are one byte
+unfoldable pub goodModes : ℕ → Bool
+goodModes modes = ltb modes (2 ^ modeCount)
 
 -- a key, present exactly with k
-unfoldable pub goodKey : Channel → Bool
-goodKey c = Bool·beq (hasMode (c .modes) keyMode) (not (isNil (c .key))) && (isNil (c .key) || isKey (c .key))
+unfoldable pub goodKey : ℕ → List ℕ → Bool
+goodKey modes key = Bool·beq (hasMode modes keyMode) (not (isNil key)) && (isNil key || isKey key)
 
 -- a limit of 1 to 65,535, present exactly with l
-unfoldable pub goodLimit : Channel → Bool
-goodLimit c = Bool·beq (hasMode (c .modes) limitMode) (ltb 0 (c .limit)) && leb (c .limit) limitLimit
+unfoldable pub goodLimit : ℕ → ℕ → Bool
+goodLimit modes limit = Bool·beq (hasMode modes limitMode) (ltb 0 limit) && leb limit limitLimit
 
--- a user id, and a status of voice 1 plus operator 2
+-- voice 1 plus operator 2
+abbrev pub bothStatuses : ℕ
+bothStatuses = 3
+
+-- a user id with a status
 unfoldable pub goodMember : Member → Bool
-goodMember m = isUserId (m .id) && leb (m .status) 3
+goodMember m = isUserId (m .id) && leb (m .status) bothStatuses
 
 -- 1 to 64 members, user ids strictly ascending
-unfoldable pub goodMembers : Channel → Bool
-goodMembers c = leb 1 (length (c .members)) && (leb (length (c .members)) memberLimit && (all goodMember (c .members) && ascends byId (c .members)))
+unfoldable pub goodMembers : List Member → Bool
+goodMembers l = leb 1 (length l) && (leb (length l) memberLimit && (all goodMember l && ascends byId l))
 
 -- the tests of a channel
 unfoldable pub channelTests : Channel → List Bool
-channelTests c = isChannel (c .name) ∷ goodTime c ∷ ltb (c .modes) 256 ∷ goodKey c ∷ goodLimit c ∷ goodMembers c ∷ []
+channelTests c =
+    isChannel (c .name)
+    ∷ goodTime (c .time)
+    ∷ goodModes (c .modes)
+    ∷ goodKey (c .modes) (c .key)
+    ∷ goodLimit (c .modes) (c .limit)
+    ∷ goodMembers (c .members)
+    ∷ []
 
 -- ---- of the record that holds it
 abbrev pub isZero : ℕ → Bool

@@ -1,17 +1,15 @@
 // The tests of a well-formed record, each of the part that it judges.
 ghost use mathlib.Core.Path.{_≡_};
-ghost use mathlib.Core.Bool.{not, _&&_, _||_, Bool·beq};
+ghost use mathlib.Core.Bool.{_&&_};
 ghost use Prim.Native.Nat.{_≤_};
 ghost use lib.ListN.{take, drop};
-ghost use lib.Dec.{leb, ltb};
-ghost use Rattle.octets.specs.Lists.{all, isNil};
+ghost use lib.Dec.{leb};
+ghost use Rattle.octets.specs.Lists.{all};
 ghost use Rattle.octets.specs.Ascending.{ascends};
 ghost use Rattle.names.specs.Names.{nameLimit};
 ghost use Rattle.channel.specs.Limits.{memberLimit, keyLimit};
-ghost use Rattle.channel.specs.Modes.{hasMode, keyMode, limitMode};
-ghost use Rattle.channel.specs.Key.{isKey};
 ghost use Rattle.channel.specs.Channel.{byId};
-ghost use Rattle.channel.specs.WellFormed.{isZero, isVacant, goodMember};
+ghost use Rattle.channel.specs.WellFormed.{isZero, isVacant, goodKey, goodLimit, goodMember};
 use crate::Member;
 use crate::Record;
 use crate::key::is_key;
@@ -37,9 +35,9 @@ pub(crate) fn in_room(name_len: usize, key_len: usize, count: usize) -> bool
     count <= Record::MEMBERS
 }
 
-// Whether every byte from a place on is zero: an or over the bytes, and one test.
-pub(crate) fn zero_from(s: &[u8], from: usize) -> bool
-    ensures { λ r. ⌜ r ≡ all isZero (drop from (now (s .entry))) ⌝ }
+// The bits of the bytes from a place on, joined by or: none exactly if those bytes are zero.
+fn gathered(s: &[u8], from: usize) -> u8
+    ensures { λ r. ⌜ isZero r ≡ all isZero (drop from (now (s .entry))) ⌝ }
 {
     let mut bits = 0u8;
     let mut i = from;
@@ -47,38 +45,41 @@ pub(crate) fn zero_from(s: &[u8], from: usize) -> bool
         bits = bits | s[i];
         i += 1;
     }
-    bits == 0
+    bits
 }
 
-// Whether a place is unused.
-fn is_vacant(m: Member) -> bool
-    ensures { λ r. ⌜ r ≡ isVacant m ⌝ }
+// Whether every byte from a place on is zero: an or over the bytes, and one test.
+pub(crate) fn zero_from(s: &[u8], from: usize) -> bool
+    ensures { λ r. ⌜ r ≡ all isZero (drop from (now (s .entry))) ⌝ }
+{
+    gathered(s, from) == 0
+}
+
+// The bits of a member's bytes, joined by or: none exactly if its place is unused.
+fn member_bits(m: Member) -> u8
+    ensures { λ r. ⌜ isZero r ≡ isVacant m ⌝ }
 {
     let id = m.id;
-    if !zero_from(&id, 0) {
-        return false;
-    }
-    m.status == 0
+    gathered(&id, 0) | m.status
 }
 
-// Whether every place from one on is unused.
+// Whether every place from one on is unused: an or over the bytes of all, and one test.
 pub(crate) fn vacant_from(members: [Member; Record::MEMBERS], from: usize) -> bool
     ensures { λ r. ⌜ r ≡ all isVacant (drop from members) ⌝ }
 {
+    let mut bits = 0u8;
     let mut i = from;
     while i < Record::MEMBERS {
         let m = members[i];
-        if !is_vacant(m) {
-            return false;
-        }
+        bits = bits | member_bits(m);
         i += 1;
     }
-    true
+    bits == 0
 }
 
 // Whether there is a key exactly with the mode k, and a good one.
 pub(crate) fn good_key(modes: u8, key: &[u8]) -> bool
-    ensures { λ r. ⌜ r ≡ Bool·beq (hasMode modes keyMode) (not (isNil (now (key .entry)))) && (isNil (now (key .entry)) || isKey (now (key .entry))) ⌝ }
+    ensures { λ r. ⌜ r ≡ goodKey modes (now (key .entry)) ⌝ }
 {
     if key.len() == 0 {
         return !has_mode(modes, KEY_MODE);
@@ -91,7 +92,7 @@ pub(crate) fn good_key(modes: u8, key: &[u8]) -> bool
 
 // Whether there is a limit exactly with the mode l.
 pub(crate) fn good_limit(modes: u8, limit: u16) -> bool
-    ensures { λ r. ⌜ r ≡ Bool·beq (hasMode modes limitMode) (ltb 0 limit) ⌝ }
+    ensures { λ r. ⌜ r ≡ goodLimit modes limit ⌝ }
 {
     if limit == 0 {
         return !has_mode(modes, LIMIT_MODE);

@@ -1,4 +1,5 @@
--- Laws of the fold and of equal names. Only this file and the proof of `fold` open the fold's definition. Assumes nothing.
+-- Laws of the fold and of equal names. Only this file, the proof of `fold`, and examples that are computed open the
+-- fold's definition. Assumes nothing.
 use mathlib.Core.Path.{_≡_, refl, sym, ap, _∙_}
 use mathlib.Core.Bool.{Bool, true, false, _&&_}
 use mathlib.Core.Logic.{_⊎_, inl, inr}

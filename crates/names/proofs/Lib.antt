@@ -1,3 +1,4 @@
 -- Laws that the crates above cite, and examples.
 pub mod Folds
+pub mod Channels
 pub mod Examples

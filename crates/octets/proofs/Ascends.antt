@@ -17,11 +17,15 @@ use Rattle.octets.proofs.Lists.{all-head, all-tail, all-cons}
 use Rattle.octets.proofs.Ordered.{Below, compare-refl, compare-trans, below-more, more-below}
 use Rattle.octets.proofs.Joins.{Joining}
 
--- The parts of an entry fit together, and its loads join, `none` being neutral.
-pub record Lawful {E P : Type 0} (K : Kind E P) (none : P) : Type 0 where
+-- The parts of an entry fit together.
+pub record Keyed {E P : Type 0} (K : Kind E P) : Type 0 where
   pub key-made : (k : List ℕ) (p : P) → K .key (K .make k p) ≡ k
   pub load-made : (k : List ℕ) (p : P) → K .load (K .make k p) ≡ p
   pub made : (e : E) → K .make (K .key e) (K .load e) ≡ e
+
+-- They fit together, and its loads join, `none` being neutral.
+pub record Lawful {E P : Type 0} (K : Kind E P) (none : P) : Type 0 where
+  pub keyed : Keyed K
   pub joining : Joining (K .join) none
 
 module _ {E P : Type 0} (K : Kind E P) where
@@ -67,16 +71,6 @@ module _ {E P : Type 0} (K : Kind E P) where
   unfolding put
   put-front e [] h = refl
   put-front e (d ∷ b) h = put-less e d b (h .0)
-
-  pub put-before : (e : E) (a b : List E) → Above K (K .key e) b → put K e (a ++ b) ≡ put K e a ++ b
-  unfolding put insert
-  put-before e [] b h = put-front e b h
-  put-before e (d ∷ a) b h = go (compare (K .key e) (K .key d)) (put-before e a b h)
-    where
-      go : (o : Order) → put K e (a ++ b) ≡ put K e a ++ b → insert K o e d (a ++ b) (put K e (a ++ b)) ≡ insert K o e d a (put K e a) ++ b
-      go Less ih = refl
-      go Same ih = refl
-      go More ih = ap (_∷_ d) ih
 
   -- an insertion from the end stops behind the last that is below it, or at the one that has its key
   pub put-between : (e : E) (a b : List E) → Under K (K .key e) a → Above K (K .key e) b → put K e (a ++ b) ≡ a ++ e ∷ b
@@ -140,11 +134,11 @@ module _ {E P : Type 0} (K : Kind E P) where
     unfolding unite
     unite-more p = ap (λ (l : List E). unite K l b) (put-less K y x a p) ∙ unite-past y (x ∷ a) b (h .0)
 
-    pub unite-same : (none : P) → Lawful K none → K .key x ≡ K .key y → unite K (x ∷ a) (y ∷ b) ≡ joined K y x ∷ unite K a b
+    pub unite-same : Keyed K → K .key x ≡ K .key y → unite K (x ∷ a) (y ∷ b) ≡ joined K y x ∷ unite K a b
     unfolding unite
-    unite-same none L p =
+    unite-same M p =
         ap (λ (l : List E). unite K l b) (put-same K y x a (sym p))
-        ∙ unite-past (joined K y x) a b (rw (L .key-made (K .key x) (K .join (K .load y) (K .load x)), p) (h .0))
+        ∙ unite-past (joined K y x) a b (rw (M .key-made (K .key x) (K .join (K .load y) (K .load x)), p) (h .0))
 
   pub unite-append : (a b c : List E) → unite K a (b ++ c) ≡ unite K (unite K a b) c
   unfolding unite
@@ -208,7 +202,7 @@ module _ {E P : Type 0} (K : Kind E P) (p : E → Bool) (add : (e d : E) → p e
   all-unite a (e ∷ b) h k = all-unite (put K e a) b (all-put e a (all-head p e b k) h) (all-tail p e b k)
 
 -- ---- kinds whose parts fit together
-module _ {E P : Type 0} (K : Kind E P) (none : P) (L : Lawful K none) where
+module _ {E P : Type 0} (K : Kind E P) (M : Keyed K) where
   above-put : (x : List ℕ) (e : E) (l : List E) → Below x (K .key e) → Above K x l → Above K x (put K e l)
   unfolding put insert
   above-put x e [] p h = (p, tt)
@@ -216,7 +210,7 @@ module _ {E P : Type 0} (K : Kind E P) (none : P) (L : Lawful K none) where
     where
       go : (o : Order) → Above K x (put K e l) → Above K x (insert K o e d l (put K e l))
       go Less k = (p, h)
-      go Same k = (rw (L .key-made (K .key d) (K .join (K .load e) (K .load d))) (h .0), h .1)
+      go Same k = (rw (M .key-made (K .key d) (K .join (K .load e) (K .load d))) (h .0), h .1)
       go More k = (h .0, k)
 
   pub ascending-put : (e : E) (l : List E) → Ascending K l → Ascending K (put K e l)
@@ -226,7 +220,7 @@ module _ {E P : Type 0} (K : Kind E P) (none : P) (L : Lawful K none) where
     where
       go : (o : Order) → compare (K .key e) (K .key d) ≡ o → Ascending K (put K e l) → Ascending K (insert K o e d l (put K e l))
       go Less p k = ((p, above-trans K (K .key e) (K .key d) l p (h .0)), h)
-      go Same p k = (rw (L .key-made (K .key d) (K .join (K .load e) (K .load d))) (h .0), h .1)
+      go Same p k = (rw (M .key-made (K .key d) (K .join (K .load e) (K .load d))) (h .0), h .1)
       go More p k = (above-put (K .key d) e l (more-below (K .key e) (K .key d) p) (h .0), k)
 
   pub ascending-unite : (a b : List E) → Ascending K a → Ascending K (unite K a b)

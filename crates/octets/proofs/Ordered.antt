@@ -41,6 +41,11 @@ unfolding compare
 compare-refl [] = refl
 compare-refl (x ∷ s) = heads-same x x s s refl ∙ compare-refl s
 
+-- the empty list comes before any other
+pub compare-nil : (x : ℕ) (s : List ℕ) → compare [] (x ∷ s) ≡ Less
+unfolding compare
+compare-nil x s = refl
+
 -- antisymmetric: lists of which neither is smaller are equal
 pub compare-same : (a b : List ℕ) → compare a b ≡ Same → a ≡ b
 unfolding compare

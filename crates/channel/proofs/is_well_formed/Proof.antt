@@ -9,8 +9,8 @@ use Rattle.octets.proofs.Lists.{unmapped}
 use Rattle.octets.proofs.Room.{part-front}
 use Rattle.channel.specs.declared.Record.{Record}
 use Rattle.channel.specs.Limits.{memberLimit}
-use Rattle.channel.specs.WellFormed.{inRoom, wellFormed}
-use Rattle.channel.proofs.Judging.{passed, pass, fail, last, keyTest, tests, well-tests, in-room-count}
+use Rattle.channel.specs.WellFormed.{goodKey, inRoom, wellFormed}
+use Rattle.channel.proofs.Judging.{passed, pass, fail, last, tests, well-tests, in-room-count}
 use Rattle.channel.proofs.is_well_formed.Statement.{statement}
 use Rattle.channel.proofs.is_well_formed.Tie as tie
 
@@ -53,14 +53,14 @@ room c = c .in-room .ensures
 named : (c : tie.After-is-channel) → c .is-channel .result ≡ isChannel (take (at-4 (c .before .before .before) .«name_len») (at-4 (c .before .before .before) .name))
 named c = c .is-channel .ensures ∙ ap isChannel (c .before .part .ensures .0 ∙ part-front (at-4 (c .before .before .before) .name) (at-4 (c .before .before .before) .«name_len»))
 
-keyed : (c : tie.After-good-key) → c .good-key .result ≡ keyTest (at-6 (c .before .before .before) .modes) (take (at-6 (c .before .before .before) .«key_len») (at-6 (c .before .before .before) .key))
-keyed c = c .good-key .ensures ∙ ap (keyTest (at-6 (c .before .before .before) .modes)) (c .before .part2 .ensures .0 ∙ part-front (at-6 (c .before .before .before) .key) (at-6 (c .before .before .before) .«key_len»))
+keyed : (c : tie.After-good-key) → c .good-key .result ≡ goodKey (at-6 (c .before .before .before) .modes) (take (at-6 (c .before .before .before) .«key_len») (at-6 (c .before .before .before) .key))
+keyed c = c .good-key .ensures ∙ ap (goodKey (at-6 (c .before .before .before) .modes)) (c .before .part2 .ensures .0 ∙ part-front (at-6 (c .before .before .before) .key) (at-6 (c .before .before .before) .«key_len»))
 
 -- ---- what is left to be tested
 left-0 : (c : tie.After-in-room) → wellFormed (at-0 c) ≡ passed (tests (at-0 c))
 left-0 c =
     let m : length (at-0 c .members) ≡ memberLimit = search (needs, unmapped) in
-    well-tests (at-0 c) m (search needs) (search needs) (search needs)
+    well-tests (at-0 c) m (search needs) (search needs)
 
 left-1 : (c : tie.Else1) → wellFormed (at-1 c) ≡ passed (drop 1 (tests (at-1 c)))
 left-1 c = left-0 (c .before) ∙ pass _ (sym (room (c .before)) ∙ not-false _ (c .if1 .left))

@@ -1,40 +1,42 @@
 -- `good_key` meets its contract: there is a key exactly if it isn't empty. Assumes nothing.
 use mathlib.Core.Path.{_≡_, sym, ap, _∙_}
-use mathlib.Core.Bool.{Bool, false, not, _&&_, _||_, Bool·beq, and-true}
+use mathlib.Core.Bool.{Bool, false, not, _&&_, Bool·beq, and-true}
 use mathlib.Core.List.{List}
 use Prim.Native.Nat.{ℕ}
 use lib.ListN.{length}
 use borrow.Author.Needs.{needs}
 use borrow.Author.Tests.{eq-eqb, ne-eqb, not-true, not-false}
-use Rattle.octets.specs.Lists.{isNil}
 use Rattle.octets.proofs.Lists.{nil-length}
 use Rattle.channel.specs.Modes.{hasMode, keyMode}
 use Rattle.channel.specs.Key.{isKey}
+use Rattle.channel.specs.WellFormed.{goodKey}
 use Rattle.channel.proofs.Tests.{beq-true, beq-false}
 use Rattle.channel.proofs.well.good_key.Statement.{statement}
 use Rattle.channel.proofs.well.good_key.Tie as tie
 
-module _ (t : Bool) (k : List ℕ) where
-  none : length k ≡ 0 → Bool·beq t (not (isNil k)) && (isNil k || isKey k) ≡ not t
-  none e = rw (nil-length k ∙ eq-eqb (length k) 0 e) (and-true (Bool·beq t false) ∙ beq-false t)
+module _ (modes : ℕ) (k : List ℕ) where
+  none : length k ≡ 0 → goodKey modes k ≡ not (hasMode modes keyMode)
+  unfolding goodKey
+  none e = rw (nil-length k ∙ eq-eqb (length k) 0 e) (and-true (Bool·beq (hasMode modes keyMode) false) ∙ beq-false (hasMode modes keyMode))
 
-  some : (length k ≡ 0 → ⊥) → Bool·beq t (not (isNil k)) && (isNil k || isKey k) ≡ t && isKey k
-  some ne = rw (nil-length k ∙ ne-eqb (length k) 0 ne, beq-true t)
+  some : (length k ≡ 0 → ⊥) → goodKey modes k ≡ hasMode modes keyMode && isKey k
+  unfolding goodKey
+  some ne = rw (nil-length k ∙ ne-eqb (length k) 0 ne, beq-true (hasMode modes keyMode))
 
 has-mode-requires : tie.Need-has-mode-requires
 has-mode-requires c κs = search needs
 
 returns : tie.Need-returns
-returns c = let a = c .before .before .before .args in ap not (c .has-mode .ensures) ∙ sym (none (hasMode (a .modes) keyMode) (a .key .now) (c .before .if1 .taken))
+returns c = let a = c .before .before .before .args in ap not (c .has-mode .ensures) ∙ sym (none (a .modes) (a .key .now) (c .before .if1 .taken))
 
 has-mode-requires-2 : tie.Need-has-mode-requires-2
 has-mode-requires-2 c κs = search needs
 
 -- what is known once there is a key
-kept : (c : tie.After-has-mode2) → Bool·beq (hasMode (c .before .before .before .args .modes) keyMode) (not (isNil (c .before .before .before .args .key .now))) && (isNil (c .before .before .before .args .key .now) || isKey (c .before .before .before .args .key .now)) ≡ c .has-mode2 .result && isKey (c .before .before .before .args .key .now)
+kept : (c : tie.After-has-mode2) → goodKey (c .before .before .before .args .modes) (c .before .before .before .args .key .now) ≡ c .has-mode2 .result && isKey (c .before .before .before .args .key .now)
 kept c =
     let a = c .before .before .before .args in
-    some (hasMode (a .modes) keyMode) (a .key .now) (c .before .if1 .left) ∙ ap (λ (t : Bool). t && isKey (a .key .now)) (sym (c .has-mode2 .ensures))
+    some (a .modes) (a .key .now) (c .before .if1 .left) ∙ ap (λ (t : Bool). t && isKey (a .key .now)) (sym (c .has-mode2 .ensures))
 
 returns-2 : tie.Need-returns-2
 returns-2 c = sym (kept (c .before) ∙ rw (not-true (c .before .has-mode2 .result) (c .if2 .taken)))
