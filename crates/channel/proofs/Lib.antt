@@ -8,6 +8,8 @@ pub mod Proper
 pub mod Plains
 pub mod Merges
 pub mod Removals
+pub mod Blank
+pub mod Decoded
 pub mod Examples
 pub mod Witnesses
 mod Tests

@@ -72,3 +72,21 @@ clear r = all isZero (drop (r .«name_len») (r .name)) && (all isZero (drop (r 
 
 unfoldable pub wellFormed : Record → Bool
 wellFormed r = all (λ t. t) (inRoom r ∷ clear r ∷ channelTests (decode r))
+
+-- ---- of a free slot, which is zero
+abbrev pub zeroTests : Record → List Bool
+zeroTests r =
+    all isZero (r .name)
+    ∷ isZero (r .«name_len»)
+    ∷ isZero (r .time)
+    ∷ isZero (r .modes)
+    ∷ all isZero (r .key)
+    ∷ isZero (r .«key_len»)
+    ∷ isZero (r .limit)
+    ∷ all isVacant (r .members)
+    ∷ isZero (r .count)
+    ∷ []
+
+-- every part of the record is zero
+unfoldable pub isBlank : Record → Bool
+isBlank r = all (λ t. t) (zeroTests r)

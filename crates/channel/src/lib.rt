@@ -10,7 +10,7 @@ ghost use mathlib.Core.Path.{_≡_};
 ghost use Rattle.names.specs.Names.{nameLimit};
 ghost use Rattle.channel.specs.Limits.{memberLimit, keyLimit, slotCount};
 ghost use Rattle.channel.specs.Record.{emptyRecord};
-ghost use Rattle.channel.specs.WellFormed.{wellFormed};
+ghost use Rattle.channel.specs.WellFormed.{wellFormed, isBlank};
 ghost use Rattle.channel.specs.Merging.{mergeAnswer};
 use members::vacant;
 use merging::merged;
@@ -91,6 +91,40 @@ pub struct Merged {
 pub struct Roster {
     pub list: [Member; Record::MEMBERS],
     pub count: usize,
+}
+
+// Whether every part of the record is zero, as in a free slot.
+pub fn is_blank(r: Record) -> bool
+    ensures { λ t. ⌜ t ≡ isBlank r ⌝ }
+{
+    let name = r.name;
+    let key = r.key;
+    let members = r.members;
+    if !zero_from(&name, 0) {
+        return false;
+    }
+    if r.name_len != 0 {
+        return false;
+    }
+    if r.time != 0 {
+        return false;
+    }
+    if r.modes != 0 {
+        return false;
+    }
+    if !zero_from(&key, 0) {
+        return false;
+    }
+    if r.key_len != 0 {
+        return false;
+    }
+    if r.limit != 0 {
+        return false;
+    }
+    if !vacant_from(members, 0) {
+        return false;
+    }
+    r.count == 0
 }
 
 // Whether the record is well formed: what is in use keeps to its room, unused room is zero, and what it holds is a channel.

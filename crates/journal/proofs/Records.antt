@@ -13,8 +13,8 @@ use Rattle.refusal.specs.Rules.{firstOf, emitted, ascend, ascendFrom}
 use Rattle.refusal.proofs.Rules.{emitted-none, emitted-all}
 use Rattle.octets.specs.Room.{putAt, front}
 use Rattle.octets.proofs.Room.{put-front, put-behind}
-use Rattle.message.specs.Grammar.{lineLimit}
 use Rattle.links.specs.Links.{linkCount}
+use Rattle.message.specs.Grammar.{lineLimit}
 use Rattle.journal.specs.declared.Logged.{Logged}
 use Rattle.journal.specs.Journal.{headLength, headOf, recordOf, linkIn, lineIn, logRules, answerFor, refusedBy}
 

@@ -6,8 +6,8 @@ use lib.ListN.{length, take, drop, getD}
 use lib.Dec.{ltb}
 use Rattle.refusal.specs.Numbers.{badLink, lineTooLong, noRoom}
 use Rattle.refusal.specs.Rules.{Rule, _when_, firstOf, emitted}
+use Rattle.links.specs.Links.{isLink}
 use Rattle.message.specs.Grammar.{lineLimit}
-use Rattle.links.specs.Links.{linkCount}
 use Rattle.journal.specs.declared.Logged.{Logged}
 
 -- the bytes of a record before its line
@@ -33,7 +33,7 @@ lineIn log = take (getD log 3 0 * 256 + getD log 4 0) (drop headLength log)
 -- ---- the answer
 unfoldable pub logRules : ℕ → List ℕ → List ℕ → List Rule
 logRules link line log =
-    badLink when not (ltb link linkCount)
+    badLink when not (isLink link)
     ∷ lineTooLong when ltb lineLimit (length line)
     ∷ noRoom when ltb (length log) (length line + headLength)
     ∷ []

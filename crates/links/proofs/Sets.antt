@@ -4,13 +4,13 @@ use mathlib.Core.Path.{_≡_, refl, sym, ap, _∙_}
 use mathlib.Core.Bool.{Bool, true, false, not, _&&_, _||_, and-true, and-false, or-false}
 use Prim.Native.Nat.{ℕ, _-_, _^_, _≤_, _<_}
 use lib.Bits.{bitOr}
-use lib.Dec.{eqb, ltb}
+use lib.Dec.{eqb}
 use borrow.Author.Tests.{eq-eqb, lt-ltb, le-ltb, eqb-true, ltb-true, ltb-false}
 use Rattle.octets.specs.Bits.{hasBit}
 use Rattle.octets.proofs.Joins.{joining-bits}
 use Rattle.octets.proofs.Bitwise.{bit-union, bit-power, bit-off}
 use Rattle.links.specs.declared.Links.{Links}
-use Rattle.links.specs.Links.{linkCount, links, withLink, lessLink, withoutLink, relaySet}
+use Rattle.links.specs.Links.{linkCount, isLink, links, withLink, lessLink, withoutLink, relaySet}
 
 -- ---- one registered
 module _ (l : Links) (link : ℕ) where
@@ -22,10 +22,10 @@ module _ (l : Links) (link : ℕ) where
   unfolding withLink
   with-none h = rw (le-ltb link linkCount h)
 
-  pub has-with : (j : ℕ) → hasBit (withLink l link .set) j ≡ hasBit (l .set) j || (ltb link linkCount && eqb j link)
-  has-with j = go (ltb link linkCount) refl
+  pub has-with : (j : ℕ) → hasBit (withLink l link .set) j ≡ hasBit (l .set) j || (isLink link && eqb j link)
+  has-with j = go (isLink link) refl
     where
-      go : (t : Bool) → ltb link linkCount ≡ t → hasBit (withLink l link .set) j ≡ hasBit (l .set) j || (ltb link linkCount && eqb j link)
+      go : (t : Bool) → isLink link ≡ t → hasBit (withLink l link .set) j ≡ hasBit (l .set) j || (isLink link && eqb j link)
       go true e = rw (with-is (ltb-true link linkCount e), e, bit-union (l .set) (2 ^ link) j, bit-power link j)
       go false e = rw (with-none (ltb-false link linkCount e), e) (sym (or-false (hasBit (l .set) j)))
 
@@ -53,9 +53,9 @@ has-without l link j = has-less (l .set) link j
 
 -- ---- doing so twice changes nothing more
 pub with-twice : (l : Links) (link : ℕ) → withLink (withLink l link) link ≡ withLink l link
-with-twice l link = go (ltb link linkCount) refl
+with-twice l link = go (isLink link) refl
   where
-    go : (t : Bool) → ltb link linkCount ≡ t → withLink (withLink l link) link ≡ withLink l link
+    go : (t : Bool) → isLink link ≡ t → withLink (withLink l link) link ≡ withLink l link
     go true e =
         let h = ltb-true link linkCount e in
         rw (with-is l link h, with-is (links (bitOr (l .set) (2 ^ link))) link h) (ap links (joining-bits .assoc (l .set) (2 ^ link) (2 ^ link) ∙ ap (bitOr (l .set)) (joining-bits .idem (2 ^ link))))

@@ -1,6 +1,6 @@
 -- Sets of links as 32 bits: link i is bit i.
 use Prim.Native.Nat.{ℕ, zero, suc, _-_, _^_}
-use mathlib.Core.Bool.{cond}
+use mathlib.Core.Bool.{Bool, cond}
 use mathlib.Core.List.{List, [], _∷_}
 use lib.Bits.{bitOr}
 use lib.Dec.{ltb}
@@ -11,6 +11,10 @@ use Rattle.links.specs.declared.Links.{Links}
 abbrev pub linkCount : ℕ
 linkCount = 32
 
+-- a number is a link's
+abbrev pub isLink : ℕ → Bool
+isLink link = ltb link linkCount
+
 abbrev pub links : ℕ → Links
 links set = record { set = set }
 
@@ -19,7 +23,7 @@ noLinks = links 0
 
 -- one more registered; a number that is no link's changes nothing
 unfoldable pub withLink : Links → ℕ → Links
-withLink l link = cond (ltb link linkCount) (links (bitOr (l .set) (2 ^ link))) l
+withLink l link = cond (isLink link) (links (bitOr (l .set) (2 ^ link))) l
 
 -- a set less one of its links
 unfoldable pub lessLink : ℕ → ℕ → ℕ

@@ -79,6 +79,11 @@ module _ {A : Type 0} (p : A → Bool) where
   all-drop (suc n) [] h = h
   all-drop (suc n) (x ∷ s) h = all-drop n s (all-tail x s h)
 
+  pub all-replicate : (x : A) (n : ℕ) → p x ≡ true → all p (replicate n x) ≡ true
+  unfolding all
+  all-replicate x zero e = refl
+  all-replicate x (suc n) e = all-cons x (replicate n x) e (all-replicate x n e)
+
   -- of every element, and so of the one at a place
   pub all-at : (s : List A) (k : ℕ) (d : A) → all p s ≡ true → k < length s → p (getD s k d) ≡ true
   all-at [] k d h = λ lt. absurd (omega arith)

@@ -1,0 +1,73 @@
+-- Laws of the first place of a list that passes a test: it passes, and none before it does. Assumes nothing.
+use mathlib.Core.Path.{_≡_, refl}
+use mathlib.Core.Bool.{Bool, true, false}
+use mathlib.Core.List.{List, [], _∷_}
+use Prim.Native.Nat.{ℕ, zero, suc, _+_, _≤_, _<_}
+use native.Mathlib.Omega.{arith}
+use lib.ListN.{length, drop, getD}
+use Rattle.octets.proofs.Lists.{drop-step}
+use Rattle.table.specs.Slots.{firstAt}
+
+module _ {A : Type 0} (p : A → Bool) where
+  -- ---- at a place
+  module _ (l : List A) (i : ℕ) (d : A) (h : i < length l) where
+    first-stop : p (getD l i d) ≡ true → firstAt p (drop i l) ≡ 0
+    unfolding firstAt
+    first-stop e = rw (drop-step l i d h, e)
+
+    first-go : p (getD l i d) ≡ false → firstAt p (drop i l) ≡ suc (firstAt p (drop (i + 1) l))
+    unfolding firstAt
+    first-go e = rw (drop-step l i d h, e)
+
+    -- ---- the same for a search that has passed over those before
+    module _ (e : firstAt p l ≡ i + firstAt p (drop i l)) where
+      pub first-here : p (getD l i d) ≡ true → firstAt p l ≡ i
+      first-here y = omega (arith, first-stop y)
+
+      pub first-next : p (getD l i d) ≡ false → firstAt p l ≡ i + 1 + firstAt p (drop (i + 1) l)
+      first-next n = omega (arith, first-go n)
+
+  pub first-end : (l : List A) (i : ℕ) → length l ≤ i → firstAt p l ≡ i + firstAt p (drop i l) → length l ≤ firstAt p l
+  first-end l i h e = omega arith
+
+  -- ---- of the whole list
+  first-passes : (l : List A) (d : A) → firstAt p l < length l → p (getD l (firstAt p l) d) ≡ true
+  unfolding firstAt
+  first-passes [] d = λ h. absurd (omega arith)
+  first-passes (x ∷ l) d = go (p x) refl (first-passes l d)
+    where
+      go : (t : Bool) → p x ≡ t → (firstAt p l < length l → p (getD l (firstAt p l) d) ≡ true) → firstAt p (x ∷ l) < length (x ∷ l) → p (getD (x ∷ l) (firstAt p (x ∷ l)) d) ≡ true
+      go true e ih = λ h. rw e e
+      go false e ih = λ h. rw e (ih (let k : suc (firstAt p l) < suc (length l) = rw e at h in omega arith))
+
+  first-before : (l : List A) (d : A) (j : ℕ) → j < firstAt p l → p (getD l j d) ≡ false
+  unfolding firstAt
+  first-before [] d j = λ h. absurd (omega arith)
+  first-before (x ∷ l) d j = go (p x) refl j (first-before l d)
+    where
+      go : (t : Bool) → p x ≡ t → (i : ℕ) → ((i : ℕ) → i < firstAt p l → p (getD l i d) ≡ false) → i < firstAt p (x ∷ l) → p (getD (x ∷ l) i d) ≡ false
+      go true e i ih = λ h. absurd (let k : i < 0 = rw e at h in omega arith)
+      go false e zero ih = λ h. e
+      go false e (suc i) ih = λ h. ih i (let k : suc i < suc (firstAt p l) = rw e at h in omega arith)
+
+-- ---- what is first
+-- The place k is the first of a list that passes the test; d stands for what lies past the end.
+pub record IsFirst {A : Type 0} (p : A → Bool) (l : List A) (d : A) (k : ℕ) : Type 0 where
+  pub inside : k < length l
+  pub passes : p (getD l k d) ≡ true
+  pub before : (j : ℕ) → j < k → p (getD l j d) ≡ false
+
+-- No place of a list passes the test.
+abbrev pub IsNone : {A : Type 0} → (A → Bool) → List A → A → Type 0
+IsNone p l d = (j : ℕ) → j < length l → p (getD l j d) ≡ false
+
+module _ {A : Type 0} (p : A → Bool) (l : List A) (d : A) where
+  pub first-is : (k : ℕ) → firstAt p l ≡ k → k < length l → IsFirst p l d k
+  first-is k e h = record {
+    inside = h;
+    passes = rw e at (first-passes p l d (omega arith));
+    before = λ j b. first-before p l d j (omega arith);
+  }
+
+  pub first-none : length l ≤ firstAt p l → IsNone p l d
+  first-none h j b = first-before p l d j (omega arith)

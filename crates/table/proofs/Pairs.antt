@@ -1,0 +1,41 @@
+-- The pairs of slots looked at one after the other, the first being i and the second j: what is left of them to look at. Assumes nothing.
+use mathlib.Core.Path.{_≡_, ap, _∙_}
+use mathlib.Core.Bool.{Bool, true, false, not, _&&_}
+use mathlib.Core.List.{List}
+use Prim.Native.Nat.{ℕ, _+_, _≤_, _<_}
+use lib.ListN.{length, drop, getD, drop-of-length-le}
+use Rattle.octets.specs.Lists.{all}
+use Rattle.octets.proofs.Lists.{drop-step, getD-any, all-past, all-stop, all-go}
+use Rattle.channel.specs.declared.Record.{Record}
+use Rattle.channel.specs.Record.{emptyRecord}
+use Rattle.table.specs.Table.{alike, distinct}
+use Rattle.table.proofs.WellFormed.{unlike}
+
+-- no slot from j on is like slot i, and those above slot i are distinct
+abbrev pub left : List Record → ℕ → ℕ → Bool
+left l i j = all (unlike (getD l i emptyRecord)) (drop j l) && distinct (drop (i + 1) l)
+
+module _ (l : List Record) (i : ℕ) where
+  pub distinct-past : length l ≤ i → distinct (drop i l) ≡ true
+  unfolding distinct
+  distinct-past h = rw (drop-of-length-le l h)
+
+  -- a row begins
+  pub row-begins : i < length l → distinct (drop i l) ≡ left l i (i + 1)
+  unfolding distinct
+  row-begins h = rw (drop-step l i emptyRecord h)
+
+  -- and ends
+  pub row-ends : (j : ℕ) → length l ≤ j → left l i j ≡ distinct (drop (i + 1) l)
+  row-ends j h = rw (all-past (unlike (getD l i emptyRecord)) l j h)
+
+  -- a pair is looked at
+  module _ (j : ℕ) (d : Record) (h : i < length l) (k : j < length l) where
+    same-pair : alike (getD l i emptyRecord) (getD l j d) ≡ alike (getD l i d) (getD l j d)
+    same-pair = ap (λ (r : Record). alike r (getD l j d)) (getD-any l i emptyRecord d h)
+
+    pub pair-alike : alike (getD l i d) (getD l j d) ≡ true → left l i j ≡ false
+    pair-alike e = rw (all-stop (unlike (getD l i emptyRecord)) l j d k (ap not (same-pair ∙ e)))
+
+    pub pair-unlike : alike (getD l i d) (getD l j d) ≡ false → left l i j ≡ left l i (j + 1)
+    pair-unlike e = rw (all-go (unlike (getD l i emptyRecord)) l j d k (ap not (same-pair ∙ e)))

@@ -1,0 +1,83 @@
+-- Links registered and dropped: which rule answers, that doing so twice changes nothing more, and that the channels stay. Assumes nothing.
+use mathlib.Core.Path.{_≡_, refl, _∙_}
+use mathlib.Core.Bool.{Bool, true, false, cond}
+use Prim.Native.Nat.{ℕ, _≤_, _<_}
+use lib.Dec.{eqb}
+use borrow.Author.Tests.{lt-ltb, le-ltb, ltb-true, ltb-false}
+use Rattle.refusal.specs.Numbers.{accepted, notWellFormed, badLink}
+use Rattle.refusal.specs.Rules.{firstOf, ascend, ascendFrom}
+use Rattle.links.specs.declared.Links.{Links}
+use Rattle.links.specs.Links.{linkCount, isLink, withLink, withoutLink}
+use Rattle.links.proofs.Sets.{with-twice, without-twice}
+use Rattle.table.specs.declared.Table.{Table}
+use Rattle.table.specs.declared.Registered.{Registered}
+use Rattle.table.specs.Table.{goodTable, linkRules, relinked, registerAnswer, unregisterAnswer}
+
+-- The numbers ascend: the lowest that applies is given.
+pub rules-ascend : (t : Table) (link : ℕ) → ascend (linkRules t link) ≡ true
+unfolding ascendFrom linkRules
+rules-ascend t link = refl
+
+-- ---- the answer, by the rule that applies
+module _ (t : Table) (link : ℕ) (l : Links) where
+  pub links-ill-formed : goodTable t ≡ false → relinked t link l ≡ record { number = notWellFormed; table = t }
+  unfolding relinked linkRules firstOf
+  links-ill-formed e = rw e
+
+  module _ (good : goodTable t ≡ true) where
+    pub links-no-link : linkCount ≤ link → relinked t link l ≡ record { number = badLink; table = t }
+    unfolding relinked linkRules firstOf
+    links-no-link h = rw (good, le-ltb link linkCount h)
+
+    pub links-changed : link < linkCount → relinked t link l ≡ record { number = accepted; table = record { slots = t .slots; links = l } }
+    unfolding relinked linkRules firstOf
+    links-changed h = rw (good, lt-ltb link linkCount h)
+
+-- ---- the table after
+module _ (t : Table) (link : ℕ) (l : Links) where
+  -- the channels stay
+  pub relinked-slots : relinked t link l .table .slots ≡ t .slots
+  unfolding relinked
+  relinked-slots = go (eqb (firstOf (linkRules t link)) accepted)
+    where
+      go : (b : Bool) → cond b (record { slots = t .slots; links = l }) t .slots ≡ t .slots
+      go true = refl
+      go false = refl
+
+  -- and a well-formed table stays well formed
+  pub relinked-good : goodTable (relinked t link l .table) ≡ goodTable t
+  unfolding goodTable
+  relinked-good = rw relinked-slots
+
+-- Dropping a link leaves the channels as they are, and so does registering one.
+pub unregister-slots : (t : Table) (link : ℕ) → unregisterAnswer t link .table .slots ≡ t .slots
+unregister-slots t link = relinked-slots t link (withoutLink (t .links) link)
+
+pub register-slots : (t : Table) (link : ℕ) → registerAnswer t link .table .slots ≡ t .slots
+register-slots t link = relinked-slots t link (withLink (t .links) link)
+
+same-slots : (t : Table) (l : Links) → goodTable (record { slots = t .slots; links = l }) ≡ goodTable t
+unfolding goodTable
+same-slots t l = refl
+
+-- ---- doing so twice changes nothing more
+module _ (t : Table) (link : ℕ) (f : Links → Links) (twice : (l : Links) → f (f l) ≡ f l) where
+  relinked-twice : relinked (relinked t link (f (t .links)) .table) link (f (relinked t link (f (t .links)) .table .links)) ≡ relinked t link (f (t .links))
+  relinked-twice = go (goodTable t) refl (isLink link) refl
+    where
+      again : (r : Registered) → relinked t link (f (t .links)) ≡ r → relinked (r .table) link (f (r .table .links)) ≡ r → relinked (relinked t link (f (t .links)) .table) link (f (relinked t link (f (t .links)) .table .links)) ≡ relinked t link (f (t .links))
+      again r e s = rw e s
+
+      go : (g : Bool) → goodTable t ≡ g → (h : Bool) → isLink link ≡ h → relinked (relinked t link (f (t .links)) .table) link (f (relinked t link (f (t .links)) .table .links)) ≡ relinked t link (f (t .links))
+      go false e h q = let is = links-ill-formed t link (f (t .links)) e in again _ is is
+      go true e false q = let is = links-no-link t link (f (t .links)) e (ltb-false link linkCount q) in again _ is is
+      go true e true q =
+          let h = ltb-true link linkCount q in
+          let next : Table = record { slots = t .slots; links = f (t .links) } in
+          again _ (links-changed t link (f (t .links)) e h) (rw (twice (t .links)) (links-changed next link (f (t .links)) (same-slots t (f (t .links)) ∙ e) h))
+
+pub register-twice : (t : Table) (link : ℕ) → registerAnswer (registerAnswer t link .table) link ≡ registerAnswer t link
+register-twice t link = relinked-twice t link (λ l. withLink l link) (λ l. with-twice l link)
+
+pub unregister-twice : (t : Table) (link : ℕ) → unregisterAnswer (unregisterAnswer t link .table) link ≡ unregisterAnswer t link
+unregister-twice t link = relinked-twice t link (λ l. withoutLink l link) (λ l. without-twice l link)

@@ -1,0 +1,125 @@
+// The table: sixteen channel slots and the registered links (document 01, 'What the relay holds'). It goes in and comes back by value.
+mod slots;
+
+ghost use mathlib.Core.Path.{_≡_};
+ghost use Rattle.table.specs.Table.{emptyTable, goodTable, relinked as relinkedOf, registerAnswer, unregisterAnswer};
+ghost use Rattle.table.specs.Slots.{slotFor};
+use channel::Record;
+use links::Links;
+use links::with_link;
+use links::without_link;
+use names::fold;
+use octets::part;
+use refusal::ACCEPTED;
+use refusal::BAD_LINK;
+use refusal::NOT_WELL_FORMED;
+use slots::are_distinct;
+use slots::is_good;
+use slots::lowest_free;
+
+// Sixteen channel slots, a free one being the empty record, and the links.
+pub struct Table {
+    pub slots: [Record; Record::SLOTS],
+    pub links: Links,
+}
+
+// The slot that a name uses: the one that holds it, else the lowest free one.
+pub enum Slot {
+    Held(usize),
+    Free(usize),
+    Full,
+}
+
+// The number of a refusal, or ACCEPTED, and the table after, or as given.
+pub struct Registered {
+    pub number: u8,
+    pub table: Table,
+}
+
+impl Table {
+    // Every slot free, no link registered.
+    pub fn empty() -> Table
+        ensures { λ r. ⌜ r ≡ emptyTable ⌝ }
+    {
+        let none = Record::empty();
+        Table {
+            slots: [none; Record::SLOTS],
+            links: Links::none(),
+        }
+    }
+}
+
+// Whether used slots hold well-formed records, no two with equal names, and free ones are zero.
+pub fn is_well_formed(t: Table) -> bool
+    ensures { λ r. ⌜ r ≡ goodTable t ⌝ }
+{
+    for k in 0..Record::SLOTS {
+        let r = t.slots[k];
+        if !is_good(r) {
+            return false;
+        }
+    }
+    are_distinct(t)
+}
+
+// The table with other links, unless it isn't well formed or the link is none.
+fn relinked(t: Table, link: u32, links: Links) -> Registered
+    ensures { λ r. ⌜ r ≡ relinkedOf t link links ⌝ }
+{
+    if !is_well_formed(t) {
+        return Registered {
+            number: NOT_WELL_FORMED,
+            table: t,
+        };
+    }
+    if Links::COUNT <= link {
+        return Registered {
+            number: BAD_LINK,
+            table: t,
+        };
+    }
+    let mut next = t;
+    next.links = links;
+    Registered {
+        number: ACCEPTED,
+        table: next,
+    }
+}
+
+// The table with a link registered.
+pub fn register(t: Table, link: u32) -> Registered
+    ensures { λ r. ⌜ r ≡ registerAnswer t link ⌝ }
+{
+    relinked(t, link, with_link(t.links, link))
+}
+
+// The table with a link dropped.
+pub fn unregister(t: Table, link: u32) -> Registered
+    ensures { λ r. ⌜ r ≡ unregisterAnswer t link ⌝ }
+{
+    relinked(t, link, without_link(t.links, link))
+}
+
+// The slot that a name uses. Each used slot's folded name is compared byte by byte; the first that differs leaves for the next slot.
+pub fn find(t: Table, name: &[u8]) -> Slot
+    ensures { λ r. ⌜ r ≡ slotFor t (now (name .entry)) ⌝ }
+{
+    'slots: for k in 0..Record::SLOTS {
+        let r = t.slots[k];
+        if r.count == 0 {
+            continue 'slots;
+        }
+        let room = r.name;
+        let held = part(&room, 0, r.name_len);
+        if held.len() != name.len() {
+            continue 'slots;
+        }
+        for i in 0..name.len() {
+            if fold(held[i]) != fold(name[i]) {
+                continue 'slots;
+            }
+        }
+        return Slot::Held(k);
+    }
+    lowest_free(t)
+}
