@@ -10,11 +10,11 @@ pub mod Merges
 pub mod Removals
 pub mod Blank
 pub mod Decoded
+pub mod Gathering
 pub mod Examples
 pub mod Witnesses
 mod Tests
 mod Judging
-mod Gathering
 mod Others
 mod Placing
 mod Ordering

@@ -1,4 +1,4 @@
-// Member lists: put in order, united in one pass, and a member removed.
+// Member lists: put in order, and a member removed.
 ghost use mathlib.Core.Path.{_≡_};
 ghost use mathlib.Core.List.{[]};
 ghost use Prim.Native.Nat.{min};

@@ -17,7 +17,7 @@ use Rattle.channel.proofs.merging.united.Tie as tie
 
 abbrev Inv-loop : tie.InvT-loop
 Inv-loop m first n second a b list₀ count₀ i₀ j₀ list count i j =
-    (i ≤ m) × (j ≤ n) × (count ≤ memberLimit) × Begun list count (unite byId (drop i (side first a m)) (drop j (side second b n))) (unite byId (side first a m) (side second b n))
+    Begun list count (unite byId (drop i (side first a m)) (drop j (side second b n))) (unite byId (side first a m) (side second b n)) × (i ≤ m) × (j ≤ n) × (count ≤ memberLimit)
 
 abbrev μ-loop : tie.MeasureT-loop
 μ-loop m first n second a b list₀ count₀ i₀ j₀ list count i j = m + n - (i + j)
@@ -26,7 +26,7 @@ vacant-requires : tie.Need-vacant-requires Inv-loop μ-loop
 vacant-requires c κs = search needs
 
 loop-holds : tie.Need-loop-holds Inv-loop μ-loop
-loop-holds c = (omega arith, omega arith, omega arith, begun-none _ _ (c .vacant .ensures))
+loop-holds c = (begun-none _ _ (c .vacant .ensures), omega arith, omega arith, omega arith)
 
 -- ---- what is known at some places
 lengths : (c : tie.After-vacant Inv-loop μ-loop) → (c .before .args .m ≤ length (c .before .args .t1)) × (c .before .args .n ≤ length (c .before .args .t4))
@@ -48,7 +48,7 @@ returns c =
     let b = both-left (c .before .before) in
     let h = lengths (c .before .before .before .before .before) in
     let p = c .before .before .before .before .before .before .pre in
-    begun-over (l .list) (l .count) _ _ (l .inv .3) (c .over .result) _ _ (c .before .if2 .taken)
+    begun-over (l .list) (l .count) _ _ (l .inv .0) (c .over .result) _ _ (c .before .if2 .taken)
     (unite-step (a .first) (a .second) (a .t1) (a .t4) (a .m) (a .n) (h .0) (h .1) (p .1 .1) (l .i) (l .j) nobody (b .0) (b .1) _ _ _ refl refl refl)
     (c .over .ensures)
 
@@ -104,15 +104,15 @@ loop-again c =
     let v = one .before .before .before in
     let a = v .before .args in
     let h = lengths v in (
-      omega arith,
-      omega arith,
-      omega (arith, l .inv .2, q .before .before .before .before .before .if2 .left),
-      begun-step (l .list) (l .count) _ _ (l .inv .3) (q .next-of .result .member) _
+      begun-step (l .list) (l .count) _ _ (l .inv .0) (q .next-of .result .member) _
           (unite-step (a .first) (a .second) (a .t1) (a .t4) (a .m) (a .n) (h .0) (h .1) (v .before .pre .1 .1) (l .i) (l .j) _ (b .0) (b .1) _ _ (q .next-of .result) (q .before .before .as-given .ensures) (q .before .as-given2 .ensures) (q .next-of .ensures)),
+      omega arith,
+      omega arith,
+      omega (arith, l .inv .3, q .before .before .before .before .before .if2 .left),
     )
 
 with-rest-requires : tie.Need-with-rest-requires Inv-loop μ-loop
-with-rest-requires c κs = let l = c .before .before .loop in (begun-holds (l .list) (l .count) _ _ (l .inv .3) (l .inv .2), c .before .before .before .before .pre .0 .0)
+with-rest-requires c κs = let l = c .before .before .loop in (begun-holds (l .list) (l .count) _ _ (l .inv .0) (l .inv .3), c .before .before .before .before .pre .0 .0)
 
 returns-2 : tie.Need-returns-2 Inv-loop μ-loop
 returns-2 c =
@@ -122,10 +122,10 @@ returns-2 c =
     let a = v .before .args in
     let h = lengths v in
     let e : a .n ≤ l .j = ⊎-elim (λ w. ltb-false _ _ (w .1 .left)) (λ w. absurd (omega (arith, w .left, c .before .if3 .taken))) (p .loop-test .came) in
-    begun-rest (l .list) (l .count) _ _ (l .inv .3) (c .with-rest .result) _ (l .inv .2) (unite-first (a .first) (a .second) (a .t1) (a .t4) (a .m) (a .n) (h .0) (h .1) (v .before .pre .1 .1) (l .i) (l .j) e) (c .with-rest .ensures)
+    begun-rest (l .list) (l .count) _ _ (l .inv .0) (c .with-rest .result) _ (l .inv .3) (unite-first (a .first) (a .second) (a .t1) (a .t4) (a .m) (a .n) (h .0) (h .1) (v .before .pre .1 .1) (l .i) (l .j) e) (c .with-rest .ensures)
 
 with-rest-requires-2 : tie.Need-with-rest-requires-2 Inv-loop μ-loop
-with-rest-requires-2 c κs = let l = c .before .before .loop in (begun-holds (l .list) (l .count) _ _ (l .inv .3) (l .inv .2), c .before .before .before .before .pre .0 .1)
+with-rest-requires-2 c κs = let l = c .before .before .loop in (begun-holds (l .list) (l .count) _ _ (l .inv .0) (l .inv .3), c .before .before .before .before .pre .0 .1)
 
 returns-3 : tie.Need-returns-3 Inv-loop μ-loop
 returns-3 c =
@@ -134,7 +134,7 @@ returns-3 c =
     let v = p .before .before in
     let a = v .before .args in
     let h = lengths v in
-    begun-rest (l .list) (l .count) _ _ (l .inv .3) (c .with-rest2 .result) _ (l .inv .2) (unite-second (a .first) (a .second) (a .t1) (a .t4) (a .m) (a .n) (h .0) (h .1) (v .before .pre .1 .1) (l .i) (l .j) (c .before .if3 .left)) (c .with-rest2 .ensures)
+    begun-rest (l .list) (l .count) _ _ (l .inv .0) (c .with-rest2 .result) _ (l .inv .3) (unite-second (a .first) (a .second) (a .t1) (a .t4) (a .m) (a .n) (h .0) (h .1) (v .before .pre .1 .1) (l .i) (l .j) (c .before .if3 .left)) (c .with-rest2 .ensures)
 
 pub united-spec : {M : Type 1} → statement M
 united-spec =

@@ -1,0 +1,105 @@
+-- What the rules of SJOIN give, test by test. Assumes nothing.
+use Prim.Native.Nat.{ℕ, _≤_, _<_}
+use mathlib.Core.Path.{_≡_, refl, sym, ap, _∙_}
+use mathlib.Core.Bool.{Bool, true, false, _&&_, and-false}
+use mathlib.Core.List.{List, []}
+use mathlib.Core.Option.{Option, some, none, Option·getD}
+use native.Mathlib.Omega.{arith}
+use lib.ListN.{length}
+use lib.Dec.{leb}
+use borrow.Author.Tests.{eq-eqb, ne-eqb, le-leb, lt-leb, leb-true}
+use Rattle.refusal.specs.Numbers.{accepted, wrongParamCount, badSource, badTime, zeroTime, badName, badModes, badMembers}
+use Rattle.refusal.specs.Rules.{firstOf}
+use Rattle.octets.specs.declared.Decimal.the-variants.{Value, Malformed}
+use Rattle.octets.specs.Decimals.{isDecimal, valueOf, decimalUpTo}
+use Rattle.octets.proofs.Digits.{value-digits, decimal-digits, decimal-read, value-in}
+use Rattle.names.specs.Names.{isChannel, isServerId}
+use Rattle.channel.specs.Limits.{timeLimit}
+use Rattle.message.specs.Content.{Content}
+use Rattle.sjoin.specs.Modes.{lettersOf, goodLetters, parametered, goodArguments, goodModes}
+use Rattle.sjoin.specs.Entries.{goodEntries}
+use Rattle.sjoin.specs.Join.{timeIn, nameIn, modesIn, listIn, argumentsIn, isSource, fewest, most, goodCount, goodTime, joinRules}
+
+-- ---- a missing prefix is the empty one, which is no server id
+source-is : (p : Option (List ℕ)) → isServerId (Option·getD p []) ≡ isSource p
+unfolding isSource isServerId
+source-is none = refl
+source-is (some p) = refl
+
+pub source-told : (p : Option (List ℕ)) (bytes : List ℕ) (r t : Bool) → bytes ≡ Option·getD p [] → r ≡ isServerId bytes → r ≡ t → isSource p ≡ t
+source-told p bytes r t e f g = sym (source-is p) ∙ ap isServerId (sym e) ∙ sym f ∙ g
+
+-- ---- the time
+pub time-value : (c : Content) (n : ℕ) → decimalUpTo timeLimit (timeIn c) ≡ Value n → (goodTime c ≡ true) × (valueOf (timeIn c) ≡ n)
+unfolding goodTime
+time-value c n e =
+    let r = decimal-read timeLimit n (timeIn c) e in
+    (rw (r .1, decimal-digits n, value-digits n, le-leb n timeLimit (r .0)), rw (r .1) (value-digits n))
+
+pub time-none : (c : Content) → decimalUpTo timeLimit (timeIn c) ≡ Malformed → goodTime c ≡ false
+unfolding decimalUpTo goodTime
+time-none c e = go (isDecimal (timeIn c)) refl (leb (valueOf (timeIn c)) timeLimit) refl
+  where
+    go : (t : Bool) → isDecimal (timeIn c) ≡ t → (u : Bool) → leb (valueOf (timeIn c)) timeLimit ≡ u → goodTime c ≡ false
+    go true f true g =
+        let d : decimalUpTo timeLimit (timeIn c) ≡ Value (valueOf (timeIn c)) = rw f (value-in timeLimit (timeIn c) (leb-true (valueOf (timeIn c)) timeLimit g)) in
+        let z : _≡_ {A = ℕ} 0 1 = cc in absurd (omega arith)
+    go true f false g = rw (f, g)
+    go false f u g = rw f
+
+-- ---- the modes
+pub modes-parts : (c : Content) (t u : Bool) → goodLetters (modesIn c) ≡ t → goodArguments (parametered (lettersOf (modesIn c))) (argumentsIn c) ≡ u → goodModes (modesIn c) (argumentsIn c) ≡ t && u
+unfolding goodModes
+modes-parts c t u e f = rw (e, f)
+
+pub modes-letters : (c : Content) → goodLetters (modesIn c) ≡ false → goodModes (modesIn c) (argumentsIn c) ≡ false
+unfolding goodModes
+modes-letters c e = rw e
+
+-- ---- the numbers, in their order
+module _ (c : Content) where
+  pub few : length (c .params) < fewest → wrongParamCount ≡ firstOf (joinRules c)
+  unfolding joinRules firstOf goodCount
+  few h = sym (rw (lt-leb fewest (length (c .params)) h))
+
+  pub many : most < length (c .params) → wrongParamCount ≡ firstOf (joinRules c)
+  unfolding joinRules firstOf goodCount
+  many h = sym (rw (lt-leb (length (c .params)) most h, and-false (leb fewest (length (c .params)))))
+
+  pub counted : fewest ≤ length (c .params) → length (c .params) ≤ most → goodCount c ≡ true
+  unfolding goodCount
+  counted h k = rw (le-leb fewest (length (c .params)) h, le-leb (length (c .params)) most k)
+
+  module _ (n : goodCount c ≡ true) where
+    pub unsourced : isSource (c .prefix) ≡ false → badSource ≡ firstOf (joinRules c)
+    unfolding joinRules firstOf
+    unsourced e = sym (rw (n, e))
+
+    module _ (s : isSource (c .prefix) ≡ true) where
+      pub untimed : goodTime c ≡ false → badTime ≡ firstOf (joinRules c)
+      unfolding joinRules firstOf
+      untimed e = sym (rw (n, s, e))
+
+      module _ (t : goodTime c ≡ true) where
+        pub zero-time : valueOf (timeIn c) ≡ 0 → zeroTime ≡ firstOf (joinRules c)
+        unfolding joinRules firstOf
+        zero-time e = sym (rw (n, s, t, eq-eqb (valueOf (timeIn c)) 0 e))
+
+        module _ (z : valueOf (timeIn c) ≡ 0 → ⊥) where
+          pub unnamed : isChannel (nameIn c) ≡ false → badName ≡ firstOf (joinRules c)
+          unfolding joinRules firstOf
+          unnamed e = sym (rw (n, s, t, ne-eqb (valueOf (timeIn c)) 0 z, e))
+
+          module _ (m : isChannel (nameIn c) ≡ true) where
+            pub unfit : goodModes (modesIn c) (argumentsIn c) ≡ false → badModes ≡ firstOf (joinRules c)
+            unfolding joinRules firstOf
+            unfit e = sym (rw (n, s, t, ne-eqb (valueOf (timeIn c)) 0 z, m, e))
+
+            module _ (g : goodModes (modesIn c) (argumentsIn c) ≡ true) where
+              pub unlisted : goodEntries (listIn c) ≡ false → badMembers ≡ firstOf (joinRules c)
+              unfolding joinRules firstOf
+              unlisted e = sym (rw (n, s, t, ne-eqb (valueOf (timeIn c)) 0 z, m, g, e))
+
+              pub accepts : goodEntries (listIn c) ≡ true → accepted ≡ firstOf (joinRules c)
+              unfolding joinRules firstOf
+              accepts e = sym (rw (n, s, t, ne-eqb (valueOf (timeIn c)) 0 z, m, g, e))

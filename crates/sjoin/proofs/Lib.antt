@@ -1,0 +1,10 @@
+-- Laws of SJOIN's parts, for the functions of this crate and for the crates above.
+pub mod Modes
+pub mod Parameters
+pub mod Limits
+pub mod Rooms
+pub mod Judged
+pub mod Joined
+pub mod Answers
+pub mod Listed
+pub mod Wellformed

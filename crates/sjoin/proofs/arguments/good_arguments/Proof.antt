@@ -1,0 +1,113 @@
+-- `good_arguments` meets its contract. The invariant: the letters from i on and the parameters from the place on fit exactly if all do. Assumes nothing.
+use mathlib.Core.Path.{_≡_, sym, ap, _∙_}
+use mathlib.Core.Bool.{Bool, true, false, _&&_}
+use mathlib.Core.List.{List}
+use Prim.Native.Nat.{ℕ, _+_, _-_, _≤_, _<_}
+use native.Mathlib.Omega.{arith}
+use lib.ListN.{length, getD}
+use borrow.Author.Needs.{needs}
+use borrow.Author.Tests.{not-true, not-false}
+use Rattle.message.specs.Reading.{contentOf}
+use Rattle.sjoin.specs.Modes.{lettersOf, parametered, goodArgument, goodArguments}
+use Rattle.sjoin.specs.Join.{argumentsIn}
+use Rattle.sjoin.proofs.Parameters.{arguments-are, Good, good-end, good-skip, good-missing, good-one}
+use Rattle.sjoin.proofs.arguments.good_arguments.Statement.{statement}
+use Rattle.sjoin.proofs.arguments.good_arguments.Tie as tie
+
+abbrev params : List ℕ → List (List ℕ)
+params line = contentOf line .params
+
+abbrev Inv-loop : tie.InvT-loop
+Inv-loop line modes last at₀ i₀ at i = (at ≤ last) × (Good modes (params line) last at i i at ≡ goodArguments (parametered (lettersOf modes)) (argumentsIn (contentOf line)))
+
+abbrev μ-loop : tie.MeasureT-loop
+μ-loop line modes last at₀ i₀ at i = length modes - i
+
+loop-holds : tie.Need-loop-holds Inv-loop μ-loop
+loop-holds c =
+    let a = c .before .before .args in
+    (c .before .before .pre .0, ap (goodArguments (parametered (lettersOf (a .modes .now)))) (sym (arguments-are (contentOf (a .line .now)) (a .last) (c .before .before .pre .1))))
+
+shared-slice-read-letter : tie.Need-shared-slice-read-letter Inv-loop μ-loop
+shared-slice-read-letter c = search needs
+
+add-i : tie.Need-add-i Inv-loop μ-loop
+add-i c = search needs
+
+has-parameter-requires : tie.Need-has-parameter-requires Inv-loop μ-loop
+has-parameter-requires c κs = search needs
+
+loop-less : tie.Need-loop-less Inv-loop μ-loop
+loop-less c = search needs
+
+loop-again : tie.Need-loop-again Inv-loop μ-loop
+loop-again c =
+    let a = c .before .before .before .before .before .before .before .args in
+    let l = c .before .before .before .before .loop in
+    (l .inv .0, good-skip (a .modes .now) (params (a .line .now)) (a .last) (l .at) (l .i) (c .before .before .before .loop-test .taken) (sym (c .before .has-parameter .ensures) ∙ not-true _ (c .if1 .taken)) ∙ l .inv .1)
+
+returns : tie.Need-returns Inv-loop μ-loop
+returns c =
+    let a = c .before .before .before .before .before .before .before .before .args in
+    let l = c .before .before .before .before .before .loop in
+    sym (good-missing (a .modes .now) (params (a .line .now)) (a .last) (l .at) (l .i) (c .before .before .before .before .loop-test .taken) (sym (c .before .before .has-parameter .ensures) ∙ not-false _ (c .before .if1 .left)) (c .if2 .taken)) ∙ l .inv .1
+
+param-requires : tie.Need-param-requires Inv-loop μ-loop
+param-requires c κs = search needs
+
+good-argument-requires : tie.Need-good-argument-requires Inv-loop μ-loop
+good-argument-requires c κs = search needs
+
+-- the parameter at hand, and those behind it
+here : (c : tie.After-good-argument Inv-loop μ-loop) (t : Bool) → c .good-argument .result ≡ t → t && Good (c .before .before .before .before .before .before .before .before .before .before .args .modes .now) (params (c .before .before .before .before .before .before .before .before .before .before .args .line .now)) (c .before .before .before .before .before .before .before .before .before .before .args .last) (c .before .before .before .before .before .before .before .loop .at) (c .before .before .before .before .before .before .before .loop .i) (c .before .before .before .before .before .before .before .loop .i + 1) (c .before .before .before .before .before .before .before .loop .at + 1) ≡ goodArguments (parametered (lettersOf (c .before .before .before .before .before .before .before .before .before .before .args .modes .now))) (argumentsIn (contentOf (c .before .before .before .before .before .before .before .before .before .before .args .line .now)))
+here c t e =
+    let a = c .before .before .before .before .before .before .before .before .before .before .args in
+    let l = c .before .before .before .before .before .before .before .loop in
+    let k : a .last < length (params (a .line .now)) = omega (arith, c .before .before .before .before .before .before .before .before .before .before .pre .1) in
+    let rest = Good (a .modes .now) (params (a .line .now)) (a .last) (l .at) (l .i) (l .i + 1) (l .at + 1) in
+    ap (λ (u : Bool). u && rest) (sym e ∙ c .good-argument .ensures ∙ ap (goodArgument (getD (a .modes .now) (l .i) 0)) (c .before .param .ensures .0))
+    ∙ sym (good-one (a .modes .now) (params (a .line .now)) (a .last) (l .at) (l .i) (c .before .before .before .before .before .before .loop-test .taken) (sym (c .before .before .before .before .has-parameter .ensures) ∙ not-false _ (c .before .before .before .if1 .left)) (l .inv .0) (c .before .before .if2 .left) k)
+    ∙ l .inv .1
+
+returns-2 : tie.Need-returns-2 Inv-loop μ-loop
+returns-2 c = here (c .before) false (not-true _ (c .if3 .taken))
+
+add-at : tie.Need-add-at Inv-loop μ-loop
+add-at c = search needs
+
+loop-less-2 : tie.Need-loop-less-2 Inv-loop μ-loop
+loop-less-2 c = search needs
+
+loop-again-2 : tie.Need-loop-again-2 Inv-loop μ-loop
+loop-again-2 c =
+    let l = c .before .before .before .before .before .before .before .before .loop in
+    let ne = c .before .before .before .if2 .left in
+    (omega (arith, l .inv .0, ne), here (c .before) true (not-false _ (c .if3 .left)))
+
+returns-3 : tie.Need-returns-3 Inv-loop μ-loop
+returns-3 c =
+    let a = c .before .before .before .before .args in
+    let l = c .before .loop in
+    let k : a .last < length (params (a .line .now)) = omega (arith, c .before .before .before .before .pre .1) in
+    sym (good-end (a .modes .now) (params (a .line .now)) (a .last) (l .at) (l .i) (l .inv .0) k (c .loop-test .left)) ∙ l .inv .1
+
+pub good-arguments-spec : {M : Type 1} → statement M
+good-arguments-spec =
+    tie.close
+    (tie.spec
+    Inv-loop
+    μ-loop
+    loop-holds
+    shared-slice-read-letter
+    add-i
+    has-parameter-requires
+    loop-less
+    loop-again
+    returns
+    param-requires
+    good-argument-requires
+    returns-2
+    add-at
+    loop-less-2
+    loop-again-2
+    returns-3)

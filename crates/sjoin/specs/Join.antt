@@ -1,0 +1,95 @@
+-- What an SJOIN line says: `:sid SJOIN time name modes [key] [limit] list`. The numbers 12 to 18 of document 01, and the channel that it tells of.
+use Prim.Native.Nat.{ℕ, _-_}
+use mathlib.Core.Bool.{Bool, false, not, cond, _&&_}
+use mathlib.Core.List.{List, [], _∷_}
+use mathlib.Core.Option.{Option, some, none}
+use lib.ListN.{length, take, drop, getD}
+use lib.Dec.{eqb, leb}
+use Rattle.refusal.specs.Numbers.{accepted, wrongParamCount, badSource, badTime, zeroTime, badName, badModes, badMembers}
+use Rattle.refusal.specs.Rules.{Rule, _when_, firstOf}
+use Rattle.octets.specs.Decimals.{isDecimal, valueOf}
+use Rattle.names.specs.Names.{isChannel, isServerId}
+use Rattle.channel.specs.Limits.{timeLimit}
+use Rattle.channel.specs.Channel.{Channel}
+use Rattle.channel.specs.Members.{ordered}
+use Rattle.channel.specs.Record.{encode, emptyRecord}
+use Rattle.message.specs.Content.{Content}
+use Rattle.message.specs.Reading.{numberFor, isRead, contentOf}
+use Rattle.sjoin.specs.declared.Told.{Told}
+use Rattle.sjoin.specs.Modes.{keyLetter, limitLetter, goodModes, modesByte, argumentOf}
+use Rattle.sjoin.specs.Entries.{goodEntries, named}
+
+-- ---- the parameters
+abbrev pub timeIn : Content → List ℕ
+timeIn c = getD (c .params) 0 []
+
+abbrev pub nameIn : Content → List ℕ
+nameIn c = getD (c .params) 1 []
+
+abbrev pub modesIn : Content → List ℕ
+modesIn c = getD (c .params) 2 []
+
+-- the list is the last parameter
+abbrev pub listIn : Content → List ℕ
+listIn c = getD (c .params) (length (c .params) - 1) []
+
+-- and the parameters of k and l stand between
+unfoldable pub argumentsIn : Content → List (List ℕ)
+argumentsIn c = take (length (c .params) - 4) (drop 3 (c .params))
+
+unfoldable pub isSource : Option (List ℕ) → Bool
+isSource none = false
+isSource (some p) = isServerId p
+
+-- ---- the rules
+-- the fewest and the most parameters
+abbrev pub fewest : ℕ
+fewest = 4
+
+abbrev pub most : ℕ
+most = 6
+
+unfoldable pub goodCount : Content → Bool
+goodCount c = leb fewest (length (c .params)) && leb (length (c .params)) most
+
+-- decimal without leading zeros, and not too large
+unfoldable pub goodTime : Content → Bool
+goodTime c = isDecimal (timeIn c) && leb (valueOf (timeIn c)) timeLimit
+
+unfoldable pub joinRules : Content → List Rule
+joinRules c =
+    wrongParamCount when not (goodCount c)
+    ∷ badSource when not (isSource (c .prefix))
+    ∷ badTime when not (goodTime c)
+    ∷ zeroTime when eqb (valueOf (timeIn c)) 0
+    ∷ badName when not (isChannel (nameIn c))
+    ∷ badModes when not (goodModes (modesIn c) (argumentsIn c))
+    ∷ badMembers when not (goodEntries (listIn c))
+    ∷ []
+
+-- ---- the channel that a line tells of
+unfoldable pub channelIn : Content → Channel
+channelIn c = record {
+  name = nameIn c;
+  time = valueOf (timeIn c);
+  modes = modesByte (modesIn c);
+  key = argumentOf keyLetter (modesIn c) (argumentsIn c);
+  limit = valueOf (argumentOf limitLetter (modesIn c) (argumentsIn c));
+  members = ordered (named (listIn c));
+}
+
+-- ---- the answer
+-- the reader's own number, or the first of the rules that applies
+unfoldable pub joinNumber : List ℕ → ℕ
+joinNumber line = cond (isRead line) (firstOf (joinRules (contentOf line))) (numberFor line)
+
+-- and the record of the channel, or the empty one
+unfoldable pub toldBy : List ℕ → Told
+toldBy line = record {
+  number = joinNumber line;
+  «record» = cond (eqb (joinNumber line) accepted) (encode (channelIn (contentOf line))) emptyRecord;
+}
+
+-- the answer of a refusal, for a private contract
+abbrev pub refusedBy : ℕ → Told
+refusedBy k = record { number = k; «record» = emptyRecord }

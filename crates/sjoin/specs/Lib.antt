@@ -1,0 +1,5 @@
+pub mod Modes
+pub mod Entries
+pub mod Join
+pub mod Telling
+pub mod Scan

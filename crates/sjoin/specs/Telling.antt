@@ -1,0 +1,41 @@
+-- The parameters of an SJOIN that tells of a channel: modes in the order i m n p s t k l, key before limit, entries ascending. What it tells reads back as the
+-- channel.
+use Prim.Native.Nat.{ℕ, suc}
+use mathlib.Core.Bool.{cond}
+use mathlib.Core.List.{List, [], _∷_, _++_}
+use Rattle.octets.specs.Bytes.{space}
+use Rattle.octets.specs.Decimals.{digitsOf}
+use Rattle.channel.specs.declared.Member.{Member}
+use Rattle.channel.specs.Modes.{letters, keyMode, limitMode, hasMode}
+use Rattle.channel.specs.Channel.{Channel}
+use Rattle.sjoin.specs.Modes.{plus}
+use Rattle.sjoin.specs.Entries.{at}
+
+-- those of some letters, the first in the place k, whose modes the byte has
+unfoldable pub lettersFrom : ℕ → List ℕ → ℕ → List ℕ
+lettersFrom k [] modes = []
+lettersFrom k (x ∷ s) modes = cond (hasMode modes k) (x ∷ lettersFrom (suc k) s modes) (lettersFrom (suc k) s modes)
+
+abbrev pub modesText : ℕ → List ℕ
+modesText modes = plus ∷ lettersFrom 0 letters modes
+
+-- '@' for an operator, '+' for voice, then the id
+unfoldable pub entryOf : Member → List ℕ
+entryOf m = cond (hasMode (m .status) 1) (at ∷ []) [] ++ cond (hasMode (m .status) 0) (plus ∷ []) [] ++ m .id
+
+-- a SPACE before each entry
+unfoldable pub following : List Member → List ℕ
+following [] = []
+following (m ∷ l) = space ∷ (entryOf m ++ following l)
+
+-- one SPACE between entries
+unfoldable pub listText : List Member → List ℕ
+listText [] = []
+listText (m ∷ l) = entryOf m ++ following l
+
+unfoldable pub paramsOf : Channel → List (List ℕ)
+paramsOf c =
+    (digitsOf (c .time) ∷ c .name ∷ modesText (c .modes) ∷ [])
+    ++ cond (hasMode (c .modes) keyMode) (c .key ∷ []) []
+    ++ cond (hasMode (c .modes) limitMode) (digitsOf (c .limit) ∷ []) []
+    ++ (listText (c .members) ∷ [])

@@ -1,0 +1,191 @@
+// What an SJOIN line says (document 01, 'SJOIN'): its time, name, modes with key and limit, and members, judged by the numbers 12 to 18 and put into a
+// record of their own.
+mod arguments;
+mod entries;
+mod letters;
+
+ghost use mathlib.Core.Path.{_≡_};
+ghost use mathlib.Core.Bool.{true};
+ghost use Prim.Native.Nat.{_+_, _≤_};
+ghost use lib.ListN.{length};
+ghost use Rattle.refusal.specs.Numbers.{accepted};
+ghost use Rattle.refusal.specs.Rules.{firstOf};
+ghost use Rattle.octets.specs.Lists.{padded};
+ghost use Rattle.octets.specs.Decimals.{valueOf};
+ghost use Rattle.names.specs.Names.{nameLimit};
+ghost use Rattle.channel.specs.Limits.{keyLimit};
+ghost use Rattle.channel.specs.Record.{encode};
+ghost use Rattle.message.specs.Grammar.{lineLimit};
+ghost use Rattle.message.specs.Reading.{contentOf};
+ghost use Rattle.sjoin.specs.Join.{timeIn, goodTime, joinRules, channelIn, refusedBy, toldBy};
+use arguments::MODES_AT;
+use arguments::argument;
+use arguments::good_arguments;
+use channel::Record;
+use channel::members::ordered;
+use entries::good_entries;
+use entries::named;
+use letters::good_letters;
+use letters::limit_in;
+use letters::modes_byte;
+use message::Reading;
+use message::param;
+use message::prefix;
+use message::read;
+use names::is_channel;
+use names::is_server_id;
+use octets::Decimal;
+use octets::decimals::decimal;
+use octets::put;
+use refusal::ACCEPTED;
+use refusal::BAD_MEMBERS;
+use refusal::BAD_MODES;
+use refusal::BAD_NAME;
+use refusal::BAD_SOURCE;
+use refusal::BAD_TIME;
+use refusal::WRONG_PARAM_COUNT;
+use refusal::ZERO_TIME;
+
+// The fewest parameters of a line.
+const FEWEST: usize = 4;
+
+// The most parameters of a line.
+const MOST: usize = 6;
+
+// The place of the time among the parameters.
+const TIME_AT: usize = 0;
+
+// The place of the name among the parameters.
+const NAME_AT: usize = 1;
+
+// The latest time.
+const TIME_LIMIT: u32 = 4294967295;
+
+// The number of a refusal, or ACCEPTED, and the record that the line tells of, or the empty one.
+pub struct Told {
+    pub number: u8,
+    pub record: Record,
+}
+
+// The first of the numbers 12 to 18 that applies to a line that is read, with its count of parameters, or ACCEPTED.
+fn join_number(line: &[u8], count: usize) -> u8
+    requires { ⌜ count ≡ length (contentOf (now line) .params) ⌝ }
+    ensures { λ r. ⌜ r ≡ firstOf (joinRules (contentOf (now (line .entry)))) ⌝ }
+{
+    if count < FEWEST {
+        return WRONG_PARAM_COUNT;
+    }
+    if MOST < count {
+        return WRONG_PARAM_COUNT;
+    }
+    if !is_server_id(prefix(line)) {
+        return BAD_SOURCE;
+    }
+    let Decimal::Value(time) = decimal(param(line, TIME_AT), TIME_LIMIT) else {
+        return BAD_TIME;
+    };
+    if time == 0 {
+        return ZERO_TIME;
+    }
+    if !is_channel(param(line, NAME_AT)) {
+        return BAD_NAME;
+    }
+    let modes = param(line, MODES_AT);
+    if !good_letters(modes) {
+        return BAD_MODES;
+    }
+    if !good_arguments(line, modes, count - 1) {
+        return BAD_MODES;
+    }
+    if !good_entries(param(line, count - 1)) {
+        return BAD_MEMBERS;
+    }
+    ACCEPTED
+}
+
+// A name in its room, the rest of it zero.
+fn name_room(name: &[u8]) -> [u8; Record::NAME]
+    requires { ⌜ length (now name) ≤ nameLimit ⌝ }
+    ensures { λ r. ⌜ r ≡ padded nameLimit 0 (now (name .entry)) ⌝ }
+{
+    let mut room = [0u8; Record::NAME];
+    put(&mut room, 0, name);
+    room
+}
+
+// A key in its room, the rest of it zero.
+fn key_room(key: &[u8]) -> [u8; Record::KEY]
+    requires { ⌜ length (now key) ≤ keyLimit ⌝ }
+    ensures { λ r. ⌜ r ≡ padded keyLimit 0 (now (key .entry)) ⌝ }
+{
+    let mut room = [0u8; Record::KEY];
+    put(&mut room, 0, key);
+    room
+}
+
+// The time of a line whose time is good.
+fn time_of(line: &[u8]) -> u32
+    requires { ⌜ goodTime (contentOf (now line)) ≡ true ⌝ }
+    ensures { λ r. ⌜ r ≡ valueOf (timeIn (contentOf (now (line .entry)))) ⌝ }
+{
+    match decimal(param(line, TIME_AT), TIME_LIMIT) {
+        Decimal::Value(time) => time,
+        Decimal::Malformed => 0,
+    }
+}
+
+// The record of the channel that a line tells of that no rule refuses. The list is at `last`.
+fn record_of(line: &[u8], last: usize) -> Record
+    requires { ⌜ (firstOf (joinRules (contentOf (now line))) ≡ accepted) × (length (contentOf (now line) .params) ≡ last + 1) × (length (now line) ≤ lineLimit) ⌝ }
+    ensures { λ r. ⌜ r ≡ encode (channelIn (contentOf (now (line .entry)))) ⌝ }
+{
+    let name = param(line, NAME_AT);
+    let name_held = name_room(name);
+    let time = time_of(line);
+    let modes = modes_byte(param(line, MODES_AT));
+    let key = argument(line, b'k', last);
+    let key_held = key_room(key);
+    let limit = limit_in(argument(line, b'l', last));
+    let list = named(param(line, last));
+    let entries = list.list;
+    let all = ordered(entries, list.count);
+    let members = all.list;
+    Record {
+        name: name_held,
+        name_len: name.len(),
+        time,
+        modes,
+        key: key_held,
+        key_len: key.len(),
+        limit,
+        members,
+        count: all.count,
+    }
+}
+
+// Nothing is told.
+fn refused(number: u8) -> Told
+    ensures { λ r. ⌜ r ≡ refusedBy number ⌝ }
+{
+    let record = Record::empty();
+    Told { number, record }
+}
+
+// What the line says: the reader's own number, or the first of the numbers 12 to 18 that applies, or the record of the channel that it tells of.
+pub fn read_join(line: &[u8]) -> Told
+    ensures { λ r. ⌜ r ≡ toldBy (now (line .entry)) ⌝ }
+{
+    let reading = read(line);
+    let Reading::Line(count) = reading else {
+        return refused(reading.number());
+    };
+    let number = join_number(line, count);
+    if number != ACCEPTED {
+        return refused(number);
+    }
+    let record = record_of(line, count - 1);
+    Told {
+        number: ACCEPTED,
+        record,
+    }
+}
