@@ -8,7 +8,7 @@ mod well;
 
 ghost use mathlib.Core.Path.{_≡_};
 ghost use Rattle.names.specs.Names.{nameLimit};
-ghost use Rattle.channel.specs.Limits.{memberLimit, keyLimit, slotCount};
+ghost use Rattle.channel.specs.Limits.{memberLimit, keyLimit, timeLimit, limitLimit, slotCount};
 ghost use Rattle.channel.specs.Record.{emptyRecord};
 ghost use Rattle.channel.specs.WellFormed.{wellFormed, isBlank};
 ghost use Rattle.channel.specs.Merging.{mergeAnswer};
@@ -58,6 +58,12 @@ impl Record {
     // The most bytes of a key.
     pub const KEY: usize = 23;
 
+    // The latest time.
+    pub const TIME: u32 = 4294967295;
+
+    // The largest limit of users.
+    pub const LIMIT: u32 = 65535;
+
     // The records of a table.
     pub const SLOTS: usize = 16;
 
@@ -65,6 +71,7 @@ impl Record {
     pub fn empty() -> Record
         ensures { λ r. ⌜ r ≡ emptyRecord ⌝ }
         ensures { λ r. do ⌜ ((← ⟦Record::MEMBERS⟧ .entry) ≡ memberLimit) × ((← ⟦Record::NAME⟧ .entry) ≡ nameLimit) × ((← ⟦Record::KEY⟧ .entry) ≡ keyLimit) × ((← ⟦Record::SLOTS⟧ .entry) ≡ slotCount) ⌝ }
+        ensures { λ r. do ⌜ ((← ⟦Record::TIME⟧ .entry) ≡ timeLimit) × ((← ⟦Record::LIMIT⟧ .entry) ≡ limitLimit) ⌝ }
     {
         let members = vacant();
         Record {

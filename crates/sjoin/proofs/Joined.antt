@@ -16,7 +16,7 @@ use Rattle.octets.specs.Lists.{all, isNil, startsWith}
 use Rattle.octets.specs.Decimals.{isDecimal, valueFrom, valueOf}
 use Rattle.octets.proofs.Bools.{and-left, and-right}
 use Rattle.octets.proofs.Lists.{all-head, all-tail, all-imp}
-use Rattle.names.specs.Names.{nameLimit, isChannel, userIdLength}
+use Rattle.names.specs.Names.{isChannel, userIdLength}
 use Rattle.channel.specs.Limits.{keyLimit, memberLimit}
 use Rattle.channel.specs.Modes.{placeAmong}
 use Rattle.channel.specs.Key.{isKey}
@@ -57,12 +57,6 @@ passes c e =
       modes = not-false _ (h .0);
       list = not-false _ (i .0);
     }
-
--- ---- the name keeps to its room
-pub name-short : (n : List ℕ) → isChannel n ≡ true → length n ≤ nameLimit
-unfolding isChannel
-name-short [] h = omega arith
-name-short (b ∷ s) h = leb-true (length (b ∷ s)) nameLimit (and-left _ _ (and-right (leb 1 (length s)) _ (and-right (eqb b 35) _ h)))
 
 -- ---- a letter's parameter is missing, or good
 fitting : (s : List ℕ) (args : List (List ℕ)) (letter : ℕ) → goodArguments s args ≡ true → (getD args (placeAmong s letter) [] ≡ []) ⊎ (goodArgument letter (getD args (placeAmong s letter) []) ≡ true)

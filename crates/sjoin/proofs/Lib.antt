@@ -8,3 +8,7 @@ pub mod Joined
 pub mod Answers
 pub mod Listed
 pub mod Wellformed
+pub mod Entered
+pub mod Spaced
+pub mod Lettered
+pub mod Back

@@ -2,6 +2,7 @@
 ghost use mathlib.Core.Path.{_≡_};
 ghost use Rattle.octets.specs.Lists.{startsWith};
 ghost use Rattle.sjoin.specs.Modes.{hasParameter, goodLetters, modesByte, limitIn, goodArgument};
+use channel::Record;
 use channel::key::is_key;
 use channel::modes::MODES;
 use channel::modes::has_mode;
@@ -9,9 +10,6 @@ use channel::modes::mode_place;
 use channel::modes::with_mode;
 use octets::Decimal;
 use octets::decimals::decimal;
-
-// The largest user limit.
-const LIMIT: u32 = 65535;
 
 // Whether the first byte is the mark.
 pub(crate) fn starts_with(s: &[u8], mark: u8) -> bool
@@ -73,7 +71,7 @@ pub(crate) fn has_parameter(letter: u8) -> bool
 pub(crate) fn limit_in(s: &[u8]) -> u16
     ensures { λ r. ⌜ r ≡ limitIn (now (s .entry)) ⌝ }
 {
-    match decimal(s, LIMIT) {
+    match decimal(s, Record::LIMIT) {
         Decimal::Value(n) => n as u16,
         Decimal::Malformed => 0,
     }

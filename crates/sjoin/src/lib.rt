@@ -58,9 +58,6 @@ const TIME_AT: usize = 0;
 // The place of the name among the parameters.
 const NAME_AT: usize = 1;
 
-// The latest time.
-const TIME_LIMIT: u32 = 4294967295;
-
 // The number of a refusal, or ACCEPTED, and the record that the line tells of, or the empty one.
 pub struct Told {
     pub number: u8,
@@ -81,7 +78,7 @@ fn join_number(line: &[u8], count: usize) -> u8
     if !is_server_id(prefix(line)) {
         return BAD_SOURCE;
     }
-    let Decimal::Value(time) = decimal(param(line, TIME_AT), TIME_LIMIT) else {
+    let Decimal::Value(time) = decimal(param(line, TIME_AT), Record::TIME) else {
         return BAD_TIME;
     };
     if time == 0 {
@@ -128,7 +125,7 @@ fn time_of(line: &[u8]) -> u32
     requires { ⌜ goodTime (contentOf (now line)) ≡ true ⌝ }
     ensures { λ r. ⌜ r ≡ valueOf (timeIn (contentOf (now (line .entry)))) ⌝ }
 {
-    match decimal(param(line, TIME_AT), TIME_LIMIT) {
+    match decimal(param(line, TIME_AT), Record::TIME) {
         Decimal::Value(time) => time,
         Decimal::Malformed => 0,
     }

@@ -10,10 +10,11 @@ use Rattle.channel.specs.Limits.{memberLimit}
 use Rattle.channel.specs.Members.{roster, ordered}
 use Rattle.message.specs.Reading.{contentOf}
 use Rattle.message.specs.Words.{wordsOf}
+use Rattle.names.proofs.Channels.{channel-length}
 use Rattle.sjoin.specs.Modes.{keyLetter, limitLetter, modesByte, limitIn, argumentOf}
 use Rattle.sjoin.specs.Entries.{isEntry, named}
 use Rattle.sjoin.specs.Join.{listIn, nameIn, modesIn, argumentsIn}
-use Rattle.sjoin.proofs.Joined.{Passes, passes, name-short, argument-good, key-short, limit-read, list-entries, list-room}
+use Rattle.sjoin.proofs.Joined.{Passes, passes, argument-good, key-short, limit-read, list-entries, list-room}
 use Rattle.sjoin.proofs.Answers.{list-at, last-from, list-small, ordered-is, made}
 use Rattle.sjoin.proofs.record_of.Statement.{statement}
 use Rattle.sjoin.proofs.record_of.Tie as tie
@@ -26,7 +27,7 @@ good : (c : tie.After-param) → Passes (contentOf (c .before .before .args .lin
 good c = passes (contentOf (c .before .before .args .line .now)) (c .before .before .pre .0)
 
 name-room-requires : tie.Need-name-room-requires
-name-room-requires c κs = omega (arith, name-short (nameIn (contentOf (c .before .before .args .line .now))) (good c .name), ap (λ (l : List ℕ). length l) (c .param .ensures .0))
+name-room-requires c κs = omega (arith, channel-length (nameIn (contentOf (c .before .before .args .line .now))) (good c .name), ap (λ (l : List ℕ). length l) (c .param .ensures .0))
 
 time-of-requires : tie.Need-time-of-requires
 time-of-requires c κs = good (c .before) .time

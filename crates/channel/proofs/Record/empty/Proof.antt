@@ -31,7 +31,7 @@ vacant-requires c κs = search needs
 
 returns : tie.Need-returns
 unfolding emptyRecord encode padded unused
-returns c = (ap unused (c .vacant .ensures), (refl, refl, refl, refl))
+returns c = (ap unused (c .vacant .ensures), ((refl, refl, refl, refl), (refl, refl)))
 
 pub empty-spec : {M : Type 1} → statement M
 empty-spec = tie.close (tie.spec vacant-requires returns)
