@@ -9,7 +9,7 @@ use lib.ListN.{length}
 use lib.Dec.{leb}
 use borrow.Author.Tests.{eq-eqb, ne-eqb, le-leb, lt-leb, leb-true}
 use Rattle.refusal.specs.Numbers.{accepted, wrongParamCount, badSource, badTime, zeroTime, badName, badModes, badMembers}
-use Rattle.refusal.specs.Rules.{firstOf}
+use Rattle.refusal.specs.Rules.{firstOf, ascend, ascendFrom}
 use Rattle.octets.specs.declared.Decimal.the-variants.{Value, Malformed}
 use Rattle.octets.specs.Decimals.{isDecimal, valueOf, decimalUpTo}
 use Rattle.octets.proofs.Digits.{value-digits, decimal-digits, decimal-read, value-in}
@@ -19,6 +19,11 @@ use Rattle.message.specs.Content.{Content}
 use Rattle.sjoin.specs.Modes.{lettersOf, goodLetters, parametered, goodArguments, goodModes}
 use Rattle.sjoin.specs.Entries.{goodEntries}
 use Rattle.sjoin.specs.Join.{timeIn, nameIn, modesIn, listIn, argumentsIn, isSource, fewest, most, goodCount, goodTime, joinRules}
+
+-- The numbers ascend: the lowest that applies is given.
+pub rules-ascend : (c : Content) → ascend (joinRules c) ≡ true
+unfolding ascendFrom joinRules
+rules-ascend c = refl
 
 -- ---- a missing prefix is the empty one, which is no server id
 source-is : (p : Option (List ℕ)) → isServerId (Option·getD p []) ≡ isSource p

@@ -1,4 +1,4 @@
--- Laws of SJOIN's parts, for the functions of this crate and for the crates above.
+-- Laws of SJOIN's parts, for the functions of this crate and for the crates above, and an example.
 pub mod Modes
 pub mod Parameters
 pub mod Limits
@@ -12,3 +12,4 @@ pub mod Entered
 pub mod Spaced
 pub mod Lettered
 pub mod Back
+pub mod Examples

@@ -1,0 +1,35 @@
+-- Document 01's whole case, the line: what it says, as computed from the definitions. A witness for the premises of the theorems about lines that no rule
+-- refuses. Assumes nothing.
+use Prim.Native.Nat.{ℕ}
+use mathlib.Core.Path.{_≡_, refl}
+use mathlib.Core.List.{List, _∷_}
+use Rattle.refusal.specs.Numbers.{accepted}
+use Rattle.refusal.specs.Rules.{firstOf}
+use Rattle.octets.specs.Bytes.{within, isPlain, isLetter, isDigit, isIdByte, isNameByte}
+use Rattle.octets.specs.Lists.{all, sameBy, startsWith}
+use Rattle.octets.specs.Order.{compare}
+use Rattle.octets.specs.Ascending.{insert, put, unite}
+use Rattle.octets.specs.Decimals.{leadsWithZero, isDecimal, valueFrom}
+use Rattle.names.specs.Names.{isChannel, isServerId, isUserId}
+use Rattle.channel.specs.Modes.{withMode, placeAmong}
+use Rattle.channel.proofs.Examples.{incoming, 1ab}
+use Rattle.message.specs.Grammar.{word, spaces, prefix, prefixEnd, commandStart, command, commandEnd, isCommand, rest, params}
+use Rattle.message.specs.Content.{contentIn}
+use Rattle.message.specs.Words.{wordsAt}
+use Rattle.message.specs.Reading.{crlf, endsLine, bodyOf, bodyRules, lineRules, numberFor, isRead, contentOf}
+use Rattle.sjoin.specs.Modes.{once, goodLetters, modesByte, parametered, goodArguments, argumentOf, goodModes}
+use Rattle.sjoin.specs.Entries.{past, idOf, statusOf, isEntry, memberOf, goodEntries}
+use Rattle.sjoin.specs.Join.{argumentsIn, isSource, goodCount, goodTime, joinRules, channelIn, joinNumber}
+
+-- `:1AB SJOIN 1200 #race +nt :@1ABAAAAAA 1ABAAAAAB`
+line : List ℕ
+line = 58 ∷ 49 ∷ 65 ∷ 66 ∷ 32 ∷ 83 ∷ 74 ∷ 79 ∷ 73 ∷ 78 ∷ 32 ∷ 49 ∷ 50 ∷ 48 ∷ 48 ∷ 32 ∷ 35 ∷ 114 ∷ 97 ∷ 99 ∷ 101 ∷ 32 ∷ 43 ∷ 110 ∷ 116 ∷ 32 ∷ 58 ∷ 64 ∷ 49 ∷ 65 ∷ 66 ∷ 65 ∷ 65 ∷ 65 ∷ 65 ∷ 65 ∷ 65 ∷ 32 ∷ 49 ∷ 65 ∷ 66 ∷ 65 ∷ 65 ∷ 65 ∷ 65 ∷ 65 ∷ 66 ∷ crlf
+
+line-taken : joinNumber line ≡ accepted
+unfolding line joinNumber joinRules goodCount isSource goodTime isDecimal leadsWithZero valueFrom isDigit isChannel isNameByte isServerId isUserId isIdByte goodModes goodLetters once parametered goodArguments argumentsIn placeAmong goodEntries isEntry idOf past wordsAt contentOf contentIn isRead numberFor lineRules bodyRules firstOf endsLine sameBy bodyOf all isPlain startsWith prefix word prefixEnd commandStart spaces command isCommand isLetter within commandEnd rest params
+line-taken = refl
+
+-- the channel of channel/proofs/Examples.antt
+line-tells : channelIn (contentOf line) ≡ incoming
+unfolding line incoming 1ab channelIn argumentsIn argumentOf parametered modesByte withMode placeAmong valueFrom memberOf idOf statusOf past wordsAt insert put unite compare contentOf contentIn isRead numberFor lineRules bodyRules firstOf endsLine sameBy bodyOf all isPlain startsWith prefix word prefixEnd commandStart spaces command isCommand isLetter within commandEnd rest params
+line-tells = refl
