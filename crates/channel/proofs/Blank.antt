@@ -8,34 +8,21 @@ use native.Mathlib.Omega.{arith}
 use lib.ListN.{length, getD, replicate}
 use borrow.Author.Tests.{eqb-true}
 use Rattle.octets.specs.Lists.{all, padded}
-use Rattle.octets.proofs.Bools.{and-left, and-right}
 use Rattle.octets.proofs.Lists.{all-head, all-tail, all-at}
 use Rattle.names.specs.Names.{nameLimit, userIdLength}
 use Rattle.channel.specs.declared.Member.{Member}
 use Rattle.channel.specs.declared.Record.{Record}
 use Rattle.channel.specs.Limits.{memberLimit, keyLimit}
-use Rattle.channel.specs.Channel.{member}
 use Rattle.channel.specs.Record.{nobody, encode, emptyRecord}
-use Rattle.channel.specs.WellFormed.{isZero, isVacant, zeroTests, isBlank}
+use Rattle.channel.specs.WellFormed.{isVacant, zeroTests, isBlank}
 use Rattle.channel.proofs.Judging.{passed}
-use Rattle.channel.proofs.Records.{Sized}
+use Rattle.channel.proofs.Records.{Sized, zeros, vacant-nobody}
 
 pub blank-tests : (r : Record) → isBlank r ≡ passed (zeroTests r)
 unfolding isBlank
 blank-tests r = refl
 
--- ---- bytes and places that are all zero
-zeros : (l : List ℕ) → all isZero l ≡ true → l ≡ replicate (length l) 0
-zeros [] e = refl
-zeros (b ∷ l) e = rw (eqb-true b 0 (all-head isZero b l e), ← zeros l (all-tail isZero b l e))
-
-module _ (m : Member) (n : length (m .id) ≡ userIdLength) where
-  vacant-nobody : isVacant m ≡ true → m ≡ nobody
-  vacant-nobody e =
-      let ids : m .id ≡ replicate userIdLength 0 = zeros (m .id) (and-left (all isZero (m .id)) (isZero (m .status)) e) ∙ ap (λ (k : ℕ). replicate k 0) n in
-      let status : m .status ≡ 0 = eqb-true (m .status) 0 (and-right (all isZero (m .id)) (isZero (m .status)) e) in
-      ap₂ member ids status
-
+-- ---- places that are all vacant
 vacants : (l : List Member) → ((k : ℕ) → k < length l → length ((getD l k nobody) .id) ≡ userIdLength) → all isVacant l ≡ true → l ≡ replicate (length l) nobody
 vacants [] w e = refl
 vacants (m ∷ l) w e =

@@ -1,17 +1,27 @@
--- The greater of two keys joins: it is one of the two, whichever way they are grouped or turned, and no key is neutral, since the order of byte
+-- A key keeps to its room. The greater of two keys joins: it is one of the two, whichever way they are grouped or turned, and no key is neutral, since the order of byte
 -- lists is total and the empty list is its least. Assumes nothing.
-use Prim.Native.Nat.{ℕ}
+use Prim.Native.Nat.{ℕ, _≤_}
 use mathlib.Core.Path.{_≡_, refl}
 use mathlib.Core.Bool.{true, false, _&&_, cond}
 use mathlib.Core.List.{List, [], _∷_}
+use lib.ListN.{length}
+use lib.Dec.{leb}
+use borrow.Author.Tests.{leb-true}
 use Rattle.octets.specs.declared.Order.{Order}
 use Rattle.octets.specs.declared.Order.the-variants.{Less, Same, More}
 use Rattle.octets.specs.Order.{compare}
 use Rattle.octets.specs.Lists.{isNil}
 use Rattle.octets.specs.Ascending.{isLess}
+use Rattle.octets.proofs.Bools.{and-left, and-right}
 use Rattle.octets.proofs.Ordered.{compare-nil, Below, compare-refl, compare-same, compare-trans, below-more, more-below}
 use Rattle.octets.proofs.Joins.{Joining}
-use Rattle.channel.specs.Key.{greater}
+use Rattle.channel.specs.Limits.{keyLimit}
+use Rattle.channel.specs.Key.{isKey, greater}
+
+-- a key keeps to its room
+pub key-length : (k : List ℕ) → isKey k ≡ true → length k ≤ keyLimit
+unfolding isKey
+key-length k h = leb-true (length k) keyLimit (and-left _ _ (and-right (leb 1 (length k)) _ h))
 
 -- it is one of the two: what holds of both holds of it
 pub greater-is : (P : List ℕ → Type 0) (a b : List ℕ) → P a → P b → P (greater a b)

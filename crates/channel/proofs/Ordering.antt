@@ -2,19 +2,17 @@
 use mathlib.Core.Path.{_≡_, refl, sym, ap, _∙_}
 use mathlib.Core.Bool.{true}
 use mathlib.Core.List.{List, [], _∷_, _++_, append-nil}
-use Prim.Native.Nat.{ℕ, suc, _+_, _-_, _≤_, _<_}
+use Prim.Native.Nat.{ℕ, _+_, _-_, _≤_, _<_}
 use native.Mathlib.Numerals.{add-one}
 use native.Mathlib.Omega.{arith}
 use lib.ListN.{length, take, getD, set}
 use lib.Seq.{take-suc, take-all}
-use Rattle.octets.specs.declared.Order.{Order}
-use Rattle.octets.specs.declared.Order.the-variants.{Less, Same, More}
 use Rattle.octets.specs.Lists.{padded}
 use Rattle.octets.specs.Order.{compare}
-use Rattle.octets.specs.Ascending.{isLess, insert, put, unite}
+use Rattle.octets.specs.Ascending.{isLess, put, unite}
 use Rattle.octets.proofs.Lists.{getD-padded}
 use Rattle.octets.proofs.Ordered.{Below, compare-trans}
-use Rattle.octets.proofs.Ascends.{Under, Ascending, less-says, ascends-passes, put-between, under-upto, unite-append, ascending-put}
+use Rattle.octets.proofs.Ascends.{put-some, put-few, Under, Ascending, less-says, ascends-passes, put-between, under-upto, unite-append, ascending-put}
 use Rattle.channel.specs.declared.Member.{Member}
 use Rattle.channel.specs.declared.Roster.{Roster}
 use Rattle.channel.specs.Limits.{memberLimit}
@@ -24,27 +22,6 @@ use Rattle.channel.specs.Members.{roster, ordered}
 use Rattle.channel.specs.Private.{Sorted}
 use Rattle.channel.proofs.Sides.{keyed-byId}
 use Rattle.channel.proofs.Gathering.{Gathers, gathers-more, gathers-take, roster-gathers}
-
--- ---- how many there are when one is put
-put-some : (e : Member) (l : List Member) → 1 ≤ length (put byId e l)
-unfolding put insert
-put-some e [] = omega arith
-put-some e (d ∷ l) = go (compare (e .id) (d .id))
-  where
-    go : (o : Order) → 1 ≤ length (insert byId o e d l (put byId e l))
-    go Less = omega arith
-    go Same = omega arith
-    go More = omega arith
-
-put-one : (e : Member) (l : List Member) → length (put byId e l) ≤ suc (length l)
-unfolding put insert
-put-one e [] = omega arith
-put-one e (d ∷ l) = go (compare (e .id) (d .id)) (put-one e l)
-  where
-    go : (o : Order) → length (put byId e l) ≤ suc (length l) → length (insert byId o e d l (put byId e l)) ≤ suc (length (d ∷ l))
-    go Less h = omega arith
-    go Same h = omega arith
-    go More h = omega arith
 
 under-append : (x : List ℕ) (a b : List Member) → Under byId x a → Under byId x b → Under byId x (a ++ b)
 under-append x [] b h k = k
@@ -99,7 +76,7 @@ module _ (entries : List Member) (i : ℕ) (list : List Member) (count : ℕ) (l
       g = roster-gathers r (put byId e so-far) placed
 
       pub inserted-count : (1 ≤ r .count) × (r .count ≤ i + 1)
-      inserted-count = (omega (arith, g .counts, put-some e so-far), omega (arith, g .counts, put-one e so-far, s .gathers .counts, s .few))
+      inserted-count = (omega (arith, g .counts, put-some byId e so-far), omega (arith, g .counts, put-few byId e so-far, s .gathers .counts, s .few))
 
       last-one : (x : Member) → getD (r .list) (r .count - 1) x ≡ getD (put byId e so-far) (r .count - 1) nobody
       last-one x = ap (λ (m : List Member). getD m (r .count - 1) x) (g .holds) ∙ getD-padded nobody memberLimit (put byId e so-far) (r .count - 1) x (omega (arith, inserted-count))

@@ -24,7 +24,7 @@ use Rattle.channel.specs.Channel.{Channel, member, byId}
 use Rattle.channel.specs.Record.{encode, decode}
 use Rattle.channel.specs.WellFormed.{bothStatuses, goodTime, goodModes, goodKey, goodLimit, goodMember, goodMembers, channelTests, inRoom, clear, wellFormed}
 use Rattle.channel.specs.Merging.{stands, given, bare, standing, merge}
-use Rattle.channel.proofs.Keys.{greater-is, greater-nil}
+use Rattle.channel.proofs.Keys.{key-length, greater-is, greater-nil}
 use Rattle.channel.proofs.Letters.{has-no-mode, has-either}
 use Rattle.channel.proofs.Sides.{length-standing, ascending-merge}
 use Rattle.channel.proofs.Records.{Fits, Sized, decode-encode, encode-decode, encode-room, encode-clear}
@@ -89,9 +89,8 @@ proper-passes c p =
 
 -- ---- a record that holds such a channel is well formed, and a well-formed record holds one
 key-room : (k : List ℕ) → (isNil k || isKey k) ≡ true → length k ≤ keyLimit
-unfolding isKey
 key-room [] h = omega arith
-key-room (b ∷ s) h = leb-true (length (b ∷ s)) keyLimit (and-left _ _ (and-right (leb 1 (length (b ∷ s))) _ h))
+key-room (b ∷ s) h = key-length (b ∷ s) h
 
 pub proper-fits : (c : Channel) → Proper c → Fits c
 proper-fits c p = record { name = channel-length (c .name) (p .name); key = key-room (c .key) (p .key); members = p .few }
@@ -150,7 +149,7 @@ module _ (time : ℕ) (c : Channel) (p : Proper c) where
   given-limited = elim (stands time c) as (λ t. hasMode (cond t (c .modes) 0) limitMode ≡ ltb 0 (cond t (c .limit) 0)) [ true ↦ p .limited | false ↦ has-no-mode limitMode ]
 
 -- ---- what two sides give together
-both-statuses : (e d : Member) → goodMember e ≡ true → goodMember d ≡ true → goodMember (member (d .id) (bitOr (e .status) (d .status))) ≡ true
+pub both-statuses : (e d : Member) → goodMember e ≡ true → goodMember d ≡ true → goodMember (member (d .id) (bitOr (e .status) (d .status))) ≡ true
 unfolding goodMember
 both-statuses e d h k =
     let s : e .status ≤ bothStatuses = leb-true (e .status) bothStatuses (and-right (isUserId (e .id)) _ h) in

@@ -49,12 +49,12 @@ unfolding encode clear all
 encode-clear c = simp (all-padded 0 isZero refl nameLimit (c .name), all-padded 0 isZero refl keyLimit (c .key), all-padded nobody isVacant refl memberLimit (c .members))
 
 -- ---- room that is zero
-zeros : (l : List ℕ) → all isZero l ≡ true → l ≡ replicate (length l) 0
+pub zeros : (l : List ℕ) → all isZero l ≡ true → l ≡ replicate (length l) 0
 zeros [] h = refl
 zeros (x ∷ l) h = ap₂ _∷_ (eqb-true x 0 (all-head isZero x l h)) (zeros l (all-tail isZero x l h))
 
 -- a vacant place with an id's length is nobody's
-vacant-nobody : (m : Member) → length (m .id) ≡ userIdLength → isVacant m ≡ true → m ≡ nobody
+pub vacant-nobody : (m : Member) → length (m .id) ≡ userIdLength → isVacant m ≡ true → m ≡ nobody
 vacant-nobody m e h =
     let i : m .id ≡ replicate userIdLength 0 = zeros (m .id) (and-left (all isZero (m .id)) (isZero (m .status)) h) ∙ ap (λ (n : ℕ). replicate n 0) e in
     let s : m .status ≡ 0 = eqb-true (m .status) 0 (and-right (all isZero (m .id)) (isZero (m .status)) h) in

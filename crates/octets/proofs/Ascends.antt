@@ -184,6 +184,32 @@ module _ {E P : Type 0} (K : Kind E P) where
   length-unite-left a [] = omega arith
   length-unite-left a (e ∷ b) = omega (arith, length-put e a, length-unite-left (put K e a) b)
 
+  -- one that is put in its place is there, and makes the list longer by one at most
+  pub put-some : (e : E) (l : List E) → 1 ≤ length (put K e l)
+  unfolding put insert
+  put-some e [] = omega arith
+  put-some e (d ∷ l) = go (compare (K .key e) (K .key d))
+    where
+      go : (o : Order) → 1 ≤ length (insert K o e d l (put K e l))
+      go Less = omega arith
+      go Same = omega arith
+      go More = omega arith
+
+  pub put-few : (e : E) (l : List E) → length (put K e l) ≤ suc (length l)
+  unfolding put insert
+  put-few e [] = omega arith
+  put-few e (d ∷ l) = go (compare (K .key e) (K .key d)) (put-few e l)
+    where
+      go : (o : Order) → length (put K e l) ≤ suc (length l) → length (insert K o e d l (put K e l)) ≤ suc (length (d ∷ l))
+      go Less h = omega arith
+      go Same h = omega arith
+      go More h = omega arith
+
+  pub unite-few : (a b : List E) → length (unite K a b) ≤ length a + length b
+  unfolding unite
+  unite-few a [] = omega arith
+  unite-few a (e ∷ b) = omega (arith, put-few e a, unite-few (put K e a) b)
+
 -- ---- what holds of entries holds of those that are joined from them
 module _ {E P : Type 0} (K : Kind E P) (p : E → Bool) (add : (e d : E) → p e ≡ true → p d ≡ true → p (joined K e d) ≡ true) where
   all-put : (e : E) (l : List E) → p e ≡ true → all p l ≡ true → all p (put K e l) ≡ true

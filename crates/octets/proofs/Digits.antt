@@ -148,21 +148,6 @@ digits-value (b ∷ x ∷ s) h =
 pub digits-some : (n : ℕ) → 0 < length (digitsOf n)
 digits-some = by-digits (λ (n : ℕ) (s : List ℕ). 0 < length s) (λ n h. omega arith) (λ n s h ih. omega (arith, length-append s (lastDigit n)))
 
-pub digits-short : (m n : ℕ) → m ≤ n → length (digitsOf m) ≤ length (digitsOf n)
-digits-short m n h = by-digits (λ (n : ℕ) (s : List ℕ). (m : ℕ) → m ≤ n → length (digitsOf m) ≤ length s) one more n m h
-  where
-    one : (n : ℕ) → n < 10 → (m : ℕ) → m ≤ n → length (digitsOf m) ≤ 1
-    one n h m l = omega (arith, ap (λ (s : List ℕ). length s) (digits-one m (omega arith)))
-
-    more : (n : ℕ) (s : List ℕ) → 10 ≤ n → ((m : ℕ) → m ≤ n / 10 → length (digitsOf m) ≤ length s) → (m : ℕ) → m ≤ n → length (digitsOf m) ≤ length (s ++ lastDigit n)
-    more n s h ih m l = go (ltb m 10) refl
-      where
-        go : (t : Bool) → ltb m 10 ≡ t → length (digitsOf m) ≤ length (s ++ lastDigit n)
-        go true e = omega (arith, length-append s (lastDigit n), ap (λ (d : List ℕ). length d) (digits-one m (ltb-true m 10 e)))
-        go false e =
-            let k : 10 ≤ m = ltb-false m 10 e in
-            omega (arith, ih (m / 10) (omega arith), length-append s (lastDigit n), length-append (digitsOf (m / 10)) (lastDigit m), ap (λ (d : List ℕ). length d) (digits-more m k))
-
 pub digits-within : (n k : ℕ) → n < 10 ^ suc k → length (digitsOf n) ≤ suc k
 digits-within = by-digits (λ (n : ℕ) (s : List ℕ). (k : ℕ) → n < 10 ^ suc k → length s ≤ suc k) (λ n h k l. omega arith) more
   where

@@ -19,12 +19,12 @@ use Rattle.octets.proofs.Lists.{all-head, all-tail, all-imp}
 use Rattle.names.specs.Names.{isChannel, userIdLength}
 use Rattle.channel.specs.Limits.{keyLimit, memberLimit}
 use Rattle.channel.specs.Modes.{placeAmong}
-use Rattle.channel.specs.Key.{isKey}
+use Rattle.channel.proofs.Keys.{key-length}
 use Rattle.message.specs.Grammar.{Part, word, lineLimit}
 use Rattle.message.specs.Content.{Content, bytesOf}
 use Rattle.message.specs.Words.{wordsAt, afterWord, wordsOf}
-use Rattle.sjoin.specs.Modes.{keyLetter, limitLetter, lettersOf, parametered, isLimit, limitIn, goodLetters, goodArgument, goodArguments, argumentOf, goodModes}
-use Rattle.sjoin.specs.Entries.{past, idOf, isEntry, goodEntries}
+use Rattle.sjoin.specs.Modes.{plus, keyLetter, limitLetter, lettersOf, parametered, isLimit, limitIn, goodLetters, goodArgument, goodArguments, argumentOf, goodModes}
+use Rattle.sjoin.specs.Entries.{at, past, idOf, isEntry, goodEntries}
 use Rattle.sjoin.specs.Join.{timeIn, nameIn, modesIn, listIn, argumentsIn, isSource, goodCount, goodTime, joinRules}
 use Rattle.sjoin.proofs.Listed.{entry-long}
 
@@ -76,9 +76,9 @@ unfolding goodModes argumentOf
 argument-good modes args letter h = fitting (parametered (lettersOf modes)) args letter (and-right (goodLetters modes) (goodArguments (parametered (lettersOf modes)) args) h)
 
 pub key-short : (k : List ℕ) → (k ≡ []) ⊎ (goodArgument keyLetter k ≡ true) → length k ≤ keyLimit
-unfolding goodArgument isKey
+unfolding goodArgument
 key-short k (inl e) = rw e (omega arith)
-key-short k (inr h) = leb-true (length k) keyLimit (and-left _ _ (and-right (leb 1 (length k)) _ h))
+key-short k (inr h) = key-length k h
 
 pub limit-read : (s : List ℕ) → (s ≡ []) ⊎ (goodArgument limitLetter s ≡ true) → limitIn s ≡ valueOf s
 unfolding goodArgument limitIn isLimit isDecimal valueFrom
@@ -99,7 +99,7 @@ past-short mark s = go (startsWith mark s) refl
 
 entry-takes : (e : List ℕ) → isEntry e ≡ true → long e ≡ true
 unfolding idOf
-entry-takes e h = le-leb userIdLength (length e) (omega (arith, entry-long e h, past-short 43 (past 64 e), past-short 64 e))
+entry-takes e h = le-leb userIdLength (length e) (omega (arith, entry-long e h, past-short plus (past at e), past-short at e))
 
 words-step : (b : ℕ) (s : List ℕ) (at : ℕ) → (all long (bytesOf (wordsAt (at + 1) s)) ≡ true → 10 * length (wordsAt (at + 1) s) ≤ length s + 1)
     → (all long (bytesOf (afterWord (at + 1) s)) ≡ true → length (word s) + 10 * length (afterWord (at + 1) s) ≤ length s)

@@ -1,45 +1,42 @@
 -- The record of a line that no rule refuses is well formed. Assumes nothing.
-use Prim.Native.Nat.{ℕ, suc, _+_, _^_, _-_, _≤_, _<_}
+use Prim.Native.Nat.{ℕ, _+_, _^_, _-_, _≤_, _<_}
 use mathlib.Core.Path.{_≡_, refl, sym, ap, ap₂, _∙_}
 use mathlib.Core.Bool.{Bool, true, false, not, cond, _&&_, _||_, true≢false}
 use mathlib.Core.Logic.{_⊎_, inl, inr}
 use mathlib.Core.List.{List, [], _∷_, map}
 use native.Mathlib.Omega.{arith}
-use lib.Bits.{bitOr, or-lt}
+use lib.Bits.{or-lt}
 use lib.Pow.{pow-lt}
 use lib.ListN.{length, getD, length-map}
 use lib.Dec.{eqb, leb, ltb}
 use borrow.Author.Tests.{not-true, eq-eqb, eqb-true, eqb-false, leb-true, le-leb, ltb-true, lt-ltb}
 use Rattle.refusal.specs.Numbers.{accepted}
 use Rattle.refusal.specs.Rules.{firstOf}
-use Rattle.octets.specs.declared.Order.{Order}
-use Rattle.octets.specs.declared.Order.the-variants.{Less, Same, More}
 use Rattle.octets.specs.Lists.{all, isNil, startsWith}
-use Rattle.octets.specs.Order.{compare}
-use Rattle.octets.specs.Ascending.{insert, put, unite}
+use Rattle.octets.specs.Ascending.{put, unite}
 use Rattle.octets.specs.Decimals.{isDecimal, valueFrom, valueOf}
 use Rattle.octets.proofs.Bools.{and-left, and-right, and-intro, both-ways}
 use Rattle.octets.proofs.Lists.{all-head, all-tail, nil-map}
-use Rattle.octets.proofs.Ascends.{length-unite-left, all-unite, ascending-unite}
+use Rattle.octets.proofs.Ascends.{length-unite-left, unite-few, all-unite, ascending-unite}
 use Rattle.names.specs.Names.{isUserId}
 use Rattle.channel.specs.declared.Member.{Member}
 use Rattle.channel.specs.Limits.{timeLimit, limitLimit}
 use Rattle.channel.specs.Modes.{modeCount, hasMode, withMode, placeAmong, modePlace}
 use Rattle.channel.specs.Key.{isKey}
-use Rattle.channel.specs.Channel.{member, byId}
+use Rattle.channel.specs.Channel.{byId}
 use Rattle.channel.specs.Members.{ordered}
 use Rattle.channel.specs.Record.{encode}
-use Rattle.channel.specs.WellFormed.{goodMember, wellFormed}
+use Rattle.channel.specs.WellFormed.{bothStatuses, goodMember, wellFormed}
 use Rattle.channel.proofs.Letters.{has-no-mode, has-either, has-with}
 use Rattle.channel.proofs.Sides.{keyed-byId}
-use Rattle.channel.proofs.Proper.{Proper, encode-well}
+use Rattle.channel.proofs.Proper.{Proper, both-statuses, encode-well}
 use Rattle.message.specs.Grammar.{lineLimit}
 use Rattle.message.specs.Content.{Content}
 use Rattle.message.specs.Reading.{isRead, contentOf}
 use Rattle.message.proofs.Readings.{read-small, refused-number}
 use Rattle.message.specs.Words.{wordsOf}
-use Rattle.sjoin.specs.Modes.{keyLetter, limitLetter, lettersOf, isMode, lacks, hasParameter, parametered, isLimit, goodLetters, goodArgument, goodArguments, argumentOf, goodModes, modesByte}
-use Rattle.sjoin.specs.Entries.{past, idOf, statusOf, isEntry, memberOf, goodEntries, named}
+use Rattle.sjoin.specs.Modes.{plus, keyLetter, limitLetter, lettersOf, isMode, lacks, hasParameter, parametered, isLimit, goodLetters, goodArgument, goodArguments, argumentOf, goodModes, modesByte}
+use Rattle.sjoin.specs.Entries.{at, voice, operator, past, idOf, statusOf, isEntry, memberOf, goodEntries, named}
 use Rattle.sjoin.specs.Join.{timeIn, modesIn, listIn, argumentsIn, goodTime, joinRules, channelIn, joinNumber, toldBy}
 use Rattle.sjoin.proofs.Modes.{bits, same-place}
 use Rattle.sjoin.proofs.Answers.{bounds, list-small}
@@ -130,31 +127,16 @@ limit-says s a (inr g) =
     (rw (g .0) (sym (lt-ltb 0 (valueOf a) from)), leb-true (valueOf a) limitLimit (and-right (leb 1 (valueOf a)) (leb (valueOf a) limitLimit) k))
 
 -- ---- the members
-put-few : (e : Member) (l : List Member) → length (put byId e l) ≤ suc (length l)
-unfolding put insert
-put-few e [] = omega arith
-put-few e (d ∷ l) = go (compare (e .id) (d .id)) (put-few e l)
-  where
-    go : (o : Order) → length (put byId e l) ≤ suc (length l) → length (insert byId o e d l (put byId e l)) ≤ suc (suc (length l))
-    go Less h = omega arith
-    go Same h = omega arith
-    go More h = omega arith
-
-unite-few : (a b : List Member) → length (unite byId a b) ≤ length a + length b
-unfolding unite
-unite-few a [] = omega arith
-unite-few a (e ∷ b) = omega (arith, put-few e a, unite-few (put byId e a) b)
-
 unite-some : (l : List Member) → isNil l ≡ false → 1 ≤ length (ordered l)
 unfolding unite put
 unite-some [] h = absurd (true≢false h)
 unite-some (e ∷ l) h = length-unite-left byId (e ∷ []) l
 
-status-few : (e : List ℕ) → statusOf e ≤ 3
+status-few : (e : List ℕ) → statusOf e ≤ bothStatuses
 unfolding statusOf
-status-few e = go (startsWith 64 e) (startsWith 43 (past 64 e))
+status-few e = go (startsWith at e) (startsWith plus (past at e))
   where
-    go : (t u : Bool) → cond t 2 0 + cond u 1 0 ≤ 3
+    go : (t u : Bool) → cond t operator 0 + cond u voice 0 ≤ bothStatuses
     go true true = omega arith
     go true false = omega arith
     go false true = omega arith
@@ -162,19 +144,12 @@ status-few e = go (startsWith 64 e) (startsWith 43 (past 64 e))
 
 entry-good : (e : List ℕ) → isEntry e ≡ true → goodMember (memberOf e) ≡ true
 unfolding isEntry memberOf goodMember
-entry-good e h = and-intro (isUserId (idOf e)) (leb (statusOf e) 3) h (le-leb (statusOf e) 3 (status-few e))
+entry-good e h = and-intro (isUserId (idOf e)) (leb (statusOf e) bothStatuses) h (le-leb (statusOf e) bothStatuses (status-few e))
 
 named-good : (l : List (List ℕ)) → all isEntry l ≡ true → all goodMember (map memberOf l) ≡ true
 unfolding all
 named-good [] h = refl
 named-good (e ∷ l) h = and-intro (goodMember (memberOf e)) (all goodMember (map memberOf l)) (entry-good e (all-head isEntry e l h)) (named-good l (all-tail isEntry e l h))
-
-joined-good : (e d : Member) → goodMember e ≡ true → goodMember d ≡ true → goodMember (member (d .id) (bitOr (e .status) (d .status))) ≡ true
-unfolding goodMember
-joined-good e d h k =
-    let s : e .status ≤ 3 = leb-true (e .status) 3 (and-right (isUserId (e .id)) _ h) in
-    let t : d .status ≤ 3 = leb-true (d .status) 3 (and-right (isUserId (d .id)) _ k) in
-    and-intro (isUserId (d .id)) _ (and-left _ _ k) (le-leb (bitOr (e .status) (d .status)) 3 (omega (arith, or-lt 2 (e .status) (d .status) (omega arith) (omega arith))))
 
 -- ---- all together
 module _ (c : Content) (none : firstOf (joinRules c) ≡ accepted) (small : length (listIn c) ≤ lineLimit) where
@@ -183,7 +158,7 @@ module _ (c : Content) (none : firstOf (joinRules c) ≡ accepted) (small : leng
 
   letters-good : all isMode (lettersOf (modesIn c)) ≡ true
   unfolding goodModes goodLetters
-  letters-good = and-left _ _ (and-right (startsWith 43 (modesIn c)) _ (and-left (goodLetters (modesIn c)) _ (good .modes)))
+  letters-good = and-left _ _ (and-right (startsWith plus (modesIn c)) _ (and-left (goodLetters (modesIn c)) _ (good .modes)))
 
   arguments-good : goodArguments (parametered (lettersOf (modesIn c))) (argumentsIn c) ≡ true
   unfolding goodModes
@@ -214,8 +189,8 @@ module _ (c : Content) (none : firstOf (joinRules c) ≡ accepted) (small : leng
         limited = bits-have limitLetter s letters-good ∙ l .0;
         limit = l .1;
         some = unite-some n (nil-map memberOf (wordsOf (listIn c)) ∙ words-some);
-        few = omega (arith, unite-few [] n, length-map (wordsOf (listIn c)) memberOf, list-room (listIn c) (good .list) small);
-        listed = all-unite byId goodMember joined-good [] n refl (named-good (wordsOf (listIn c)) (list-entries (listIn c) (good .list)));
+        few = omega (arith, unite-few byId [] n, length-map (wordsOf (listIn c)) memberOf, list-room (listIn c) (good .list) small);
+        listed = all-unite byId goodMember both-statuses [] n refl (named-good (wordsOf (listIn c)) (list-entries (listIn c) (good .list)));
         ascending = ascending-unite byId keyed-byId [] n tt;
       }
 
