@@ -5,16 +5,16 @@ use mathlib.Core.List.{List, [], _∷_, _++_, append-nil}
 use Prim.Native.Nat.{ℕ, suc, _+_, _≤_, _<_}
 use native.Mathlib.Numerals.{add-one}
 use native.Mathlib.Omega.{arith}
-use lib.ListN.{length, take, getD}
+use lib.ListN.{length, take, drop, getD, drop-of-length-le}
 use lib.Seq.{take-suc}
 use borrow.Author.Tests.{eq-eqb, ne-eqb}
 use Rattle.octets.specs.Lists.{same}
-use Rattle.octets.proofs.Lists.{nil-length}
+use Rattle.octets.proofs.Lists.{nil-length, drop-step}
 use Rattle.channel.specs.declared.Member.{Member}
 use Rattle.channel.specs.declared.Record.{Record}
 use Rattle.channel.specs.declared.Roster.{Roster}
 use Rattle.channel.specs.Record.{decode, emptyRecord}
-use Rattle.channel.specs.Members.{roster, others, withMembers, without}
+use Rattle.channel.specs.Members.{roster, hasMember, others, withMembers, without}
 
 module _ (id : List ℕ) where
   pub others-in : (l : List Member) → length (others id l) ≤ length l
@@ -47,6 +47,21 @@ module _ (id : List ℕ) where
     pub others-stay : same id (getD l i d .id) ≡ false → others id (take (i + 1) l) ≡ others id (take i l) ++ (getD l i d ∷ [])
     unfolding others
     others-stay e = next ∙ rw e
+
+-- ---- whether one has the id, at a place
+module _ (id : List ℕ) (l : List Member) (i : ℕ) where
+  module _ (d : Member) (h : i < length l) where
+    pub has-stop : same id (getD l i d .id) ≡ true → hasMember id (drop i l) ≡ true
+    unfolding hasMember
+    has-stop e = rw (drop-step l i d h, e)
+
+    pub has-go : same id (getD l i d .id) ≡ false → hasMember id (drop i l) ≡ hasMember id (drop (i + 1) l)
+    unfolding hasMember
+    has-go e = rw (drop-step l i d h, e)
+
+  pub has-past : length l ≤ i → hasMember id (drop i l) ≡ false
+  unfolding hasMember
+  has-past h = rw (drop-of-length-le l h)
 
 -- ---- the record without a member, by the roster of those that stay
 module _ (id : List ℕ) (r : Record) (s : Roster) (is : s ≡ roster (others id (take (r .count) (r .members)))) where

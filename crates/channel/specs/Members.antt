@@ -1,6 +1,6 @@
 -- Member lists in their room, and a member removed.
 use Prim.Native.Nat.{ℕ}
-use mathlib.Core.Bool.{cond}
+use mathlib.Core.Bool.{Bool, false, cond, _||_}
 use mathlib.Core.List.{List, [], _∷_}
 use lib.ListN.{length}
 use Rattle.octets.specs.Lists.{isNil, padded, same}
@@ -19,6 +19,11 @@ roster l = record { list = padded memberLimit nobody l; count = length l }
 -- every id once, ascending, an id given twice having both statuses
 abbrev pub ordered : List Member → List Member
 ordered l = unite byId [] l
+
+-- one of them has the id
+unfoldable pub hasMember : List ℕ → List Member → Bool
+hasMember id [] = false
+hasMember id (m ∷ l) = same id (m .id) || hasMember id l
 
 -- all but those with the id
 unfoldable pub others : List ℕ → List Member → List Member

@@ -7,10 +7,10 @@ ghost use Rattle.octets.specs.Lists.{same, padded};
 ghost use Rattle.octets.specs.Order.{compare};
 ghost use Rattle.octets.specs.Ascending.{isLess, put};
 ghost use Rattle.channel.specs.Limits.{memberLimit};
-ghost use Rattle.channel.specs.Record.{nobody as nobodyOf};
+ghost use Rattle.channel.specs.Record.{nobody as nobodyOf, decode};
 ghost use Rattle.channel.specs.Channel.{byId};
 ghost use Rattle.channel.specs.Private.{Sorted};
-ghost use Rattle.channel.specs.Members.{roster, ordered as orderedOf, others as othersOf, without as withoutOf};
+ghost use Rattle.channel.specs.Members.{roster, ordered as orderedOf, hasMember, others as othersOf, without as withoutOf};
 use crate::Member;
 use crate::Record;
 use crate::Roster;
@@ -69,6 +69,20 @@ pub(crate) fn is_below(m: Member, next: Member) -> bool
         Order::Same => false,
         Order::More => false,
     }
+}
+
+// Whether the record has a member with the id.
+pub fn has_member(r: Record, id: [u8; USER_ID]) -> bool
+    ensures { λ t. ⌜ t ≡ hasMember id (decode r .members) ⌝ }
+{
+    let members = r.members;
+    for i in 0..within(r.count) {
+        let m = members[i];
+        if has_id(m, id) {
+            return true;
+        }
+    }
+    false
 }
 
 // All but those with the id, of the first n.

@@ -1,13 +1,15 @@
 // Channel names, server ids and user ids (document 01, 'Names and ids'): the fold that makes names equal, a test for each kind, and the order
 // of user ids. Any bytes are taken and nothing is refused.
 ghost use mathlib.Core.Path.{_≡_};
+ghost use Rattle.octets.specs.Lists.{padded};
 ghost use Rattle.octets.specs.Order.{compare};
 ghost use Rattle.names.specs.Fold.{fold as foldOf, sameName};
-ghost use Rattle.names.specs.Names.{isChannel, isServerId, isUserId};
+ghost use Rattle.names.specs.Names.{userIdLength, isChannel, isServerId, isUserId};
 use octets::Class;
 use octets::Order;
 use octets::all_in;
 use octets::part;
+use octets::put;
 
 // The most bytes of a channel name, '#' counted.
 pub const NAME_LIMIT: usize = 50;
@@ -103,4 +105,13 @@ pub fn compare_ids(a: [u8; USER_ID], b: [u8; USER_ID]) -> Order
     ensures { λ r. ⌜ r ≡ compare a b ⌝ }
 {
     octets::compare(&a, &b)
+}
+
+// The first nine bytes, held whole as a user id is, the rest of the room zero where they are fewer.
+pub fn user_id(s: &[u8]) -> [u8; USER_ID]
+    ensures { λ r. ⌜ r ≡ padded userIdLength 0 (now (s .entry)) ⌝ }
+{
+    let mut id = [0u8; USER_ID];
+    put(&mut id, 0, part(s, 0, USER_ID));
+    id
 }

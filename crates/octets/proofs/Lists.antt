@@ -170,6 +170,17 @@ module _ {A : Type 0} (x : A) where
       free k lt =
           getD-drop (length l) (padded n x l) k x ∙ getD-padded n l (length l + k) x lt ∙ List·getD-eq-default l x {n = length l + k} (omega arith)
 
+  -- a list that fills the room is all that stands there
+  pub padded-whole : (n : ℕ) (l : List A) → length l ≡ n → padded n x l ≡ l
+  unfolding padded
+  padded-whole n l e = rw (sym e) (take-append-seam l (replicate (length l) x))
+
+  -- and one that is longer is cut off
+  pub padded-cut : (n : ℕ) (l : List A) → padded n x (take n l) ≡ padded n x l
+  padded-cut n l =
+      ext-getD x (padded n x (take n l)) (padded n x l) (length-padded n (take n l) ∙ sym (length-padded n l))
+      (λ k h. let b : k < n = omega (arith, length-padded n (take n l)) in getD-padded n (take n l) k x b ∙ getD-take n l k x b ∙ sym (getD-padded n l k x b))
+
   -- a list that holds x from a place on is the padded list of what stands before it
   pub padded-take : (n m : ℕ) (l : List A) → length l ≡ m → ((k : ℕ) → n ≤ k → k < m → getD l k x ≡ x) → padded m x (take n l) ≡ l
   padded-take n m l e room =

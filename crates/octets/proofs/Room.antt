@@ -5,11 +5,13 @@ use mathlib.Core.List.{List, [], _++_, append-nil, append-assoc}
 use Prim.Native.Nat.{ℕ, suc, _+_, _-_, _≤_, _<_}
 use native.Mathlib.Nat.{zero-add}
 use native.Mathlib.Omega.{arith}
-use lib.ListN.{length, take, drop, length-append, length-drop}
-use lib.Seq.{take-append-seam, drop-append-add, drop-drop, take-at, take-all, length-take-le}
+use lib.ListN.{length, take, drop, getD, replicate, length-append, length-drop, length-replicate, getD-replicate}
+use lib.Seq.{take-append-seam, drop-append-add, drop-drop, take-at, take-all, length-take-le, getD-append-add, getD-drop}
 use borrow.Author.Tests.{le-leb, leb-true, leb-false, lt-leb}
+use Rattle.octets.specs.Lists.{padded}
 use Rattle.octets.specs.Room.{part, fits, putAt, endOf, front}
 use Rattle.octets.specs.Held.{Holds, Adds}
+use Rattle.octets.proofs.Lists.{padded-take}
 
 -- ---- a part at either end
 pub part-front : (s : List ℕ) (n : ℕ) → part s 0 n ≡ take n s
@@ -114,3 +116,24 @@ pub begun-end : (line next : List ℕ) (at r : ℕ) (more goal : List ℕ) → m
 begun-end line next at r more goal e b =
     let q : b .text ≡ goal = sym (append-nil (b .text)) ∙ ap (λ (l : List ℕ). b .text ++ l) (sym e) ∙ b .comes in
     rw q at (b .adding)
+
+-- ---- bytes put into room that is zero stand there padded
+module _ (n : ℕ) (p : List ℕ) (h : length p ≤ n) where
+  abbrev room : List ℕ
+  room = replicate n 0
+
+  zero-behind : (k : ℕ) → length p ≤ k → k < n → getD (front p room) k 0 ≡ 0
+  zero-behind k f g =
+      let e : k ≡ length p + (k - length p) = omega arith in
+      ap (λ (j : ℕ). getD (front p room) j 0) e
+      ∙ getD-append-add p (drop (length p) room) (k - length p) 0
+      ∙ getD-drop (length p) room (k - length p) 0
+      ∙ getD-replicate n (length p + (k - length p)) 0 0 (omega arith)
+
+  front-padded : front p room ≡ padded n 0 p
+  front-padded =
+      sym (padded-take 0 (length p) n (front p room) (omega (arith, length-append p (drop (length p) room), length-drop (length p) room, length-replicate {A = ℕ} n 0)) zero-behind)
+      ∙ ap (padded n 0) (take-append-seam p (drop (length p) room))
+
+  pub put-padded : putAt room 0 p ≡ padded n 0 p
+  put-padded = put-front room p (omega (arith, length-replicate {A = ℕ} n 0)) ∙ front-padded

@@ -220,7 +220,7 @@ pub fn put(out: &mut [u8], at: usize, p: &[u8]) -> usize
 }
 
 // The byte, or its capital where it is a small letter.
-fn capital(b: u8) -> u8
+pub fn capital(b: u8) -> u8
     ensures { λ r. ⌜ r ≡ capitalOf b ⌝ }
 {
     if between(b, b'a', b'z') {

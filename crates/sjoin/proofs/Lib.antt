@@ -2,7 +2,6 @@
 pub mod Modes
 pub mod Parameters
 pub mod Limits
-pub mod Rooms
 pub mod Judged
 pub mod Joined
 pub mod Answers

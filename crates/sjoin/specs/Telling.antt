@@ -3,11 +3,19 @@
 use Prim.Native.Nat.{ℕ, suc}
 use mathlib.Core.Bool.{cond}
 use mathlib.Core.List.{List, [], _∷_, _++_}
+use mathlib.Core.Option.{some}
+use lib.ListN.{length}
+use lib.Dec.{ltb}
+use Rattle.refusal.specs.Numbers.{outputTooShort, noRoom}
+use Rattle.refusal.specs.Rules.{Rule, _when_}
 use Rattle.octets.specs.Bytes.{space}
 use Rattle.octets.specs.Decimals.{digitsOf}
 use Rattle.channel.specs.declared.Member.{Member}
 use Rattle.channel.specs.Modes.{letters, keyMode, limitMode, hasMode}
 use Rattle.channel.specs.Channel.{Channel}
+use Rattle.message.specs.Grammar.{lineLimit}
+use Rattle.message.specs.Content.{Content}
+use Rattle.writer.specs.Form.{written}
 use Rattle.sjoin.specs.Modes.{plus}
 use Rattle.sjoin.specs.Entries.{at}
 
@@ -33,9 +41,25 @@ unfoldable pub listText : List Member → List ℕ
 listText [] = []
 listText (m ∷ l) = entryOf m ++ following l
 
+-- what follows the command
 unfoldable pub paramsOf : Channel → List (List ℕ)
 paramsOf c =
     (digitsOf (c .time) ∷ c .name ∷ modesText (c .modes) ∷ [])
     ++ cond (hasMode (c .modes) keyMode) (c .key ∷ []) []
     ++ cond (hasMode (c .modes) limitMode) (digitsOf (c .limit) ∷ []) []
     ++ (listText (c .members) ∷ [])
+
+-- SJOIN
+abbrev pub sjoin : List ℕ
+sjoin = 83 ∷ 74 ∷ 79 ∷ 73 ∷ 78 ∷ []
+
+-- the message by which a server tells of a channel
+abbrev pub joinMessage : List ℕ → Channel → Content
+joinMessage sid c = record { prefix = some sid; command = sjoin; params = paramsOf c }
+
+-- ---- when it is written: the numbers 2 and 25
+unfoldable pub tellRules : List ℕ → Channel → List ℕ → List Rule
+tellRules sid c out =
+    outputTooShort when ltb (length out) lineLimit
+    ∷ noRoom when ltb lineLimit (length (written (joinMessage sid c)))
+    ∷ []

@@ -4,7 +4,6 @@ ghost use mathlib.Core.Bool.{true};
 ghost use Prim.Native.Nat.{_≤_};
 ghost use lib.ListN.{length};
 ghost use Rattle.octets.specs.Lists.{all};
-ghost use Rattle.names.specs.Names.{userIdLength};
 ghost use Rattle.channel.specs.Limits.{memberLimit};
 ghost use Rattle.channel.specs.Members.{roster};
 ghost use Rattle.message.specs.Words.{wordsOf};
@@ -16,8 +15,8 @@ use channel::Roster;
 use message::next_word;
 use names::USER_ID;
 use names::is_user_id;
+use names::user_id;
 use octets::part;
-use octets::put;
 
 // The bit of voice in a status.
 const VOICE: u8 = 1;
@@ -95,22 +94,12 @@ pub(crate) fn good_entries(list: &[u8]) -> bool
     all_entries(list)
 }
 
-// The bytes of an id, held whole.
-fn held_id(id: &[u8]) -> [u8; USER_ID]
-    requires { ⌜ length (now id) ≡ userIdLength ⌝ }
-    ensures { λ r. ⌜ r ≡ now (id .entry) ⌝ }
-{
-    let mut held = [0u8; USER_ID];
-    put(&mut held, 0, id);
-    held
-}
-
 // The member that an entry names.
 fn member_of(entry: &[u8]) -> Member
     requires { ⌜ isEntry (now entry) ≡ true ⌝ }
     ensures { λ r. ⌜ r ≡ memberOf (now (entry .entry)) ⌝ }
 {
-    let id = held_id(id_of(entry));
+    let id = user_id(id_of(entry));
     let status = status_of(entry);
     Member { id, status }
 }

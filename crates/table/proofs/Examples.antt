@@ -48,6 +48,6 @@ unfolding one many race emptyRecord encode decode padded goodTable all goodSlot 
 judged = refl
 
 -- #rACE is held; #b is new, and takes the second slot, or finds none
-found : slotFor one (35 ∷ 114 ∷ 65 ∷ 67 ∷ 69 ∷ []) ∷ slotFor one (35 ∷ 98 ∷ []) ∷ slotFor many (35 ∷ 98 ∷ []) ∷ [] ≡ Held 0 ∷ Free 1 ∷ Full ∷ []
+found : slotFor (one .slots) (35 ∷ 114 ∷ 65 ∷ 67 ∷ 69 ∷ []) ∷ slotFor (one .slots) (35 ∷ 98 ∷ []) ∷ slotFor (many .slots) (35 ∷ 98 ∷ []) ∷ [] ≡ Held 0 ∷ Free 1 ∷ Full ∷ []
 unfolding one many race emptyRecord encode decode padded slotFor freeSlot firstAt holds sameName sameBy fold within
 found = refl

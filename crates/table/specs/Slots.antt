@@ -4,7 +4,7 @@ use mathlib.Core.Bool.{Bool, cond}
 use mathlib.Core.List.{List, [], _∷_}
 use lib.ListN.{length}
 use lib.Dec.{ltb}
-use Rattle.table.specs.declared.Table.{Table}
+use Rattle.channel.specs.declared.Record.{Record}
 use Rattle.table.specs.declared.Slot.{Slot}
 use Rattle.table.specs.declared.Slot.the-variants.{Held, Free, Full}
 use Rattle.table.specs.Table.{isFree, holds}
@@ -15,9 +15,9 @@ firstAt p [] = 0
 firstAt p (x ∷ l) = cond (p x) 0 (suc (firstAt p l))
 
 -- the lowest free slot
-unfoldable pub freeSlot : Table → Slot
-freeSlot t = cond (ltb (firstAt isFree (t .slots)) (length (t .slots))) (Free (firstAt isFree (t .slots))) Full
+unfoldable pub freeSlot : List Record → Slot
+freeSlot slots = cond (ltb (firstAt isFree slots) (length slots)) (Free (firstAt isFree slots)) Full
 
 -- the slot that holds the name, else the lowest free one
-unfoldable pub slotFor : Table → List ℕ → Slot
-slotFor t name = cond (ltb (firstAt (holds name) (t .slots)) (length (t .slots))) (Held (firstAt (holds name) (t .slots))) (freeSlot t)
+unfoldable pub slotFor : List Record → List ℕ → Slot
+slotFor slots name = cond (ltb (firstAt (holds name) slots) (length slots)) (Held (firstAt (holds name) slots)) (freeSlot slots)

@@ -102,7 +102,7 @@ pub fn unregister(t: Table, link: u32) -> Registered
 
 // The slot that a name uses. Each used slot's folded name is compared byte by byte; the first that differs leaves for the next slot.
 pub fn find(t: Table, name: &[u8]) -> Slot
-    ensures { λ r. ⌜ r ≡ slotFor t (now (name .entry)) ⌝ }
+    ensures { λ r. ⌜ r ≡ slotFor (t .slots) (now (name .entry)) ⌝ }
 {
     'slots: for k in 0..Record::SLOTS {
         let r = t.slots[k];

@@ -66,7 +66,7 @@ pub(crate) fn are_distinct(t: Table) -> bool
 
 // The lowest free slot.
 pub(crate) fn lowest_free(t: Table) -> Slot
-    ensures { λ r. ⌜ r ≡ freeSlot t ⌝ }
+    ensures { λ r. ⌜ r ≡ freeSlot (t .slots) ⌝ }
 {
     for k in 0..Record::SLOTS {
         let r = t.slots[k];

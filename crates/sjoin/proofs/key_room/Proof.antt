@@ -2,7 +2,7 @@
 use mathlib.Core.Path.{_∙_}
 use borrow.Author.Needs.{needs}
 use Rattle.channel.specs.Limits.{keyLimit}
-use Rattle.sjoin.proofs.Rooms.{put-padded}
+use Rattle.octets.proofs.Room.{put-padded}
 use Rattle.sjoin.proofs.key_room.Statement.{statement}
 use Rattle.sjoin.proofs.key_room.Tie as tie
 

@@ -174,7 +174,7 @@ returns c =
     let l = c .before .loop in
     let same : sameName (c .before .before .before .part .result .now) (sought s) ≡ true = sym (l .inv .3) ∙ name-past _ (sought s) (l .i) (omega arith) (omega arith) in
     ap Held (l .inv .0)
-    ∙ held-found (table s) (sought s) (place s)
+    ∙ held-found (table s .slots) (sought s) (place s)
     (first-here (holds (sought s)) (table s .slots) (place s) none (within s) (s .before .slots .inv .1) (compared (c .before .before .before) ∙ same)) (within s)
 
 lowest-free-requires : tie.Need-lowest-free-requires Inv-loop μ-loop Inv-slots μ-slots
@@ -184,7 +184,7 @@ returns-2 : tie.Need-returns-2 Inv-loop μ-loop Inv-slots μ-slots
 returns-2 c =
     let a = c .before .before .before .before .args in
     let s = c .before .before .slots in
-    c .lowest-free .ensures ∙ sym (held-none (a .t1) (a .name .now) (first-end (holds (a .name .now)) (a .t1 .slots) (s .k) (omega (arith, sixteen (c .before .before .before .before))) (s .inv .1)))
+    c .lowest-free .ensures ∙ sym (held-none (a .t1 .slots) (a .name .now) (first-end (holds (a .name .now)) (a .t1 .slots) (s .k) (omega (arith, sixteen (c .before .before .before .before))) (s .inv .1)))
 
 pub find-spec : {M : Type 1} → statement M
 find-spec =

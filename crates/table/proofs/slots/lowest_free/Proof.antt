@@ -12,7 +12,6 @@ use Rattle.table.specs.Slots.{firstAt}
 use Rattle.table.proofs.First.{first-here, first-next, first-end}
 use Rattle.table.proofs.Searching.{free-found, free-full}
 use Rattle.table.proofs.slots.lowest_free.Statement.{statement}
-use Rattle.table.proofs.Searching.{free-found, free-full}
 use Rattle.table.proofs.slots.lowest_free.Tie as tie
 
 abbrev Inv-loop : tie.InvT-loop
@@ -39,7 +38,7 @@ returns c =
     let t = c .before .before .before .before .before .args .t1 in
     let l = c .before .before .before .before .loop in
     let h : l .k < length (t .slots) = omega (arith, sixteen (c .before .before .before .before .before)) in
-    free-found t (l .k) (first-here isFree (t .slots) (l .k) _ h (l .inv .1) (eq-eqb _ 0 (c .if1 .taken))) h
+    free-found (t .slots) (l .k) (first-here isFree (t .slots) (l .k) _ h (l .inv .1) (eq-eqb _ 0 (c .if1 .taken))) h
 
 add-k : tie.Need-add-k Inv-loop μ-loop
 add-k c = search needs
@@ -57,7 +56,7 @@ returns-2 : tie.Need-returns-2 Inv-loop μ-loop
 returns-2 c =
     let t = c .before .before .args .t1 in
     let l = c .before .loop in
-    free-full t (first-end isFree (t .slots) (l .k) (omega (arith, sixteen (c .before .before))) (l .inv .1))
+    free-full (t .slots) (first-end isFree (t .slots) (l .k) (omega (arith, sixteen (c .before .before))) (l .inv .1))
 
 pub lowest-free-spec : {M : Type 1} → statement M
 lowest-free-spec =
