@@ -9,5 +9,6 @@ pub mod Bitwise
 pub mod Digits
 pub mod Ascends
 pub mod Contents
+pub mod Mapped
 pub mod Room
 pub mod Examples

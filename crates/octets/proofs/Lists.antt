@@ -137,6 +137,12 @@ module _ {A : Type 0} (t : A → A → Bool) where
   sameBy-true f (x ∷ l) [] e = absurd (true≢false (sym e))
   sameBy-true f (x ∷ l) (y ∷ m) e = rw (f x y (and-left (t x y) (sameBy t l m) e), sameBy-true f l m (and-right (t x y) (sameBy t l m) e))
 
+-- ---- the first of a mapped list
+pub take-map : {A B : Type 0} (f : A → B) (n : ℕ) (l : List A) → take n (map f l) ≡ map f (take n l)
+take-map f zero l = refl
+take-map f (suc n) [] = refl
+take-map f (suc n) (x ∷ l) = ap (λ m. f x ∷ m) (take-map f n l)
+
 -- ---- padding
 module _ {A : Type 0} (x : A) where
   take-replicate : (n m : ℕ) → n ≤ m → take n (replicate m x) ≡ replicate n x

@@ -2,7 +2,7 @@
 use mathlib.Core.Path.{_≡_, refl, sym, _∙_}
 use mathlib.Core.Bool.{Bool, true, false, true≢false, cond}
 use mathlib.Core.Logic.{_⊎_, inl, inr}
-use mathlib.Core.List.{List, [], _∷_, List·Memᴰ, List·Memᴰ·cases-cons, List·Memᴰ·not-nil}
+use mathlib.Core.List.{List, [], _∷_, _++_, List·Memᴰ, List·Memᴰ·cases-cons, List·Memᴰ·not-nil}
 use Prim.Native.Nat.{ℕ, _≤_, _<_}
 use native.Mathlib.Omega.{arith}
 use lib.Dec.{ltb}
@@ -19,6 +19,39 @@ first-none r rs ne e = go (r .applies) refl
     go true h = absurd (ne (rw h at e))
     go false h = (h, rw h at e)
 
+-- ---- a list whose numbers ascend
+above : (n : ℕ) (r : Rule) (rs : List Rule) → ascendFrom n (r ∷ rs) ≡ true → (n < r .number) × (ascendFrom (r .number) rs ≡ true)
+unfolding ascendFrom
+above n r rs e = go (ltb n (r .number)) refl
+  where
+    go : (t : Bool) → ltb n (r .number) ≡ t → (n < r .number) × (ascendFrom (r .number) rs ≡ true)
+    go true h = (ltb-true n (r .number) h, rw h at e)
+    go false h = absurd (true≢false (sym e ∙ rw h))
+
+-- ---- two lists of rules, one after the other
+module _ (ys : List Rule) where
+  -- a number of the first list decides
+  pub append-some : (xs : List Rule) → (firstOf xs ≡ accepted → ⊥) → firstOf (xs ++ ys) ≡ firstOf xs
+  unfolding firstOf
+  append-some [] ne = absurd (ne refl)
+  append-some (x ∷ xs) ne = go (x .applies) refl (append-some xs)
+    where
+      go : (t : Bool) → x .applies ≡ t → ((firstOf xs ≡ accepted → ⊥) → firstOf (xs ++ ys) ≡ firstOf xs) → firstOf (x ∷ xs ++ ys) ≡ firstOf (x ∷ xs)
+      go true e ih = rw e
+      go false e ih = rw e (ih (λ f. ne (rw e f)))
+
+  append-none-from : (n : ℕ) (xs : List Rule) → ascendFrom n xs ≡ true → firstOf xs ≡ accepted → firstOf (xs ++ ys) ≡ firstOf ys
+  unfolding firstOf
+  append-none-from n [] a e = refl
+  append-none-from n (x ∷ xs) a e =
+      let h = above n x xs a in
+      let q = first-none x xs (λ z. omega (arith, h .0, z)) e in
+      rw (q .0) (append-none-from (x .number) xs (h .1) (q .1))
+
+  -- where none of the first list applies, the second decides
+  pub append-none : (xs : List Rule) → ascend xs ≡ true → firstOf xs ≡ accepted → firstOf (xs ++ ys) ≡ firstOf ys
+  append-none = append-none-from accepted
+
 -- ---- what is written
 pub emitted-none : (rules : List Rule) (w : List ℕ) (k : ℕ) → firstOf rules ≡ k → (k ≡ accepted → ⊥) → emitted rules w ≡ []
 unfolding emitted
@@ -29,14 +62,6 @@ unfolding emitted
 emitted-all rules w e = rw e
 
 -- ---- the lowest number that applies
-above : (n : ℕ) (r : Rule) (rs : List Rule) → ascendFrom n (r ∷ rs) ≡ true → (n < r .number) × (ascendFrom (r .number) rs ≡ true)
-unfolding ascendFrom
-above n r rs e = go (ltb n (r .number)) refl
-  where
-    go : (t : Bool) → ltb n (r .number) ≡ t → (n < r .number) × (ascendFrom (r .number) rs ≡ true)
-    go true h = (ltb-true n (r .number) h, rw h at e)
-    go false h = absurd (true≢false (sym e ∙ rw h))
-
 member-above : (n : ℕ) (rs : List Rule) → ascendFrom n rs ≡ true → (r : Rule) → List·Memᴰ r rs → n < r .number
 member-above n [] a r m = absurd (List·Memᴰ·not-nil m)
 member-above n (x ∷ rs) a r m =

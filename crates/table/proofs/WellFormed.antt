@@ -60,13 +60,18 @@ empty-good = and-intro _ _ (all-replicate goodSlot emptyRecord slotCount (good-f
 
 -- ---- at most one slot holds a name
 module _ (name : List ℕ) where
-  holding-used : (r : Record) → holds name r ≡ true → isFree r ≡ false
+  pub holding-used : (r : Record) → holds name r ≡ true → isFree r ≡ false
   unfolding holds
   holding-used r e = not-true (isFree r) (and-left (not (isFree r)) (sameName (decode r .name) name) e)
 
-  holding-name : (r : Record) → holds name r ≡ true → sameName (decode r .name) name ≡ true
+  pub holding-name : (r : Record) → holds name r ≡ true → sameName (decode r .name) name ≡ true
   unfolding holds
   holding-name r e = and-right (not (isFree r)) (sameName (decode r .name) name) e
+
+  -- a slot that is good holds a well-formed record then
+  pub holding-well : (r : Record) → goodSlot r ≡ true → holds name r ≡ true → wellFormed r ≡ true
+  unfolding goodSlot
+  holding-well r g e = rw (holding-used r e) at g
 
   holding-alike : (r s : Record) → holds name r ≡ true → holds name s ≡ true → alike r s ≡ true
   unfolding alike holds
