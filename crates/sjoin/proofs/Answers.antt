@@ -1,7 +1,7 @@
 -- The answer to a line: what `record_of` puts together is the record of its channel, and each answer is the number and the record that the rules give.
 -- Assumes nothing.
 use Prim.Native.Nat.{ℕ, _+_, _≤_}
-use mathlib.Core.Path.{_≡_, refl, ap, _∙_}
+use mathlib.Core.Path.{_≡_, refl, sym, ap, _∙_}
 use mathlib.Core.Bool.{true, false}
 use mathlib.Core.List.{List, []}
 use native.Mathlib.Omega.{arith}
@@ -83,3 +83,11 @@ module _ (line : List ℕ) where
     pub told-record : (r : Record) → firstOf (joinRules (contentOf line)) ≡ accepted → r ≡ encode (channelIn (contentOf line)) → _≡_ {A = Told} (record { number = accepted; «record» = r }) (toldBy line)
     unfolding toldBy joinNumber
     told-record r e f = rw (h, e, f)
+
+    -- and what it says
+    pub told-number : toldBy line .number ≡ firstOf (joinRules (contentOf line))
+    unfolding toldBy joinNumber
+    told-number = rw h
+
+    pub told-says : toldBy line .number ≡ accepted → toldBy line .«record» ≡ encode (channelIn (contentOf line))
+    told-says a = sym (ap (λ (t : Told). t .«record») (told-record _ (sym told-number ∙ a) refl))

@@ -172,7 +172,7 @@ module _ (c : Content) (none : firstOf (joinRules c) ≡ accepted) (small : leng
   unfolding goodEntries
   words-some = not-true _ (and-left (not (isNil (wordsOf (listIn c)))) _ (good .list))
 
-  pub told-proper : Proper (channelIn c)
+  told-proper : Proper (channelIn c)
   unfolding channelIn argumentOf modesByte placeAmong all
   told-proper =
       let s = lettersOf (modesIn c) in
@@ -194,15 +194,15 @@ module _ (c : Content) (none : firstOf (joinRules c) ≡ accepted) (small : leng
         ascending = ascending-unite byId keyed-byId [] n tt;
       }
 
-  pub told-well : wellFormed (encode (channelIn c)) ≡ true
-  told-well = encode-well (channelIn c) told-proper
-
 -- ---- of a line
-pub read-well : (line : List ℕ) → isRead line ≡ true → firstOf (joinRules (contentOf line)) ≡ accepted → wellFormed (encode (channelIn (contentOf line))) ≡ true
-read-well line h none =
+pub read-proper : (line : List ℕ) → isRead line ≡ true → firstOf (joinRules (contentOf line)) ≡ accepted → Proper (channelIn (contentOf line))
+read-proper line h none =
     let n = length (contentOf line .params) in
     let e : n ≡ n - 1 + 1 = omega (arith, bounds (contentOf line) none .0) in
-    told-well (contentOf line) none (list-small line (n - 1) e none (read-small line h))
+    told-proper (contentOf line) none (list-small line (n - 1) e none (read-small line h))
+
+pub read-well : (line : List ℕ) → isRead line ≡ true → firstOf (joinRules (contentOf line)) ≡ accepted → wellFormed (encode (channelIn (contentOf line))) ≡ true
+read-well line h none = encode-well (channelIn (contentOf line)) (read-proper line h none)
 
 pub line-well : (line : List ℕ) → joinNumber line ≡ accepted → wellFormed (toldBy line .«record») ≡ true
 unfolding toldBy joinNumber

@@ -58,6 +58,16 @@ pub empty-good : goodTable emptyTable ≡ true
 unfolding goodTable emptyTable
 empty-good = and-intro _ _ (all-replicate goodSlot emptyRecord slotCount (good-free emptyRecord empty-free ∙ empty-blank)) (free-distinct emptyRecord slotCount empty-free)
 
+-- ---- the slots of a well-formed table
+module _ (t : Table) (g : goodTable t ≡ true) where
+  pub slots-good : all goodSlot (t .slots) ≡ true
+  unfolding goodTable
+  slots-good = and-left (all goodSlot (t .slots)) (distinct (t .slots)) g
+
+  pub slots-distinct : distinct (t .slots) ≡ true
+  unfolding goodTable
+  slots-distinct = and-right (all goodSlot (t .slots)) (distinct (t .slots)) g
+
 -- ---- at most one slot holds a name
 module _ (name : List ℕ) where
   pub holding-used : (r : Record) → holds name r ≡ true → isFree r ≡ false
@@ -89,11 +99,10 @@ module _ (name : List ℕ) where
 
   pub held-once : (t : Table) → goodTable t ≡ true → (d : Record) (i j : ℕ) → i < length (t .slots) → j < length (t .slots)
       → holds name (getD (t .slots) i d) ≡ true → holds name (getD (t .slots) j d) ≡ true → i ≡ j
-  unfolding goodTable
   held-once t g d i j h k e f = go (ltb i j) refl (ltb j i) refl
     where
       q : distinct (t .slots) ≡ true
-      q = and-right (all goodSlot (t .slots)) (distinct (t .slots)) g
+      q = slots-distinct t g
 
       go : (a : Bool) → ltb i j ≡ a → (b : Bool) → ltb j i ≡ b → i ≡ j
       go true x b y = absurd (two-hold (t .slots) d i j q (ltb-true i j x) k e f)
