@@ -88,6 +88,10 @@ added line at next r p e f = rw (e, f) (put-adds line at p)
 pub adds-nothing : (line : List ℕ) (at : ℕ) → Adds line at line at []
 adds-nothing line at = record { keeps = refl; adds = λ w h. rw (append-nil w) h }
 
+-- a part that is longer than the line has no room, whatever is held
+pub adds-over : (line : List ℕ) (at r : ℕ) (p : List ℕ) → length line < length p → r ≡ suc (length line) → Adds line at line r p
+adds-over line at r p h e = record { keeps = refl; adds = λ w g. record { counts = omega (arith, length-append w p); begins = λ q. absurd (omega arith) } }
+
 -- what is added first and then
 pub adds-then : (line next last : List ℕ) (at r s : ℕ) (p q : List ℕ) → Adds line at next r p → Adds next r last s q → Adds line at last s (p ++ q)
 adds-then line next last at r s p q f g = record {

@@ -11,4 +11,6 @@ pub mod Entered
 pub mod Spaced
 pub mod Lettered
 pub mod Back
+pub mod Pieces
+pub mod Tellings
 pub mod Examples

@@ -3,3 +3,4 @@ pub mod Entries
 pub mod Join
 pub mod Telling
 pub mod Scan
+pub mod Pieces

@@ -3,21 +3,26 @@
 mod arguments;
 mod entries;
 mod letters;
+mod telling;
 
 ghost use mathlib.Core.Path.{_≡_};
 ghost use mathlib.Core.Bool.{true};
 ghost use Prim.Native.Nat.{_+_, _≤_};
 ghost use lib.ListN.{length};
 ghost use Rattle.refusal.specs.Numbers.{accepted};
-ghost use Rattle.refusal.specs.Rules.{firstOf};
+ghost use Rattle.refusal.specs.Rules.{firstOf, emitted};
 ghost use Rattle.octets.specs.Lists.{padded};
+ghost use Rattle.octets.specs.Room.{front};
 ghost use Rattle.octets.specs.Decimals.{valueOf};
 ghost use Rattle.names.specs.Names.{nameLimit};
 ghost use Rattle.channel.specs.Limits.{keyLimit};
-ghost use Rattle.channel.specs.Record.{encode};
+ghost use Rattle.channel.specs.Record.{encode, decode};
 ghost use Rattle.message.specs.Grammar.{lineLimit};
 ghost use Rattle.message.specs.Reading.{contentOf};
+ghost use Rattle.writer.specs.Form.{written};
+ghost use Rattle.writer.specs.Writing.{answerFor};
 ghost use Rattle.sjoin.specs.Join.{timeIn, goodTime, joinRules, channelIn, refusedBy, toldBy};
+ghost use Rattle.sjoin.specs.Telling.{joinMessage, tellRules};
 use arguments::MODES_AT;
 use arguments::argument;
 use arguments::good_arguments;
@@ -28,6 +33,7 @@ use entries::named;
 use letters::good_letters;
 use letters::limit_in;
 use letters::modes_byte;
+use message::LINE_LIMIT;
 use message::Reading;
 use message::param;
 use message::prefix;
@@ -43,8 +49,12 @@ use refusal::BAD_MODES;
 use refusal::BAD_NAME;
 use refusal::BAD_SOURCE;
 use refusal::BAD_TIME;
+use refusal::NO_ROOM;
+use refusal::OUTPUT_TOO_SHORT;
 use refusal::WRONG_PARAM_COUNT;
 use refusal::ZERO_TIME;
+use telling::put_join;
+use writer::Written;
 
 // The fewest parameters of a line.
 const FEWEST: usize = 4;
@@ -184,5 +194,31 @@ pub fn read_join(line: &[u8]) -> Told
     Told {
         number: ACCEPTED,
         record,
+    }
+}
+
+// Writes the SJOIN by which a server tells of a record, to the front of the output.
+pub fn write_join(source: &[u8], r: Record, out: &mut [u8]) -> Written
+    ensures answer { λ w. ⌜ w ≡ answerFor (tellRules (now (source .entry)) (decode r) (now (out .entry))) (written (joinMessage (now (source .entry)) (decode r))) ⌝ }
+    ensures output { λ _. ⌜ now (out .exit) ≡ front (emitted (tellRules (now (source .entry)) (decode r) (now (out .entry))) (written (joinMessage (now (source .entry)) (decode r)))) (now (out .entry)) ⌝ }
+{
+    if out.len() < LINE_LIMIT {
+        return Written {
+            number: OUTPUT_TOO_SHORT,
+            len: 0,
+        };
+    }
+    let mut line = [0u8; LINE_LIMIT];
+    let len = put_join(source, r, &mut line);
+    if LINE_LIMIT < len {
+        return Written {
+            number: NO_ROOM,
+            len: 0,
+        };
+    }
+    put(out, 0, &line[..len]);
+    Written {
+        number: ACCEPTED,
+        len,
     }
 }

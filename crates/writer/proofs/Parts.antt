@@ -1,7 +1,8 @@
 -- Laws of what the writer's functions test and put, parameter by parameter: each return is one of them. Assumes nothing.
 use mathlib.Core.Path.{_≡_, refl, sym, ap, _∙_}
-use mathlib.Core.Bool.{Bool, true, false, not, _&&_, _||_}
-use mathlib.Core.List.{List, [], _∷_, _++_, map}
+use mathlib.Core.Bool.{Bool, true, false, not, cond, _&&_, _||_}
+use mathlib.Core.List.{List, [], _∷_, _++_, map, append-nil, append-assoc}
+use mathlib.Core.Option.{some}
 use Prim.Native.Nat.{ℕ, _+_, _-_, _≤_, _<_}
 use native.Mathlib.Omega.{arith}
 use lib.ListN.{length, take, drop, getD, length-take, length-drop}
@@ -15,7 +16,8 @@ use Rattle.message.specs.declared.Span.{Span}
 use Rattle.message.specs.declared.Message.{Message}
 use Rattle.message.specs.Grammar.{isMiddle}
 use Rattle.message.specs.Parts.{span, bytesAt}
-use Rattle.writer.specs.Form.{takesColon, writtenParam, writtenParams, liesIn}
+use Rattle.message.specs.Reading.{crlf}
+use Rattle.writer.specs.Form.{takesColon, writtenParam, writtenParams, writtenPrefix, writtenBody, written, liesIn}
 use Rattle.writer.specs.Fit.{goodPrefix, fitPrefix, fitParam, fitParams}
 
 -- ---- a middle, by its first byte
@@ -96,3 +98,25 @@ module _ (ps : List Span) (n k : ℕ) (few : n ≤ length ps) (lt : k < n) where
         ≡ (space ∷ writtenParam k (eqb (k + 1) n) (bytesAt text (getD ps k (span 0 0)))) ++ writtenParams (k + 1) (map (bytesAt text) (drop (k + 1) (take n ps)))
     unfolding writtenParams
     written-step = rw (spans-step, ← last-is, ← nil-map (bytesAt text) (drop (k + 1) (take n ps)))
+
+-- ---- the written form, part by part
+pub colon-then : (k : ℕ) (last : Bool) (p : List ℕ) → cond (takesColon k last p) (colon ∷ []) [] ++ p ≡ writtenParam k last p
+unfolding writtenParam
+colon-then k last p = go (takesColon k last p)
+  where
+    go : (t : Bool) → cond t (colon ∷ []) [] ++ p ≡ cond t (colon ∷ p) p
+    go true = refl
+    go false = refl
+
+-- a parameter before another has no ':'
+pub written-before : (k : ℕ) (p q : List ℕ) (ps : List (List ℕ)) → writtenParams k (p ∷ q ∷ ps) ≡ (space ∷ p) ++ writtenParams (k + 1) (q ∷ ps)
+unfolding writtenParams writtenParam takesColon
+written-before k p q ps = refl
+
+pub written-last : (k : ℕ) (p : List ℕ) → writtenParams k (p ∷ []) ≡ space ∷ writtenParam k true p
+unfolding writtenParams
+written-last k p = append-nil (space ∷ writtenParam k true p)
+
+pub written-sourced : (p c : List ℕ) (ps : List (List ℕ)) → written (record { prefix = some p; command = c; params = ps }) ≡ (colon ∷ p) ++ (space ∷ c) ++ writtenParams 0 ps ++ crlf
+unfolding written writtenBody writtenPrefix
+written-sourced p c ps = ap (λ (l : List ℕ). l ++ writtenParams 0 ps ++ crlf) (append-assoc (colon ∷ p) (space ∷ []) c)

@@ -17,7 +17,7 @@ use octets::part;
 use octets::put;
 
 // Whether parameter k is written with ':' before it.
-fn takes_colon(p: &[u8], k: usize, last: bool) -> bool
+pub fn takes_colon(p: &[u8], k: usize, last: bool) -> bool
     ensures { λ r. ⌜ r ≡ takesColon k last (now (p .entry)) ⌝ }
 {
     if last {

@@ -2,7 +2,7 @@
 // it is empty, starts with ':' or holds a SPACE, CR LF at the end. A line is put together apart, and goes to the front of the lent output
 // only if nothing refuses it.
 mod fit;
-mod form;
+pub mod form;
 
 ghost use mathlib.Core.Path.{_≡_};
 ghost use Rattle.refusal.specs.Rules.{emitted};
