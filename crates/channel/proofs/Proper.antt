@@ -26,7 +26,7 @@ use Rattle.channel.specs.WellFormed.{bothStatuses, goodTime, goodModes, 
 use Rattle.channel.specs.Merging.{stands, given, bare, standing, merge}
 use Rattle.channel.proofs.Keys.{key-length, greater-is, greater-nil}
 use Rattle.channel.proofs.Letters.{has-no-mode, has-either}
-use Rattle.channel.proofs.Sides.{length-standing, ascending-merge}
+use Rattle.channel.proofs.Sides.{length-standing, ascending-standing, ascending-merge}
 use Rattle.channel.proofs.Records.{Fits, Sized, decode-encode, encode-decode, encode-room, encode-clear}
 
 -- A channel as document 01 has it. No key is the empty list, no limit is 0.
@@ -147,6 +147,33 @@ module _ (time : ℕ) (c : Channel) (p : Proper c) where
 
   given-limited : hasMode (given 0 (λ d. d .modes) time c) limitMode ≡ ltb 0 (given 0 (λ d. d .limit) time c)
   given-limited = elim (stands time c) as (λ t. hasMode (cond t (c .modes) 0) limitMode ≡ ltb 0 (cond t (c .limit) 0)) [ true ↦ p .limited | false ↦ has-no-mode limitMode ]
+
+-- so what a side gives at a time, under a name, is a channel too
+abbrev pub sided : List ℕ → ℕ → Channel → Channel
+sided name time c = record {
+  name = name;
+  time = time;
+  modes = given 0 (λ d. d .modes) time c;
+  key = given [] (λ d. d .key) time c;
+  limit = given 0 (λ d. d .limit) time c;
+  members = standing time c;
+}
+
+pub proper-sided : (name : List ℕ) (time : ℕ) (c : Channel) → isChannel name ≡ true → 1 ≤ time → time ≤ timeLimit → Proper c → Proper (sided name time c)
+proper-sided name time c n h k p = record {
+  name = n;
+  from = h;
+  until = k;
+  modes = given-modes time c p;
+  keyed = given-keyed time c p;
+  key = given-key time c p;
+  limited = given-limited time c p;
+  limit = given-limit time c p;
+  some = omega (arith, length-standing time c, p .some);
+  few = omega (arith, length-standing time c, p .few);
+  listed = listed-standing time c p;
+  ascending = ascending-standing time c (p .ascending);
+}
 
 -- ---- what two sides give together
 pub both-statuses : (e d : Member) → goodMember e ≡ true → goodMember d ≡ true → goodMember (member (d .id) (bitOr (e .status) (d .status))) ≡ true

@@ -114,6 +114,20 @@ well-with r l h p =
       holds = rw (decode-with r l (p .few)) p;
     })
 
+-- one that holds nobody is the empty one then
+pub without-free : (id : List ℕ) (r : Record) → r .count ≡ 0 → without id r ≡ emptyRecord
+unfolding without decode others
+without-free id r e = rw e
+
+-- any other keeps its name, or is emptied
+pub without-name : (id : List ℕ) (r : Record) → (without id r ≡ emptyRecord) ⊎ (decode (without id r) .name ≡ decode r .name)
+unfolding without withMembers decode
+without-name id r = go (isNil (others id (decode r .members))) refl
+  where
+    go : (t : Bool) → isNil (others id (decode r .members)) ≡ t → (without id r ≡ emptyRecord) ⊎ (decode (without id r) .name ≡ decode r .name)
+    go true e = inl (rw e)
+    go false e = inr (rw e)
+
 module _ (id : List ℕ) (r : Record) (h : wellFormed r ≡ true) where
   abbrev rest : List Member
   rest = others id (decode r .members)

@@ -6,3 +6,4 @@ pub mod Gathered
 pub mod Readings
 pub mod Examples
 pub mod Splits
+pub mod Sizes

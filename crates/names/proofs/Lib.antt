@@ -1,4 +1,5 @@
 -- Laws that the crates above cite, and examples.
 pub mod Folds
 pub mod Channels
+pub mod Ids
 pub mod Examples

@@ -11,4 +11,8 @@ pub mod Ascends
 pub mod Contents
 pub mod Mapped
 pub mod Room
+pub mod Clean
+pub mod Fewer
+pub mod Weights
+pub mod Replaced
 pub mod Examples

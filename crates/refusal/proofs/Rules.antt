@@ -52,6 +52,19 @@ module _ (ys : List Rule) where
   pub append-none : (xs : List Rule) → ascend xs ≡ true → firstOf xs ≡ accepted → firstOf (xs ++ ys) ≡ firstOf ys
   append-none = append-none-from accepted
 
+  both-none-from : (n : ℕ) (xs : List Rule) → ascendFrom n xs ≡ true → firstOf (xs ++ ys) ≡ accepted → (firstOf xs ≡ accepted) × (firstOf ys ≡ accepted)
+  unfolding firstOf
+  both-none-from n [] a e = (refl, e)
+  both-none-from n (x ∷ xs) a e =
+      let h = above n x xs a in
+      let q = first-none x (xs ++ ys) (λ z. omega (arith, h .0, z)) e in
+      let r = both-none-from (x .number) xs (h .1) (q .1) in
+      (rw (q .0) (r .0), r .1)
+
+  -- where none of both applies, none of either does
+  pub both-none : (xs : List Rule) → ascend xs ≡ true → firstOf (xs ++ ys) ≡ accepted → (firstOf xs ≡ accepted) × (firstOf ys ≡ accepted)
+  both-none = both-none-from accepted
+
 -- ---- what is written
 pub emitted-none : (rules : List Rule) (w : List ℕ) (k : ℕ) → firstOf rules ≡ k → (k ≡ accepted → ⊥) → emitted rules w ≡ []
 unfolding emitted

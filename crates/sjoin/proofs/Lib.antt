@@ -13,4 +13,7 @@ pub mod Lettered
 pub mod Back
 pub mod Pieces
 pub mod Tellings
+pub mod Writable
+pub mod Shorter
+pub mod Retold
 pub mod Examples

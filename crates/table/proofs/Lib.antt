@@ -3,5 +3,7 @@ pub mod Registering
 pub mod First
 pub mod Searching
 pub mod WellFormed
+pub mod Using
+pub mod Changing
 mod Pairs
 pub mod Examples

@@ -78,11 +78,6 @@ module _ (name : List ℕ) where
   unfolding holds
   holding-name r e = and-right (not (isFree r)) (sameName (decode r .name) name) e
 
-  -- a slot that is good holds a well-formed record then
-  pub holding-well : (r : Record) → goodSlot r ≡ true → holds name r ≡ true → wellFormed r ≡ true
-  unfolding goodSlot
-  holding-well r g e = rw (holding-used r e) at g
-
   holding-alike : (r s : Record) → holds name r ≡ true → holds name s ≡ true → alike r s ≡ true
   unfolding alike holds
   holding-alike r s e f =

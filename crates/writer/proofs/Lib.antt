@@ -5,5 +5,6 @@ pub mod Trips
 pub mod Fitting
 pub mod Lengths
 pub mod Rounds
+pub mod Shorter
 pub mod Answers
 pub mod Examples

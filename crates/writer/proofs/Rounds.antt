@@ -52,7 +52,7 @@ unfolding forwardRules firstOf numberFor
 forward-number line out room = rw (le-ltb (length out) lineLimit room)
 
 -- ---- the written form of a good message
-good-line : (d : Content) → good d ≡ true → length (written d) ≤ lineLimit → (isRead (written d) ≡ true) × (contentOf (written d) ≡ d)
+pub good-line : (d : Content) → good d ≡ true → length (written d) ≤ lineLimit → (isRead (written d) ≡ true) × (contentOf (written d) ≡ d)
 unfolding isRead numberFor lineRules firstOf
 good-line d ok h =
     let r = good-form d ok in
@@ -140,7 +140,7 @@ module _ (line : List ℕ) (h : isRead line ≡ true) where
   content-good = rw (read-content line h) (formed-good line (read-formed line h))
 
   -- the fixed form is no longer than the line
-  content-short : length (written (contentOf line)) ≤ length line
+  pub content-short : length (written (contentOf line)) ≤ length line
   unfolding written
   content-short =
       let f : Formed line = read-formed line h in

@@ -1,0 +1,61 @@
+-- The answer to a line, and what is written, by whether a rule refuses it. Assumes nothing.
+use mathlib.Core.Path.{_≡_, sym, ap, _∙_}
+use mathlib.Core.Bool.{true}
+use mathlib.Core.List.{List, []}
+use Prim.Native.Nat.{ℕ, _≤_}
+use native.Mathlib.Omega.{arith}
+use lib.ListN.{length}
+use borrow.Author.Tests.{ne-eqb, not-false, ltb-false}
+use Rattle.refusal.specs.Numbers.{accepted}
+use Rattle.refusal.specs.Rules.{firstOf, emitted}
+use Rattle.refusal.proofs.Rules.{first-none, emitted-none, emitted-all}
+use Rattle.message.specs.Grammar.{lineLimit}
+use Rattle.message.specs.Reading.{contentOf}
+use Rattle.links.specs.Links.{relaySet, linksIn}
+use Rattle.table.specs.declared.Table.{Table}
+use Rattle.table.specs.Table.{goodTable}
+use Rattle.table.proofs.WellFormed.{slots-good}
+use Rattle.relay.specs.declared.Change.{Change}
+use Rattle.relay.specs.declared.Taken.{Taken}
+use Rattle.relay.specs.Relay.{commandIn, takenRules, processRules, slotsBy, relayed, withSlots, refused, processAnswer, sent}
+use Rattle.relay.specs.Private.{Changes, slotsWith, sendRules, sendLine}
+use Rattle.relay.proofs.Enacted.{enacted-slots, enacted-line, enacted-rules}
+
+module _ (t : Table) (link : ℕ) (line : List ℕ) (n : ℕ) where
+  -- ---- a rule refuses it
+  module _ (k : ℕ) (e : firstOf (processRules t link line n) ≡ k) (ne : k ≡ accepted → ⊥) where
+    pub answer-refused : refused t k ≡ processAnswer t link line n
+    unfolding processAnswer
+    answer-refused = rw (e, ne-eqb k accepted ne)
+
+    pub sent-nothing : sent t link line n ≡ []
+    unfolding sent
+    sent-nothing = emitted-none (processRules t link line n) _ k e ne
+
+  -- ---- no rule does
+  module _ (none : firstOf (processRules t link line n) ≡ accepted) where
+    passed : (goodTable t ≡ true) × (lineLimit ≤ n) × (firstOf (takenRules (t .slots) line) ≡ accepted)
+    unfolding processRules
+    passed =
+        let a = first-none _ _ (λ z. omega arith) none in
+        let b = first-none _ _ (λ z. omega arith) (a .1) in
+        let c = first-none _ _ (λ z. omega arith) (b .1) in
+        (not-false _ (a .0), ltb-false n lineLimit (b .0), c .1)
+
+    pub sent-line : sent t link line n ≡ relayed (t .slots) line
+    unfolding sent
+    sent-line = emitted-all (processRules t link line n) _ none
+
+    module _ (j : Change) (q : Changes (commandIn line) (t .slots) (contentOf line) j) where
+      pub answer-taken : (number set count len : ℕ) (table : Table) → number ≡ accepted → table ≡ withSlots t (slotsWith (j .command) j (t .slots)) → set ≡ relaySet (t .links) link
+          → count ≡ length (linksIn set) → len ≡ length (relayed (t .slots) line)
+          → _≡_ {A = Taken} (record { number = number; table = table; set = set; count = count; len = len }) (processAnswer t link line n)
+      unfolding processAnswer
+      answer-taken number set count len table a b c d e =
+          rw (none, a, b ∙ ap (withSlots t) (enacted-slots (t .slots) line (slots-good t (passed .0)) (passed .2) j q), d, c, e)
+
+      -- the line that is written is the one that goes out
+      pub written-line : (out : List ℕ) → length out ≡ n → emitted (sendRules (j .command) j line out) (sendLine (j .command) j line) ≡ relayed (t .slots) line
+      written-line out h =
+          emitted-all (sendRules (j .command) j line out) _ (enacted-rules (t .slots) line (slots-good t (passed .0)) (passed .2) j out (omega (arith, h, passed .1)) q)
+          ∙ enacted-line (t .slots) line (slots-good t (passed .0)) (passed .2) j q

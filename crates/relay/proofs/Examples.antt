@@ -1,0 +1,157 @@
+-- Document 01's whole case: an SJOIN with a later time for `#Race`, from link 3 of 0, 3 and 5; and a PART and a QUIT of its member. What each comes to as computed
+-- from the definitions, and so witnesses for the premises of the theorems about taking a line, and what these say. Assumes nothing.
+use Prim.Native.Nat.{ℕ, _≤_, _-_}
+use mathlib.Core.Path.{_≡_, refl, ap}
+use mathlib.Core.Bool.{true, false, _&&_}
+use mathlib.Core.List.{List, [], _∷_}
+use native.Mathlib.Omega.{arith}
+use lib.ListN.{length, replicate}
+use lib.Dec.{ltb}
+use Rattle.refusal.specs.Numbers.{accepted}
+use Rattle.refusal.specs.Rules.{firstOf}
+use Rattle.octets.proofs.Bools.{and-left}
+use Rattle.octets.specs.Bytes.{within, isPlain, isLetter, isDigit, isIdByte, isNameByte, isKeyByte, capital}
+use Rattle.octets.specs.Lists.{all, sameBy, padded, startsWith}
+use Rattle.octets.specs.Order.{compare}
+use Rattle.octets.specs.Bits.{hasBit}
+use Rattle.octets.specs.Ascending.{insert, put, unite, ascends}
+use Rattle.octets.specs.Decimals.{leadsWithZero, isDecimal, valueFrom, digitsUpTo, digitsOf}
+use Rattle.names.specs.Fold.{fold, sameName}
+use Rattle.names.specs.Names.{isChannel, isServerId, isUserId}
+use Rattle.links.specs.Links.{isLink, links, lessLink, relaySet, linksFrom, linksIn}
+use Rattle.message.specs.Grammar.{lineLimit, word, spaces, prefix, prefixEnd, commandStart, command, commandEnd, isCommand, rest, params}
+use Rattle.message.specs.Content.{contentIn}
+use Rattle.message.specs.Words.{wordsAt}
+use Rattle.message.specs.Reading.{crlf, endsLine, bodyOf, bodyRules, lineRules, numberFor, isRead, contentOf}
+use Rattle.writer.specs.Form.{takesColon, writtenParam, writtenParams, writtenPrefix, writtenBody, written, withCommand}
+use Rattle.channel.specs.declared.Record.{Record}
+use Rattle.channel.specs.Limits.{slotCount}
+use Rattle.channel.specs.Modes.{withMode, placeAmong}
+use Rattle.channel.specs.Key.{isKey, greater}
+use Rattle.channel.specs.Channel.{Channel, member}
+use Rattle.channel.specs.Record.{encode, decode, emptyRecord}
+use Rattle.channel.specs.Members.{hasMember, others, withMembers, without}
+use Rattle.channel.specs.Merging.{stands, bare, standing, merge}
+use Rattle.channel.specs.WellFormed.{goodTime, goodModes, goodKey, goodLimit, goodMember, goodMembers, channelTests, inRoom, clear, wellFormed, isBlank}
+use Rattle.channel.proofs.Rules.{peopled}
+use Rattle.channel.proofs.Examples.{2cd, 1ab, stored}
+use Rattle.table.specs.declared.Table.{Table}
+use Rattle.table.specs.Table.{goodSlot, holds, alike, distinct, goodTable}
+use Rattle.table.specs.Slots.{firstAt, freeSlot, slotFor}
+use Rattle.sjoin.specs.Modes.{once, goodLetters, modesByte, parametered, goodArguments, argumentOf}
+use Rattle.sjoin.specs.Modes as modes
+use Rattle.sjoin.specs.Entries.{past, idOf, statusOf, isEntry, memberOf, goodEntries}
+use Rattle.sjoin.specs.Join.{argumentsIn, isSource, goodCount, joinRules, channelIn}
+use Rattle.sjoin.specs.Join as join
+use Rattle.sjoin.specs.Telling.{lettersFrom, entryOf, following, listText, paramsOf}
+use Rattle.relay.specs.declared.Taken.{Taken}
+use Rattle.relay.specs.declared.Command.the-variants.{Sjoin}
+use Rattle.relay.specs.Commands.{commandOf, isUser}
+use Rattle.relay.specs.Relay.{placeOf, resulting, joinedRules, joined, outgoing, partRules, parted, quitRules, messageAfter, commandIn, takenRules, processRules, slotsBy, relayed, withSlots, processAnswer}
+use Rattle.relay.proofs.Relayed.{relayed-reads}
+use Rattle.relay.proofs.Taking.{taken-good, OneChanged, join-one, Later, after-alone}
+
+-- the first slot holds the record
+race : Record → List Record
+race r = r ∷ replicate (slotCount - 1) emptyRecord
+
+-- links 0, 3 and 5
+water : Table
+water = record { slots = race (encode stored); links = links 41 }
+
+-- `:1AB SJOIN 1200 #race +nt :@1ABAAAAAA 1ABAAAAAB`
+joining : List ℕ
+joining = 58 ∷ 49 ∷ 65 ∷ 66 ∷ 32 ∷ 83 ∷ 74 ∷ 79 ∷ 73 ∷ 78 ∷ 32 ∷ 49 ∷ 50 ∷ 48 ∷ 48 ∷ 32 ∷ 35 ∷ 114 ∷ 97 ∷ 99 ∷ 101 ∷ 32 ∷ 43 ∷ 110 ∷ 116 ∷ 32 ∷ 58 ∷ 64 ∷ 49 ∷ 65 ∷ 66 ∷ 65 ∷ 65 ∷ 65 ∷ 65 ∷ 65 ∷ 65 ∷ 32 ∷ 49 ∷ 65 ∷ 66 ∷ 65 ∷ 65 ∷ 65 ∷ 65 ∷ 65 ∷ 66 ∷ crlf
+
+-- `:2CDAAAAAA part  #race`
+parting : List ℕ
+parting = 58 ∷ 50 ∷ 67 ∷ 68 ∷ 65 ∷ 65 ∷ 65 ∷ 65 ∷ 65 ∷ 65 ∷ 32 ∷ 112 ∷ 97 ∷ 114 ∷ 116 ∷ 32 ∷ 32 ∷ 35 ∷ 114 ∷ 97 ∷ 99 ∷ 101 ∷ crlf
+
+-- `:2CDAAAAAA QUIT :`
+quitting : List ℕ
+quitting = 58 ∷ 50 ∷ 67 ∷ 68 ∷ 65 ∷ 65 ∷ 65 ∷ 65 ∷ 65 ∷ 65 ∷ 32 ∷ 81 ∷ 85 ∷ 73 ∷ 84 ∷ 32 ∷ 58 ∷ crlf
+
+-- ---- what they come to
+water-good : goodTable water ≡ true
+unfolding water race stored 2cd withMode emptyRecord encode decode padded goodTable all goodSlot isBlank wellFormed inRoom clear channelTests goodTime goodModes goodKey goodLimit goodMembers goodMember isChannel isNameByte isPlain isKey isKeyByte startsWith within hasBit isUserId isServerId isDigit isIdByte ascends distinct alike holds sameName sameBy fold
+water-good = refl
+
+accepts : (firstOf (takenRules (water .slots) joining) ≡ accepted) × (firstOf (takenRules (water .slots) parting) ≡ accepted) × (firstOf (takenRules (water .slots) quitting) ≡ accepted)
+unfolding water race stored 2cd joining parting quitting takenRules commandOf capital joinRules goodCount isSource join.goodTime isDecimal leadsWithZero valueFrom isDigit isChannel isNameByte isServerId isUserId isIdByte modes.goodModes goodLetters once parametered goodArguments argumentsIn placeAmong goodEntries isEntry idOf past wordsAt contentOf contentIn isRead numberFor lineRules bodyRules firstOf endsLine sameBy bodyOf all isPlain startsWith prefix word prefixEnd commandStart spaces command isCommand isLetter within commandEnd rest params joinedRules resulting channelIn argumentOf modesByte memberOf statusOf slotFor firstAt freeSlot holds sameName fold emptyRecord encode decode padded withMode merge standing stands bare insert put unite compare greater partRules isUser hasMember quitRules
+accepts = (refl, refl, refl)
+
+-- the lines that go out: `:1AB SJOIN 1000 #Race + :1ABAAAAAA 1ABAAAAAB`, `:2CDAAAAAA PART #race`, and the QUIT as it came
+goes-out : (relayed (water .slots) joining
+    ≡ 58 ∷ 49 ∷ 65 ∷ 66 ∷ 32 ∷ 83 ∷ 74 ∷ 79 ∷ 73 ∷ 78 ∷ 32 ∷ 49 ∷ 48 ∷ 48 ∷ 48 ∷ 32 ∷ 35 ∷ 82 ∷ 97 ∷ 99 ∷ 101 ∷ 32 ∷ 43 ∷ 32 ∷ 58 ∷ 49 ∷ 65 ∷ 66 ∷ 65 ∷ 65 ∷ 65 ∷ 65 ∷ 65 ∷ 65 ∷ 32 ∷ 49 ∷ 65 ∷ 66 ∷ 65 ∷ 65 ∷ 65 ∷ 65 ∷ 65 ∷ 66 ∷ crlf)
+    × (relayed (water .slots) parting ≡ 58 ∷ 50 ∷ 67 ∷ 68 ∷ 65 ∷ 65 ∷ 65 ∷ 65 ∷ 65 ∷ 65 ∷ 32 ∷ 80 ∷ 65 ∷ 82 ∷ 84 ∷ 32 ∷ 35 ∷ 114 ∷ 97 ∷ 99 ∷ 101 ∷ crlf)
+    × (relayed (water .slots) quitting ≡ quitting)
+unfolding water race stored 2cd joining parting quitting relayed commandOf capital written writtenBody writtenPrefix writtenParams writtenParam takesColon withCommand outgoing paramsOf listText following entryOf lettersFrom digitsOf digitsUpTo hasBit isDigit argumentsIn placeAmong idOf past wordsAt contentOf contentIn isRead numberFor lineRules bodyRules firstOf endsLine sameBy bodyOf all isPlain startsWith prefix word prefixEnd commandStart spaces command isCommand isLetter within commandEnd rest params resulting channelIn argumentOf parametered modesByte valueFrom memberOf statusOf slotFor firstAt freeSlot holds sameName fold emptyRecord encode decode padded withMode merge standing stands bare insert put unite compare greater
+goes-out = (refl, refl, refl)
+
+-- the slots after: time 1000, k `buoy`, members 1ABAAAAAA 0, 1ABAAAAAB 0, 2CDAAAAAA 2; and none once the member has left
+after : Channel
+unfolding stored
+after = peopled stored (member (1ab 65) 0 ∷ member (1ab 66) 0 ∷ member 2cd 2 ∷ [])
+
+comes-to : (slotsBy (water .slots) joining ≡ race (encode after)) × (slotsBy (water .slots) parting ≡ race emptyRecord) × (slotsBy (water .slots) quitting ≡ race emptyRecord)
+unfolding water race stored after 1ab 2cd joining parting quitting slotsBy joined parted without others withMembers commandOf capital hasBit argumentsIn placeAmong idOf past wordsAt contentOf contentIn isRead numberFor lineRules bodyRules firstOf endsLine sameBy bodyOf all isPlain startsWith prefix word prefixEnd commandStart spaces command isCommand isLetter within commandEnd rest params resulting channelIn argumentOf parametered modesByte valueFrom memberOf statusOf slotFor firstAt freeSlot holds sameName fold emptyRecord encode decode padded withMode merge standing stands bare insert put unite compare greater
+comes-to = (refl, refl, refl)
+
+-- the answer to a line that no rule refuses, of its parts
+answer-of : (t : Table) (link : ℕ) (line : List ℕ) (n : ℕ) (slots : List Record) (w : List ℕ) → goodTable t ≡ true → ltb n lineLimit ≡ false → isLink link && hasBit (t .links .set) link ≡ true
+    → firstOf (takenRules (t .slots) line) ≡ accepted → slotsBy (t .slots) line ≡ slots → relayed (t .slots) line ≡ w
+    → processAnswer t link line n ≡ record { number = accepted; table = withSlots t slots; set = relaySet (t .links) link; count = length (linksIn (relaySet (t .links) link)); len = length w }
+unfolding processAnswer processRules firstOf
+answer-of t link line n slots w good room linked none after goes = simp (good, room, linked, none, after, goes)
+
+-- that to the SJOIN: to links 0 and 5, count 2, and 46 bytes, CR LF counted
+answers : processAnswer water 3 joining lineLimit ≡ record { number = accepted; table = withSlots water (race (encode after)); set = 33; count = 2; len = 46 }
+unfolding water relaySet lessLink linksFrom hasBit
+answers = answer-of water 3 joining lineLimit (race (encode after)) _ water-good refl refl (accepts .0) (comes-to .0) (goes-out .0)
+
+-- ---- what the laws say of them
+slots-good : all goodSlot (water .slots) ≡ true
+unfolding goodTable
+slots-good = and-left (all goodSlot (water .slots)) (distinct (water .slots)) water-good
+
+-- each line that goes out reads as its message, and is no longer than the one read
+Reads : List ℕ → Type 0
+Reads line = (isRead (relayed (water .slots) line) ≡ true) × (contentOf (relayed (water .slots) line) ≡ messageAfter (commandIn line) (water .slots) (contentOf line)) × (length (relayed (water .slots) line) ≤ length line)
+
+reads : Reads joining × Reads parting × Reads quitting
+unfolding Reads
+reads = (relayed-reads (water .slots) joining slots-good (accepts .0), relayed-reads (water .slots) parting slots-good (accepts .1), relayed-reads (water .slots) quitting slots-good (accepts .2))
+
+-- the table stays well formed
+Stays : List ℕ → Type 0
+Stays line = goodTable (withSlots water (slotsBy (water .slots) line)) ≡ true
+
+stays : Stays joining × Stays parting × Stays quitting
+unfolding Stays
+stays = (taken-good water joining water-good (accepts .0), taken-good water parting water-good (accepts .1), taken-good water quitting water-good (accepts .2))
+
+-- the SJOIN changes the first slot
+is-sjoin : commandIn joining ≡ Sjoin
+unfolding joining commandOf capital contentOf contentIn isRead numberFor lineRules bodyRules firstOf endsLine sameBy bodyOf all isPlain startsWith prefix word prefixEnd commandStart spaces command isCommand isLetter within commandEnd rest params
+is-sjoin = refl
+
+changes-one : OneChanged (water .slots) (slotsBy (water .slots) joining) (channelIn (contentOf joining)) (placeOf (water .slots) (slotFor (water .slots) (channelIn (contentOf joining) .name))) (encode (resulting (water .slots) (channelIn (contentOf joining))))
+changes-one = join-one (water .slots) joining slots-good is-sjoin (accepts .0)
+
+-- and does so whatever the links: here link 0 alone is registered, and the line comes from it
+shore : Table
+shore = record { slots = water .slots; links = links 1 }
+
+shore-good : goodTable shore ≡ true
+unfolding goodTable shore
+shore-good = water-good
+
+accepted-later : (number : ℕ) → number ≡ accepted → Later number
+accepted-later number e = (λ f. omega (arith, e, f), λ f. omega (arith, e, f), λ f. omega (arith, e, f))
+
+whichever-link : processAnswer water 3 joining lineLimit .table .slots ≡ processAnswer shore 0 joining lineLimit .table .slots
+unfolding shore hasBit
+whichever-link =
+    let a : processAnswer water 3 joining lineLimit .number ≡ accepted = ap (λ (x : Taken). x .number) answers in
+    let b : processAnswer shore 0 joining lineLimit .number ≡ accepted = ap (λ (x : Taken). x .number) (answer-of shore 0 joining lineLimit _ _ shore-good refl refl (accepts .0) refl refl) in
+    after-alone water shore 3 0 joining lineLimit lineLimit refl (accepted-later _ a) (accepted-later _ b) .1

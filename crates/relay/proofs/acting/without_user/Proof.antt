@@ -1,0 +1,77 @@
+-- `without_user` meets its contract. The invariant: the user has left the first k slots, the rest are as they were. Assumes nothing.
+use mathlib.Core.Path.{_≡_, sym, ap, _∙_}
+use mathlib.Core.List.{List}
+use Prim.Native.Nat.{_-_, _≤_, _<_}
+use native.Mathlib.Omega.{arith}
+use lib.ListN.{length, set}
+use borrow.Author.Needs.{needs}
+use Rattle.octets.proofs.Lists.{unmapped}
+use Rattle.octets.proofs.Mapped.{mapped, mapped-none, mapped-step, mapped-all}
+use Rattle.channel.specs.declared.Record.{Record}
+use Rattle.channel.specs.Limits.{slotCount}
+use Rattle.channel.specs.Members.{without}
+use Rattle.table.specs.declared.Table.{Table}
+use Rattle.relay.specs.Relay.{withSlots}
+use Rattle.relay.proofs.acting.without_user.Statement.{statement}
+use Rattle.relay.proofs.acting.without_user.Tie as tie
+
+abbrev Inv-loop : tie.InvT-loop
+Inv-loop user t next₀ k₀ next k = (k ≤ slotCount) × (next ≡ withSlots t (mapped (without user) (t .slots) k))
+
+abbrev μ-loop : tie.MeasureT-loop
+μ-loop user t next₀ k₀ next k = slotCount - k
+
+loop-holds : tie.Need-loop-holds Inv-loop μ-loop
+loop-holds c = (search needs, ap (withSlots (c .args .t1)) (sym (mapped-none (without (c .args .user)) (c .args .t1 .slots))))
+
+mul-r : tie.Need-mul-r Inv-loop μ-loop
+mul-r c = search needs
+
+element-copy-out-r : tie.Need-element-copy-out-r Inv-loop μ-loop
+element-copy-out-r c = search needs
+
+without-requires : tie.Need-without-requires Inv-loop μ-loop
+without-requires c κs = search needs
+
+mul-t9 : tie.Need-mul-t9 Inv-loop μ-loop
+mul-t9 c = search needs
+
+element-set-from-next : tie.Need-element-set-from-next Inv-loop μ-loop
+element-set-from-next c = search needs
+
+add-k : tie.Need-add-k Inv-loop μ-loop
+add-k c = search needs
+
+loop-less : tie.Need-loop-less Inv-loop μ-loop
+loop-less c = search needs
+
+loop-again : tie.Need-loop-again Inv-loop μ-loop
+loop-again c =
+    let t = c .before .before .before .before .args .t1 in
+    let user = c .before .before .before .before .args .user in
+    let l = c .before .before .before .loop in
+    let e : length (t .slots) ≡ slotCount = search (needs, unmapped) in
+    (search needs, rw (l .inv .1, c .without .ensures) (ap (withSlots t) (mapped-step (without user) (t .slots) (l .k) _ (omega (arith, e)))))
+
+returns : tie.Need-returns Inv-loop μ-loop
+returns c =
+    let t = c .before .before .args .t1 in
+    let e : length (t .slots) ≡ slotCount = search (needs, unmapped) in
+    c .before .loop .inv .1 ∙ ap (withSlots t) (mapped-all (without (c .before .before .args .user)) (t .slots) (c .before .loop .k) (omega arith))
+
+pub without-user-spec : {M : Type 1} → statement M
+without-user-spec =
+    tie.close
+    (tie.spec
+    Inv-loop
+    μ-loop
+    loop-holds
+    mul-r
+    element-copy-out-r
+    without-requires
+    mul-t9
+    element-set-from-next
+    add-k
+    loop-less
+    loop-again
+    returns)

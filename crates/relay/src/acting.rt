@@ -1,0 +1,95 @@
+// What a judgement asks for is done: the table changed, and the line sent.
+ghost use mathlib.Core.Path.{_≡_};
+ghost use mathlib.Core.List.{map};
+ghost use Prim.Native.Nat.{_<_};
+ghost use lib.ListN.{length, set};
+ghost use Rattle.refusal.specs.Rules.{emitted};
+ghost use Rattle.octets.specs.Room.{front};
+ghost use Rattle.message.specs.Reading.{contentOf};
+ghost use Rattle.writer.specs.Form.{written};
+ghost use Rattle.writer.specs.Writing.{forwardRules, forwarded};
+ghost use Rattle.channel.specs.Limits.{slotCount};
+ghost use Rattle.channel.specs.Record.{decode};
+ghost use Rattle.channel.specs.Members.{without as withoutOf};
+ghost use Rattle.sjoin.specs.Telling.{joinMessage, tellRules};
+ghost use Rattle.relay.specs.Commands.{sourceIn};
+ghost use Rattle.relay.specs.Relay.{withSlots};
+ghost use Rattle.relay.specs.Private.{slotsWith, sendRules, sendLine};
+use crate::Change;
+use crate::Command;
+use channel::Record;
+use channel::members::without;
+use message::prefix;
+use names::USER_ID;
+use sjoin::write_join;
+use table::Table;
+use writer::forward;
+
+// The table with another record in slot k.
+fn with_record(t: Table, k: usize, r: Record) -> Table
+    requires { ⌜ k < slotCount ⌝ }
+    ensures { λ s. ⌜ s ≡ withSlots t (set (t .slots) k r) ⌝ }
+{
+    let mut next = t;
+    next.slots[k] = r;
+    next
+}
+
+// The table without a user.
+fn without_user(t: Table, user: [u8; USER_ID]) -> Table
+    ensures { λ r. ⌜ r ≡ withSlots t (map (withoutOf user) (t .slots)) ⌝ }
+{
+    let mut next = t;
+    for k in 0..Record::SLOTS {
+        let r = t.slots[k];
+        next.slots[k] = without(r, user);
+    }
+    next
+}
+
+// The table with the change made.
+pub(crate) fn changed(t: Table, change: Change) -> Table
+    requires { ⌜ change .slot < slotCount ⌝ }
+    ensures { λ r. ⌜ r ≡ withSlots t (slotsWith (change .command) change (t .slots)) ⌝ }
+{
+    let command = change.command;
+    let user = change.user;
+    match command {
+        Command::Sjoin => with_record(t, change.slot, change.record),
+        Command::Part => with_record(t, change.slot, change.record),
+        Command::Quit => without_user(t, user),
+        Command::Unknown => t,
+    }
+}
+
+// Writes the SJOIN that goes out, and answers its length.
+fn tell(line: &[u8], told: Record, out: &mut [u8]) -> usize
+    ensures answer { λ r. ⌜ r ≡ length (emitted (tellRules (sourceIn (contentOf (now (line .entry)))) (decode told) (now (out .entry))) (written (joinMessage (sourceIn (contentOf (now (line .entry)))) (decode told)))) ⌝ }
+    ensures output { λ _. ⌜ now (out .exit) ≡ front (emitted (tellRules (sourceIn (contentOf (now (line .entry)))) (decode told) (now (out .entry))) (written (joinMessage (sourceIn (contentOf (now (line .entry)))) (decode told)))) (now (out .entry)) ⌝ }
+{
+    let w = write_join(prefix(line), told, out);
+    w.len
+}
+
+// Writes the line as it was read, and answers its length.
+fn pass_on(line: &[u8], out: &mut [u8]) -> usize
+    ensures answer { λ r. ⌜ r ≡ length (emitted (forwardRules (now (line .entry)) (now (out .entry))) (forwarded (now (line .entry)))) ⌝ }
+    ensures output { λ _. ⌜ now (out .exit) ≡ front (emitted (forwardRules (now (line .entry)) (now (out .entry))) (forwarded (now (line .entry)))) (now (out .entry)) ⌝ }
+{
+    let w = forward(line, out);
+    w.len
+}
+
+// Writes the line that goes out to the front of the output, and answers its length: SJOIN anew, PART and QUIT as read.
+pub(crate) fn send(line: &[u8], change: Change, out: &mut [u8]) -> usize
+    ensures answer { λ r. ⌜ r ≡ length (emitted (sendRules (change .command) change (now (line .entry)) (now (out .entry))) (sendLine (change .command) change (now (line .entry)))) ⌝ }
+    ensures output { λ _. ⌜ now (out .exit) ≡ front (emitted (sendRules (change .command) change (now (line .entry)) (now (out .entry))) (sendLine (change .command) change (now (line .entry)))) (now (out .entry)) ⌝ }
+{
+    let command = change.command;
+    match command {
+        Command::Sjoin => tell(line, change.told, out),
+        Command::Part => pass_on(line, out),
+        Command::Quit => pass_on(line, out),
+        Command::Unknown => pass_on(line, out),
+    }
+}

@@ -1,0 +1,83 @@
+// Taking a line (document 01, 'SJOIN', 'What goes out'): SJOIN, PART and QUIT judged, folded into the table and relayed. Any bytes, on any link, with
+// any table and any lent output, get one answer.
+mod acting;
+mod judging;
+
+ghost use mathlib.Core.Path.{_≡_};
+ghost use lib.ListN.{length};
+ghost use Rattle.octets.specs.Room.{front};
+ghost use Rattle.relay.specs.Relay.{processAnswer, sent, refused as refusedOf};
+use acting::changed;
+use acting::send;
+use channel::Record;
+use judging::judge;
+use links::count;
+use links::relay_set;
+use names::USER_ID;
+use refusal::ACCEPTED;
+use table::Table;
+
+// The commands that the relay takes.
+enum Command {
+    Sjoin,
+    Part,
+    Quit,
+    Unknown,
+}
+
+// What a line is judged to be: the number of its refusal, or ACCEPTED and what is to change. With SJOIN and PART one slot then holds another record,
+// and of an SJOIN the record `told` goes out; with QUIT the user leaves every channel. What doesn't belong to the command is zero.
+struct Change {
+    number: u8,
+    command: Command,
+    slot: usize,
+    record: Record,
+    told: Record,
+    user: [u8; USER_ID],
+}
+
+// The number of a refusal, or ACCEPTED; the table after, or as given; the links that the line goes to, and how many they are; and how many bytes
+// were written.
+pub struct Taken {
+    pub number: u8,
+    pub table: Table,
+    pub set: u32,
+    pub count: u32,
+    pub len: usize,
+}
+
+// Nothing changes, and nothing goes out.
+fn refused(t: Table, number: u8) -> Taken
+    ensures { λ r. ⌜ r ≡ refusedOf t number ⌝ }
+{
+    Taken {
+        number,
+        table: t,
+        set: 0,
+        count: 0,
+        len: 0,
+    }
+}
+
+// Takes a line that came from a link: judges it, changes the table, and writes the line that goes out to the front of the output.
+pub fn process(t: Table, link: u32, line: &[u8], out: &mut [u8]) -> Taken
+    ensures answer { λ r. ⌜ r ≡ processAnswer t link (now (line .entry)) (length (now (out .entry))) ⌝ }
+    ensures output { λ _. ⌜ now (out .exit) ≡ front (sent t link (now (line .entry)) (length (now (out .entry)))) (now (out .entry)) ⌝ }
+{
+    let change = judge(t, link, line, out.len());
+    let number = change.number;
+    if number != ACCEPTED {
+        return refused(t, number);
+    }
+    let len = send(line, change, out);
+    let set = relay_set(t.links, link);
+    let n = count(set);
+    let table = changed(t, change);
+    Taken {
+        number,
+        table,
+        set,
+        count: n,
+        len,
+    }
+}

@@ -1,0 +1,160 @@
+-- What is told of a channel is a message that can be written: no byte of it is NUL, CR or LF, and each parameter but the list, which is the last, is one or
+-- more bytes without SPACE that don't start with ':'. Assumes nothing.
+use Prim.Native.Nat.{ℕ, suc, _≤_}
+use mathlib.Core.Path.{_≡_, refl, sym, _∙_}
+use mathlib.Core.Bool.{Bool, true, false, not, cond, _&&_, _||_, true≢false}
+use mathlib.Core.List.{List, [], _∷_, _++_}
+use native.Mathlib.Omega.{arith}
+use lib.ListN.{length}
+use lib.Dec.{eqb, leb}
+use borrow.Author.Tests.{eqb-true, leb-true, not-true}
+use Rattle.octets.specs.Bytes.{colon, within, isPlain, isNonSpace, isLetter, isDigit, isIdByte, isNameByte, isKeyByte}
+use Rattle.octets.specs.Lists.{all, isNil, startsWith}
+use Rattle.octets.specs.Decimals.{digitsOf}
+use Rattle.octets.proofs.Bools.{and-left, and-right, and-intro}
+use Rattle.octets.proofs.Lists.{all-head, all-tail, all-cons, all-append, all-imp}
+use Rattle.octets.proofs.Clean.{digit-id, id-clean, id-colon, name-clean, key-clean}
+use Rattle.octets.proofs.Digits.{all-digits, digits-some}
+use Rattle.names.specs.Names.{hash, nameLimit, userIdLength, isChannel, isServerId, isUserId}
+use Rattle.names.proofs.Ids.{server-bytes, user-bytes}
+use Rattle.channel.specs.declared.Member.{Member}
+use Rattle.channel.specs.Limits.{keyLimit}
+use Rattle.channel.specs.Modes.{letters, keyMode, limitMode, hasMode}
+use Rattle.channel.specs.Key.{isKey}
+use Rattle.channel.specs.Channel.{Channel}
+use Rattle.channel.specs.WellFormed.{bothStatuses, goodMember}
+use Rattle.channel.proofs.Proper.{Proper}
+use Rattle.message.specs.Grammar.{paramLimit, isCommand, isMiddle}
+use Rattle.writer.specs.Fit.{goodPrefix, goodSource, goodParam, goodParams, good}
+use Rattle.sjoin.specs.Modes.{plus}
+use Rattle.sjoin.specs.Entries.{at}
+use Rattle.sjoin.specs.Telling.{lettersFrom, modesText, entryOf, following, listText, paramsOf, sjoin, joinMessage}
+
+-- ---- bytes that are plain and no SPACE
+abbrev neat : ℕ → Bool
+neat b = isPlain b && isNonSpace b
+
+all-neat : (p : ℕ → Bool) → ((b : ℕ) → p b ≡ true → (isPlain b ≡ true) × (isNonSpace b ≡ true)) → (s : List ℕ) → all p s ≡ true → all neat s ≡ true
+all-neat p f s h = all-imp p neat (λ b e. and-intro (isPlain b) (isNonSpace b) (f b e .0) (f b e .1)) s h
+
+neat-plain : (s : List ℕ) → all neat s ≡ true → all isPlain s ≡ true
+neat-plain s h = all-imp neat isPlain (λ b e. and-left (isPlain b) (isNonSpace b) e) s h
+
+neat-solid : (s : List ℕ) → all neat s ≡ true → all isNonSpace s ≡ true
+neat-solid s h = all-imp neat isNonSpace (λ b e. and-right (isPlain b) (isNonSpace b) e) s h
+
+-- a text that can stand anywhere among the parameters
+abbrev Middle : List ℕ → Type 0
+Middle w = (all isPlain w ≡ true) × (isMiddle w ≡ true)
+
+neat-middle : (w : List ℕ) → 1 ≤ length w → startsWith colon w ≡ false → all neat w ≡ true → Middle w
+unfolding isMiddle startsWith
+neat-middle [] = λ n c h. absurd (omega arith)
+neat-middle (b ∷ w) = λ n c h. (neat-plain (b ∷ w) h, rw c (neat-solid (b ∷ w) h))
+
+ids-uncolon : (w : List ℕ) → all isIdByte w ≡ true → startsWith colon w ≡ false
+unfolding startsWith
+ids-uncolon [] h = refl
+ids-uncolon (b ∷ w) h = id-colon b (all-head isIdByte b w h)
+
+-- ---- a number
+digits-middle : (n : ℕ) → Middle (digitsOf n)
+digits-middle n =
+    let h = all-imp isDigit isIdByte digit-id (digitsOf n) (all-digits n) in
+    neat-middle (digitsOf n) (digits-some n) (ids-uncolon (digitsOf n) h) (all-neat isIdByte id-clean (digitsOf n) h)
+
+-- ---- a name
+name-middle : (n : List ℕ) → isChannel n ≡ true → Middle n
+unfolding isChannel startsWith isPlain
+name-middle [] h = absurd (true≢false (sym h))
+name-middle (b ∷ s) h =
+    let long : Bool = leb (length (b ∷ s)) nameLimit in
+    let e : b ≡ hash = eqb-true b hash (and-left (eqb b hash) (leb 1 (length s) && (long && all isNameByte s)) h) in
+    let k = and-right (leb 1 (length s)) (long && all isNameByte s) (and-right (eqb b hash) (leb 1 (length s) && (long && all isNameByte s)) h) in
+    let c : eqb b colon ≡ false = rw e in
+    let f : neat b ≡ true = rw e in
+    neat-middle (b ∷ s) (omega arith) c (all-cons neat b s f (all-neat isNameByte name-clean s (and-right long (all isNameByte s) k)))
+
+-- ---- modes
+letters-pass : (p : ℕ → Bool) (k : ℕ) (s : List ℕ) (modes : ℕ) → all p s ≡ true → all p (lettersFrom k s modes) ≡ true
+unfolding lettersFrom
+letters-pass p k [] modes h = h
+letters-pass p k (x ∷ s) modes h = go (hasMode modes k) (letters-pass p (suc k) s modes (all-tail p x s h))
+  where
+    go : (t : Bool) → all p (lettersFrom (suc k) s modes) ≡ true → all p (cond t (x ∷ lettersFrom (suc k) s modes) (lettersFrom (suc k) s modes)) ≡ true
+    go true e = all-cons p x (lettersFrom (suc k) s modes) (all-head p x s h) e
+    go false e = e
+
+modes-middle : (modes : ℕ) → Middle (modesText modes)
+unfolding startsWith all isPlain
+modes-middle modes = neat-middle (modesText modes) (omega arith) refl (all-cons neat plus (lettersFrom 0 letters modes) refl (letters-pass neat 0 letters modes refl))
+
+-- ---- a key
+key-middle : (k : List ℕ) → isKey k ≡ true → Middle k
+unfolding isKey
+key-middle k h =
+    let long : Bool = leb (length k) keyLimit in
+    let free : Bool = not (startsWith colon k) in
+    let n = leb-true 1 (length k) (and-left (leb 1 (length k)) (long && (free && all isKeyByte k)) h) in
+    let a = and-right long (free && all isKeyByte k) (and-right (leb 1 (length k)) (long && (free && all isKeyByte k)) h) in
+    neat-middle k n (not-true (startsWith colon k) (and-left free (all isKeyByte k) a)) (all-neat isKeyByte key-clean k (and-right free (all isKeyByte k) a))
+
+-- ---- the list
+marked-middle : (id : List ℕ) → isUserId id ≡ true → (o v : Bool) → Middle (cond o (at ∷ []) [] ++ cond v (plus ∷ []) [] ++ id)
+unfolding startsWith isPlain isUserId
+marked-middle id h o v = go o v (all-neat isIdByte id-clean id (user-bytes id h))
+  where
+    go : (o v : Bool) → all neat id ≡ true → Middle (cond o (at ∷ []) [] ++ cond v (plus ∷ []) [] ++ id)
+    go true true k = neat-middle (at ∷ plus ∷ id) (omega arith) refl (all-cons neat at (plus ∷ id) refl (all-cons neat plus id refl k))
+    go true false k = neat-middle (at ∷ id) (omega arith) refl (all-cons neat at id refl k)
+    go false true k = neat-middle (plus ∷ id) (omega arith) refl (all-cons neat plus id refl k)
+    go false false k = neat-middle id (omega (arith, eqb-true (length id) userIdLength (and-left (eqb (length id) userIdLength) _ h))) (ids-uncolon id (user-bytes id h)) k
+
+pub entry-middle : (m : Member) → goodMember m ≡ true → Middle (entryOf m)
+unfolding goodMember entryOf
+entry-middle m h = marked-middle (m .id) (and-left (isUserId (m .id)) (leb (m .status) bothStatuses) h) (hasMode (m .status) 1) (hasMode (m .status) 0)
+
+following-plain : (l : List Member) → all goodMember l ≡ true → all isPlain (following l) ≡ true
+unfolding following all isPlain
+following-plain [] h = refl
+following-plain (m ∷ l) h = all-append isPlain (entryOf m) (following l) (entry-middle m (all-head goodMember m l h) .0) (following-plain l (all-tail goodMember m l h))
+
+list-plain : (l : List Member) → all goodMember l ≡ true → all isPlain (listText l) ≡ true
+unfolding listText all
+list-plain [] h = refl
+list-plain (m ∷ l) h = all-append isPlain (entryOf m) (following l) (entry-middle m (all-head goodMember m l h) .0) (following-plain l (all-tail goodMember m l h))
+
+-- ---- the parameters, by whether key and limit are there
+abbrev told : Bool → Bool → List ℕ → List ℕ → List ℕ → List ℕ → List ℕ → List ℕ → List (List ℕ)
+told a b t n m k l s = (t ∷ n ∷ m ∷ []) ++ cond a (k ∷ []) [] ++ cond b (l ∷ []) [] ++ (s ∷ [])
+
+params-good : (a b : Bool) (t n m k l s : List ℕ) → Middle t → Middle n → Middle m → (a ≡ true → Middle k) → Middle l → all isPlain s ≡ true
+    → goodParams (told a b t n m k l s) && leb (length (told a b t n m k l s)) paramLimit ≡ true
+unfolding goodParams goodParam
+params-good true true t n m k l s T N M K L S = simp (T .0, T .1, N .0, N .1, M .0, M .1, K refl .0, K refl .1, L .0, L .1, S)
+params-good true false t n m k l s T N M K L S = simp (T .0, T .1, N .0, N .1, M .0, M .1, K refl .0, K refl .1, S)
+params-good false true t n m k l s T N M K L S = simp (T .0, T .1, N .0, N .1, M .0, M .1, L .0, L .1, S)
+params-good false false t n m k l s T N M K L S = simp (T .0, T .1, N .0, N .1, M .0, M .1, S)
+
+keyed-middle : (k : List ℕ) → (isNil k || isKey k) ≡ true → not (isNil k) ≡ true → Middle k
+keyed-middle [] h e = absurd (true≢false (sym e))
+keyed-middle (b ∷ k) h e = key-middle (b ∷ k) h
+
+source-good : (sid : List ℕ) → isServerId sid ≡ true → goodPrefix sid ≡ true
+unfolding goodPrefix isServerId
+source-good [] h = absurd (true≢false (sym h))
+source-good (b ∷ s) h =
+    let k = all-neat isIdByte id-clean (b ∷ s) (server-bytes (b ∷ s) h) in
+    and-intro (all isPlain (b ∷ s)) (all isNonSpace (b ∷ s)) (neat-plain (b ∷ s) k) (neat-solid (b ∷ s) k)
+
+command-good : isCommand sjoin ≡ true
+unfolding isCommand all isLetter within
+command-good = refl
+
+pub told-good : (sid : List ℕ) (c : Channel) → isServerId sid ≡ true → Proper c → good (joinMessage sid c) ≡ true
+unfolding good goodSource paramsOf
+told-good sid c h p =
+    rw (source-good sid h, command-good)
+    (params-good (hasMode (c .modes) keyMode) (hasMode (c .modes) limitMode) (digitsOf (c .time)) (c .name) (modesText (c .modes)) (c .key) (digitsOf (c .limit)) (listText (c .members))
+    (digits-middle (c .time)) (name-middle (c .name) (p .name)) (modes-middle (c .modes)) (λ e. keyed-middle (c .key) (p .key) (sym (p .keyed) ∙ e)) (digits-middle (c .limit))
+    (list-plain (c .members) (p .listed)))
