@@ -1,8 +1,8 @@
--- A key keeps to its room. The greater of two keys joins: it is one of the two, whichever way they are grouped or turned, and no key is neutral, since the order of byte
+-- A key keeps to its room and is not empty. The greater of two keys joins: it is one of the two, whichever way they are grouped or turned, and no key is neutral, since the order of byte
 -- lists is total and the empty list is its least. Assumes nothing.
 use Prim.Native.Nat.{ℕ, _≤_}
-use mathlib.Core.Path.{_≡_, refl}
-use mathlib.Core.Bool.{true, false, _&&_, cond}
+use mathlib.Core.Path.{_≡_, refl, sym}
+use mathlib.Core.Bool.{true, false, true≢false, _&&_, cond}
 use mathlib.Core.List.{List, [], _∷_}
 use lib.ListN.{length}
 use lib.Dec.{leb}
@@ -18,10 +18,15 @@ use Rattle.octets.proofs.Joins.{Joining}
 use Rattle.channel.specs.Limits.{keyLimit}
 use Rattle.channel.specs.Key.{isKey, greater}
 
--- a key keeps to its room
+-- a key keeps to its room, and is there
 pub key-length : (k : List ℕ) → isKey k ≡ true → length k ≤ keyLimit
 unfolding isKey
 key-length k h = leb-true (length k) keyLimit (and-left _ _ (and-right (leb 1 (length k)) _ h))
+
+pub key-some : (k : List ℕ) → isKey k ≡ true → isNil k ≡ false
+unfolding isKey
+key-some [] h = absurd (true≢false (sym h))
+key-some (b ∷ k) h = refl
 
 -- it is one of the two: what holds of both holds of it
 pub greater-is : (P : List ℕ → Type 0) (a b : List ℕ) → P a → P b → P (greater a b)

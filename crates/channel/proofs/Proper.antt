@@ -45,6 +45,16 @@ pub record Proper (c : Channel) : Type 0 where
   pub listed : all goodMember (c .members) ≡ true
   pub ascending : Ascending byId (c .members)
 
+-- ---- a member: a user id with a status
+module _ (m : Member) where
+  pub member-says : goodMember m ≡ true → (isUserId (m .id) ≡ true) × (m .status ≤ bothStatuses)
+  unfolding goodMember
+  member-says h = (and-left (isUserId (m .id)) _ h, leb-true (m .status) bothStatuses (and-right (isUserId (m .id)) _ h))
+
+  pub member-passes : isUserId (m .id) ≡ true → m .status ≤ bothStatuses → goodMember m ≡ true
+  unfolding goodMember
+  member-passes h k = and-intro (isUserId (m .id)) (leb (m .status) bothStatuses) h (le-leb (m .status) bothStatuses k)
+
 -- ---- the tests say just this
 pub proper-says : (c : Channel) → all (λ t. t) (channelTests c) ≡ true → Proper c
 unfolding channelTests goodTime goodModes goodKey goodLimit goodMembers
@@ -128,10 +138,10 @@ well-encodes r s h = let w = well-says r h in encode-decode r s (w .room) (w .re
 -- ---- what a side of a merge gives
 module _ (time : ℕ) (c : Channel) (p : Proper c) where
   listed-standing : all goodMember (standing time c) ≡ true
-  unfolding standing bare goodMember
+  unfolding standing bare
   listed-standing =
       elim (stands time c) as (λ t. all goodMember (cond t (c .members) (bare (c .members))) ≡ true)
-      [ true ↦ p .listed | false ↦ all-map goodMember (λ m. member (m .id) 0) (λ m h. and-intro (isUserId (m .id)) true (and-left _ _ h) refl) (c .members) (p .listed) ]
+      [ true ↦ p .listed | false ↦ all-map goodMember (λ m. member (m .id) 0) (λ m h. member-passes (member (m .id) 0) (member-says m h .0) (omega arith)) (c .members) (p .listed) ]
 
   given-modes : given 0 (λ d. d .modes) time c < 2 ^ modeCount
   given-modes = elim (stands time c) as (λ t. cond t (c .modes) 0 < 2 ^ modeCount) [ true ↦ p .modes | false ↦ omega arith ]
@@ -177,11 +187,10 @@ proper-sided name time c n h k p = record {
 
 -- ---- what two sides give together
 pub both-statuses : (e d : Member) → goodMember e ≡ true → goodMember d ≡ true → goodMember (member (d .id) (bitOr (e .status) (d .status))) ≡ true
-unfolding goodMember
 both-statuses e d h k =
-    let s : e .status ≤ bothStatuses = leb-true (e .status) bothStatuses (and-right (isUserId (e .id)) _ h) in
-    let t : d .status ≤ bothStatuses = leb-true (d .status) bothStatuses (and-right (isUserId (d .id)) _ k) in
-    and-intro (isUserId (d .id)) _ (and-left _ _ k) (le-leb (bitOr (e .status) (d .status)) bothStatuses (omega (arith, or-lt 2 (e .status) (d .status) (omega arith) (omega arith))))
+    let s = member-says e h in
+    let t = member-says d k in
+    member-passes (member (d .id) (bitOr (e .status) (d .status))) (t .0) (omega (arith, or-lt 2 (e .status) (d .status) (omega (arith, s .1)) (omega (arith, t .1))))
 
 both-keys : (x y : List ℕ) → (not (isNil x) || not (isNil y)) ≡ not (isNil (greater x y))
 both-keys x y = rw (greater-nil x y) (go (isNil x) (isNil y))

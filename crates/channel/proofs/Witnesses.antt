@@ -38,7 +38,7 @@ use Rattle.channel.proofs.Removals.{without-well, without-members, with
 use Rattle.channel.proofs.Examples.{2cd, 1ab, stored, incoming}
 
 -- `SJOIN 1000 #RACE +kl cove 20 :1ABAAAAAA +2CDAAAAAA`, a line with the stored record's time
-second : Channel
+unfoldable pub second : Channel
 second = record {
   name = 35 ∷ 82 ∷ 65 ∷ 67 ∷ 69 ∷ [];
   time = 1000;
@@ -49,7 +49,7 @@ second = record {
 }
 
 -- ---- the premises: each is a proper channel, and so fair
-abbrev lines : List Channel
+abbrev pub lines : List Channel
 lines = stored ∷ incoming ∷ second ∷ []
 
 abbrev passes : Channel → Bool
@@ -63,7 +63,7 @@ all-mem : {c : Channel} {s : List Channel} → List·Memᴰ c s → all passes s
 all-mem (List·Memᴰ·head e) h = rw e (all-head passes _ _ h)
 all-mem (List·Memᴰ·tail m) h = all-mem m (all-tail passes _ _ h)
 
-proper : (c : Channel) → List·Memᴰ c lines → Proper c
+pub proper : (c : Channel) → List·Memᴰ c lines → Proper c
 proper c m = proper-says c (all-mem m lines-pass)
 
 fair : (c : Channel) → List·Memᴰ c lines → Fair c
@@ -75,7 +75,7 @@ stored-in = List·Memᴰ·head refl
 abbrev incoming-in : List·Memᴰ incoming lines
 incoming-in = List·Memᴰ·tail (List·Memᴰ·head refl)
 
-abbrev second-in : List·Memᴰ second lines
+abbrev pub second-in : List·Memᴰ second lines
 second-in = List·Memᴰ·tail (List·Memᴰ·tail (List·Memᴰ·head refl))
 
 incoming-later : stored .time < incoming .time

@@ -1,4 +1,4 @@
-// Member lists: put in order, and a member removed.
+// Member lists: with every place unused, put in order, and a member removed.
 ghost use mathlib.Core.Path.{_≡_};
 ghost use mathlib.Core.List.{[]};
 ghost use Prim.Native.Nat.{min};
@@ -29,7 +29,7 @@ pub(crate) fn nobody() -> Member
 }
 
 // A list with every place unused.
-pub(crate) fn vacant() -> [Member; Record::MEMBERS]
+pub fn vacant() -> [Member; Record::MEMBERS]
     ensures { λ r. ⌜ r ≡ padded memberLimit nobodyOf [] ⌝ }
 {
     let none = nobody();

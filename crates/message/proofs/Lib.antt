@@ -7,3 +7,4 @@ pub mod Readings
 pub mod Examples
 pub mod Splits
 pub mod Sizes
+pub mod Words

@@ -5,18 +5,18 @@ use mathlib.Core.List.{List, [], _∷_, _++_, map, append-nil}
 use Prim.Native.Nat.{ℕ, zero, suc, _+_, _-_, _≤_, _<_, min}
 use native.Mathlib.Omega.{arith}
 use lib.ListN.{length, take, drop, getD, length-append, length-drop, length-take, take-append-drop}
-use lib.Seq.{take-at, take-nil, drop-length, drop-drop}
+use lib.Seq.{take-at, take-nil, drop-length}
 use lib.Dec.{eqb}
 use Rattle.octets.specs.Bytes.{space, colon}
 use Rattle.octets.specs.Room.{part}
-use Rattle.octets.proofs.Lists.{front-part, getD-padded}
+use Rattle.octets.proofs.Lists.{drop-inside, drop-next, front-part, getD-padded}
 use Rattle.octets.specs.Lists.{startsWith}
 use Rattle.message.specs.declared.Span.{Span}
 use Rattle.message.specs.declared.Message.{Message}
 use Rattle.message.specs.Grammar.{Part, partAt, paramLimit, word, spaces, rest, afterMiddle, hasPrefix, prefix, prefixEnd, commandStart, command, commandEnd, params}
 use Rattle.message.specs.Content.{bytesOf}
 use Rattle.message.specs.Parts.{emptyAt, bytesAt, spanOf, messageIn}
-use Rattle.message.proofs.Runs.{start-in, stop-in}
+use Rattle.message.proofs.Runs.{word-split, start-in, stop-in}
 
 -- The span lies in s, and has these bytes there.
 pub record Placed (s : List ℕ) (at : Span) (bytes : List ℕ) : Type 0 where
@@ -42,15 +42,6 @@ standing s at bytes more h e = record {
   inside = omega (arith, length-drop at s, length-append bytes more, ap (λ (l : List ℕ). length l) e);
   same = rw e (take-at bytes more (at + length bytes - at) (omega arith));
 }
-
-word-split : (s : List ℕ) → s ≡ word s ++ drop (length (word s)) s
-unfolding word
-word-split [] = refl
-word-split (b ∷ s) = go (eqb b space) refl (word-split s)
-  where
-    go : (t : Bool) → eqb b space ≡ t → s ≡ word s ++ drop (length (word s)) s → b ∷ s ≡ word (b ∷ s) ++ drop (length (word (b ∷ s))) (b ∷ s)
-    go true e ih = rw e
-    go false e ih = rw e (ap (λ (l : List ℕ). b ∷ l) ih)
 
 word-placed : (s : List ℕ) (at : ℕ) → at ≤ length s → Placed s (spanOf (partAt at (word (drop at s)))) (word (drop at s))
 word-placed s at h = standing s at (word (drop at s)) (drop (length (word (drop at s))) (drop at s)) h (word-split (drop at s))
@@ -112,17 +103,11 @@ abbrev pub In : List ℕ → Part → Type 0
 In s p = Placed s (spanOf p) (p .bytes)
 
 module _ (b : List ℕ) where
-  drop-next : (at x : ℕ) (s : List ℕ) → drop at b ≡ x ∷ s → drop (at + 1) b ≡ s
-  drop-next at x s e = sym (drop-drop 1 at b) ∙ ap (λ (l : List ℕ). drop 1 l) e
-
-  drop-long : (at x : ℕ) (s : List ℕ) → drop at b ≡ x ∷ s → at + 1 ≤ length b
-  drop-long at x s e = omega (arith, length-drop at b, ap (λ (l : List ℕ). length l) e)
-
   trailing-in : (at x : ℕ) (s : List ℕ) → drop at b ≡ x ∷ s → In b (partAt (at + 1) s)
-  trailing-in at x s e = standing b (at + 1) s [] (drop-long at x s e) (drop-next at x s e ∙ sym (append-nil s))
+  trailing-in at x s e = standing b (at + 1) s [] (omega (arith, drop-inside b at x s e)) (drop-next b at x s e ∙ sym (append-nil s))
 
   middle-in : (at x : ℕ) (s : List ℕ) → drop at b ≡ x ∷ s → In b (partAt at (x ∷ word s))
-  middle-in at x s e = standing b at (x ∷ word s) (drop (length (word s)) s) (omega (arith, drop-long at x s e)) (e ∙ ap (λ (l : List ℕ). x ∷ l) (word-split s))
+  middle-in at x s e = standing b at (x ∷ word s) (drop (length (word s)) s) (omega (arith, drop-inside b at x s e)) (e ∙ ap (λ (l : List ℕ). x ∷ l) (word-split s))
 
   rest-step : (k at x : ℕ) (s : List ℕ) → drop at b ≡ x ∷ s → Each (In b) (rest k (at + 1) s) → Each (In b) (afterMiddle (k + 1) (at + 1) s) → Each (In b) (rest k at (x ∷ s))
   unfolding rest
@@ -146,11 +131,11 @@ module _ (b : List ℕ) where
 
     rest-in : (s : List ℕ) (k at : ℕ) → drop at b ≡ s → Each (In b) (rest k at s)
     rest-in [] k at e = tt
-    rest-in (x ∷ s) k at e = let d = drop-next at x s e in rest-step k at x s e (rest-in s k (at + 1) d) (after-middle-in s (k + 1) (at + 1) d)
+    rest-in (x ∷ s) k at e = let d = drop-next b at x s e in rest-step k at x s e (rest-in s k (at + 1) d) (after-middle-in s (k + 1) (at + 1) d)
 
     after-middle-in : (s : List ℕ) (k at : ℕ) → drop at b ≡ s → Each (In b) (afterMiddle k at s)
     after-middle-in [] k at e = tt
-    after-middle-in (x ∷ s) k at e = let d = drop-next at x s e in middle-step k at x s (rest-in s k (at + 1) d) (after-middle-in s k (at + 1) d)
+    after-middle-in (x ∷ s) k at e = let d = drop-next b at x s e in middle-step k at x s (rest-in s k (at + 1) d) (after-middle-in s k (at + 1) d)
 
   params-in : Each (In b) (params b)
   unfolding params

@@ -1,11 +1,11 @@
 -- Laws of the scan: what stands at `drop i s` by the byte at i, where runs of bytes stop, and what the two rules make of it. Assumes nothing.
 use mathlib.Core.Path.{_≡_, refl, sym, ap, _∙_}
 use mathlib.Core.Bool.{Bool, true, false}
-use mathlib.Core.List.{List, [], _∷_}
+use mathlib.Core.List.{List, [], _∷_, _++_}
 use Prim.Native.Nat.{ℕ, suc, _+_, _≤_, _<_}
 use native.Mathlib.Omega.{arith}
-use lib.ListN.{length, drop, getD, drop-of-length-le, length-drop}
-use lib.Seq.{drop-drop, getD-drop}
+use lib.ListN.{length, take, drop, getD, drop-of-length-le, length-drop}
+use lib.Seq.{take-append-seam, drop-drop, getD-drop}
 use lib.Dec.{eqb}
 use borrow.Author.Tests.{eq-eqb, ne-eqb, eqb-true, eqb-false}
 use Rattle.octets.specs.Bytes.{space, colon}
@@ -27,6 +27,19 @@ word-stop s i h e = rw (drop-step s i 0 h, eq-eqb _ space e)
 pub word-go : (s : List ℕ) (i : ℕ) → i < length s → (getD s i 0 ≡ space → ⊥) → length (word (drop i s)) ≡ suc (length (word (drop (i + 1) s)))
 unfolding word
 word-go s i h e = rw (drop-step s i 0 h, ne-eqb _ space e)
+
+-- ---- a word is the front of what it stands in
+pub word-split : (s : List ℕ) → s ≡ word s ++ drop (length (word s)) s
+unfolding word
+word-split [] = refl
+word-split (b ∷ s) = go (eqb b space) refl (word-split s)
+  where
+    go : (t : Bool) → eqb b space ≡ t → s ≡ word s ++ drop (length (word s)) s → b ∷ s ≡ word (b ∷ s) ++ drop (length (word (b ∷ s))) (b ∷ s)
+    go true e ih = rw e
+    go false e ih = rw e (ap (λ (l : List ℕ). b ∷ l) ih)
+
+pub word-front : (s : List ℕ) → take (length (word s)) s ≡ word s
+word-front s = ap (λ (l : List ℕ). take (length (word s)) l) (word-split s) ∙ take-append-seam (word s) (drop (length (word s)) s)
 
 -- ---- spaces
 pub spaces-past : (s : List ℕ) (i : ℕ) → length s ≤ i → spaces (drop i s) ≡ 0

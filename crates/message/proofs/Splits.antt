@@ -2,18 +2,21 @@
 use mathlib.Core.Path.{_≡_, refl, sym, ap, _∙_}
 use mathlib.Core.Bool.{Bool, true, false}
 use mathlib.Core.List.{List, [], _∷_, map}
-use Prim.Native.Nat.{ℕ, _+_, _≤_, _<_}
+use Prim.Native.Nat.{ℕ, _+_, _-_, _≤_, _<_}
 use native.Mathlib.Omega.{arith}
-use lib.ListN.{length, drop, getD, drop-of-length-le}
+use lib.ListN.{length, drop, getD, drop-of-length-le, length-drop}
 use lib.Seq.{drop-drop}
 use lib.Dec.{eqb}
 use borrow.Author.Tests.{ne-eqb, eqb-true, eqb-false}
 use Rattle.octets.specs.Bytes.{space}
+use Rattle.octets.specs.Room.{part}
 use Rattle.octets.proofs.Lists.{drop-step}
+use Rattle.message.specs.declared.Span.{Span}
 use Rattle.message.specs.Grammar.{Part, partAt, word, spaces}
+use Rattle.message.specs.Content.{bytesOf}
 use Rattle.message.specs.Parts.{span, emptyAt, spanOf}
 use Rattle.message.specs.Words.{wordsAt, afterWord, nextWord}
-use Rattle.message.proofs.Runs.{word-past, start-in, start-stops}
+use Rattle.message.proofs.Runs.{word-past, word-go, word-front, word-in, start-in, start-stops}
 
 -- ---- SPACEs before a word, and the rest of one, are passed over
 words-skip : (s : List ℕ) (at : ℕ) → wordsAt at s ≡ wordsAt (at + spaces s) (drop (spaces s) s)
@@ -42,7 +45,7 @@ module _ (s : List ℕ) (at start end : ℕ) (within : at ≤ length s) (starts 
   words-from = words-skip (drop at s) at ∙ rw (starts, drop-drop (spaces (drop at s)) at s)
 
   -- there is no word
-  pub words-none : start ≡ length s → wordsAt at (drop at s) ≡ []
+  words-none : start ≡ length s → wordsAt at (drop at s) ≡ []
   unfolding wordsAt
   words-none e = words-from ∙ rw (drop-of-length-le s {i = start} (omega arith))
 
@@ -64,7 +67,7 @@ module _ (s : List ℕ) (at start end : ℕ) (within : at ≤ length s) (starts 
     end-is : end ≡ start + 1 + length (word others)
     end-is = omega (arith, ends, ap (λ (l : List ℕ). length l) word-is)
 
-    pub words-one : wordsAt at (drop at s) ≡ partAt start (word (drop start s)) ∷ wordsAt end (drop end s)
+    words-one : wordsAt at (drop at s) ≡ partAt start (word (drop start s)) ∷ wordsAt end (drop end s)
     unfolding wordsAt
     words-one =
         words-from
@@ -87,3 +90,47 @@ module _ (s : List ℕ) (at start end : ℕ) (within : at ≤ length s) (starts 
 pub next-past : (s : List ℕ) (at : ℕ) → length s ≤ at → emptyAt (length s) ≡ nextWord s at
 unfolding nextWord wordsAt
 next-past s at h = rw (drop-of-length-le s {i = at} h)
+
+-- ---- the words from a place on, by the span that is found there
+abbrev pub wordsFrom : List ℕ → ℕ → List (List ℕ)
+wordsFrom s at = bytesOf (wordsAt at (drop at s))
+
+pub words-past : (s : List ℕ) (at : ℕ) → length s ≤ at → wordsFrom s at ≡ []
+unfolding wordsAt
+words-past s at h = rw (drop-of-length-le s {i = at} h)
+
+module _ (s : List ℕ) (at : ℕ) (w : Span) (within : at ≤ length s) (is : w ≡ nextWord s at) where
+  abbrev start : ℕ
+  start = at + spaces (drop at s)
+
+  abbrev end : ℕ
+  end = start + length (word (drop start s))
+
+  found : w ≡ span start end
+  found = is ∙ sym (next-found s at start end within refl refl)
+
+  starts-at : w .start ≡ start
+  starts-at = ap (λ (x : Span). x .start) found
+
+  ends-at : w .end ≡ end
+  ends-at = ap (λ (x : Span). x .end) found
+
+  pub next-none : w .start ≡ length s → wordsFrom s at ≡ []
+  next-none e = ap bytesOf (words-none s at start end within refl refl (sym starts-at ∙ e))
+
+  -- there is a word, and the others follow it
+  module _ (some : w .start ≡ length s → ⊥) where
+    before-end : start < length s
+    before-end = omega (arith, start-in s at start within refl, starts-at, some)
+
+    pub next-one : wordsFrom s at ≡ part s (w .start) (w .end) ∷ wordsFrom s (w .end)
+    unfolding part
+    next-one =
+        let n : end - start ≡ length (word (drop start s)) = omega arith in
+        ap bytesOf (words-one s at start end within refl refl before-end) ∙ rw (starts-at, ends-at, n, word-front (drop start s))
+
+    pub next-in : w .end ≤ length s
+    next-in = omega (arith, ends-at, before-end, word-in (drop start s), length-drop start s)
+
+    pub next-further : at < w .end
+    next-further = omega (arith, ends-at, word-go s start before-end (start-stops s at start within refl before-end))

@@ -1,18 +1,19 @@
--- Every byte of a server id or a user id is one of 'A' to 'Z' or '0' to '9'. Assumes nothing.
-use mathlib.Core.Path.{_≡_, sym, ap, _∙_}
-use mathlib.Core.Bool.{Bool, true, _&&_}
-use mathlib.Core.List.{List}
+-- Laws of server ids and user ids: how long they are, that every byte of them is one of 'A' to 'Z' or '0' to '9' and so no SPACE, and that a user id begins
+-- with a digit, and so with no mark. Assumes nothing.
 use Prim.Native.Nat.{ℕ, _+_}
+use mathlib.Core.Path.{_≡_, refl, sym, ap, _∙_}
+use mathlib.Core.Bool.{Bool, true, false, true≢false, _&&_}
+use mathlib.Core.List.{List, [], _∷_}
 use native.Mathlib.Omega.{arith}
 use lib.ListN.{length, take, drop, getD, take-append-drop}
 use lib.Dec.{eqb}
-use borrow.Author.Tests.{eqb-true}
-use Rattle.octets.specs.Bytes.{within, isDigit, isIdByte}
-use Rattle.octets.specs.Lists.{all}
-use Rattle.octets.proofs.Bools.{and-left, and-right}
-use Rattle.octets.proofs.Lists.{drop-step, all-cons, all-append, all-imp}
-use Rattle.octets.proofs.Clean.{digit-id}
-use Rattle.names.specs.Names.{userIdLength, serverIdLength, isServerId, isUserId}
+use borrow.Author.Tests.{ne-eqb, eqb-true}
+use Rattle.octets.specs.Bytes.{within, isNonSpace, isDigit, isIdByte}
+use Rattle.octets.specs.Lists.{all, isNil, startsWith}
+use Rattle.octets.proofs.Bools.{and-left, and-right, and-three}
+use Rattle.octets.proofs.Lists.{drop-step, all-head, all-cons, all-append, all-imp}
+use Rattle.octets.proofs.Clean.{digit-id, id-clean}
+use Rattle.names.specs.Names.{serverIdLength, userIdLength, isServerId, isUserId}
 
 letter-id : (b : ℕ) → within 65 b 90 ≡ true → isIdByte b ≡ true
 unfolding isIdByte
@@ -22,21 +23,56 @@ letter-id b h = rw h
 joined : (p : ℕ → Bool) (n : ℕ) (s : List ℕ) → all p (take n s) ≡ true → all p (drop n s) ≡ true → all p s ≡ true
 joined p n s h k = ap (all p) (sym (take-append-drop n s)) ∙ all-append p (take n s) (drop n s) h k
 
-pub server-bytes : (id : List ℕ) → isServerId id ≡ true → all isIdByte id ≡ true
+-- ---- server ids
+pub no-server-id : isServerId [] ≡ false
 unfolding isServerId
-server-bytes id h =
-    let k = and-right (eqb (length id) serverIdLength) (all isDigit (take 1 id) && all isIdByte (drop 1 id)) h in
-    joined isIdByte 1 id (all-imp isDigit isIdByte digit-id (take 1 id) (and-left (all isDigit (take 1 id)) (all isIdByte (drop 1 id)) k)) (and-right (all isDigit (take 1 id)) (all isIdByte (drop 1 id)) k)
+no-server-id = refl
 
-pub user-bytes : (id : List ℕ) → isUserId id ≡ true → all isIdByte id ≡ true
+module _ (id : List ℕ) (h : isServerId id ≡ true) where
+  server-parts : (all isDigit (take 1 id) ≡ true) × (all isIdByte (drop 1 id) ≡ true)
+  unfolding isServerId
+  server-parts = let p = and-three (eqb (length id) serverIdLength) (all isDigit (take 1 id)) (all isIdByte (drop 1 id)) h in (p .1, p .2)
+
+  pub server-bytes : all isIdByte id ≡ true
+  server-bytes = joined isIdByte 1 id (all-imp isDigit isIdByte digit-id (take 1 id) (server-parts .0)) (server-parts .1)
+
+-- ---- user ids
+pub no-user-id : isUserId [] ≡ false
 unfolding isUserId
-user-bytes id h =
-    let server : Bool = isServerId (take serverIdLength id) in
-    let letter : Bool = within 65 (getD id serverIdLength 0) 90 in
-    let others : Bool = all isIdByte (drop (serverIdLength + 1) id) in
-    let n : length id ≡ userIdLength = eqb-true (length id) userIdLength (and-left (eqb (length id) userIdLength) (server && (letter && others)) h) in
-    let k = and-right (eqb (length id) userIdLength) (server && (letter && others)) h in
-    let l = and-right server (letter && others) k in
-    joined isIdByte serverIdLength id (server-bytes (take serverIdLength id) (and-left server (letter && others) k))
-    (ap (all isIdByte) (drop-step id serverIdLength 0 (omega arith))
-    ∙ all-cons isIdByte (getD id serverIdLength 0) (drop (serverIdLength + 1) id) (letter-id (getD id serverIdLength 0) (and-left letter others l)) (and-right letter others l))
+no-user-id = refl
+
+module _ (id : List ℕ) (h : isUserId id ≡ true) where
+  abbrev letter : ℕ
+  letter = getD id serverIdLength 0
+
+  abbrev rest : List ℕ
+  rest = drop (serverIdLength + 1) id
+
+  pub user-length : length id ≡ userIdLength
+  unfolding isUserId
+  user-length = eqb-true (length id) userIdLength (and-left (eqb (length id) userIdLength) _ h)
+
+  user-parts : (isServerId (take serverIdLength id) ≡ true) × (within 65 letter 90 ≡ true) × (all isIdByte rest ≡ true)
+  unfolding isUserId
+  user-parts =
+      and-three (isServerId (take serverIdLength id)) (within 65 letter 90) (all isIdByte rest)
+      (and-right (eqb (length id) userIdLength) (isServerId (take serverIdLength id) && (within 65 letter 90 && all isIdByte rest)) h)
+
+  pub user-bytes : all isIdByte id ≡ true
+  user-bytes =
+      joined isIdByte serverIdLength id (server-bytes (take serverIdLength id) (user-parts .0))
+      (ap (all isIdByte) (drop-step id serverIdLength 0 (omega (arith, user-length))) ∙ all-cons isIdByte letter rest (letter-id letter (user-parts .1)) (user-parts .2))
+
+  pub user-solid : all isNonSpace id ≡ true
+  user-solid = all-imp isIdByte isNonSpace (λ b k. id-clean b k .1) id user-bytes
+
+pub user-some : (id : List ℕ) → isUserId id ≡ true → isNil id ≡ false
+user-some [] h = absurd (true≢false (sym h ∙ no-user-id))
+user-some (b ∷ s) h = refl
+
+pub user-unmarked : (id : List ℕ) (mark : ℕ) → isUserId id ≡ true → isDigit mark ≡ false → startsWith mark id ≡ false
+unfolding startsWith
+user-unmarked [] mark h k = refl
+user-unmarked (b ∷ s) mark h k =
+    let d = all-head isDigit b [] (server-parts (take serverIdLength (b ∷ s)) (user-parts (b ∷ s) h .0) .0) in
+    ne-eqb b mark (λ e. true≢false (sym d ∙ ap isDigit e ∙ k))

@@ -2,7 +2,7 @@
 -- stay so, are united in one pass, and take an entry from the end. Assumes nothing.
 use Prim.Native.Nat.{ℕ, zero, suc, _+_, _≤_, _<_}
 use mathlib.Core.Path.{_≡_, refl, sym, ap, _∙_}
-use mathlib.Core.Bool.{Bool, true, true≢false}
+use mathlib.Core.Bool.{Bool, true, false, true≢false}
 use mathlib.Core.List.{List, [], _∷_, _++_}
 use native.Mathlib.Numerals.{add-one}
 use native.Mathlib.Omega.{arith}
@@ -10,7 +10,7 @@ use lib.ListN.{length, take, drop, getD}
 use Rattle.octets.specs.declared.Order.{Order}
 use Rattle.octets.specs.declared.Order.the-variants.{Less, Same, More}
 use Rattle.octets.specs.Order.{compare}
-use Rattle.octets.specs.Lists.{all}
+use Rattle.octets.specs.Lists.{all, isNil}
 use Rattle.octets.specs.Ascending.{Kind, isLess, insert, put, unite, ascends}
 use Rattle.octets.proofs.Bools.{and-left, and-right}
 use Rattle.octets.proofs.Lists.{all-head, all-tail, all-cons}
@@ -209,6 +209,11 @@ module _ {E P : Type 0} (K : Kind E P) where
   unfolding unite
   unite-few a [] = omega arith
   unite-few a (e ∷ b) = omega (arith, put-few e a, unite-few (put K e a) b)
+
+  pub unite-some : (a b : List E) → isNil b ≡ false → 1 ≤ length (unite K a b)
+  unfolding unite
+  unite-some a [] h = absurd (true≢false h)
+  unite-some a (e ∷ b) h = omega (arith, put-some e a, length-unite-left (put K e a) b)
 
 -- ---- what holds of entries holds of those that are joined from them
 module _ {E P : Type 0} (K : Kind E P) (p : E → Bool) (add : (e d : E) → p e ≡ true → p d ≡ true → p (joined K e d) ≡ true) where

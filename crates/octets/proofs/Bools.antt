@@ -1,6 +1,9 @@
--- Laws of `&&`, and of two tests that imply or equal each other. Assumes nothing.
+-- Laws of `&&`, `||` and `not`, and of two tests that imply or equal each other. Assumes nothing.
+use Prim.Native.Nat.{ℕ}
 use mathlib.Core.Path.{_≡_, refl, sym}
-use mathlib.Core.Bool.{Bool, true, false, true≢false, _&&_, Bool·beq}
+use mathlib.Core.Bool.{Bool, true, false, true≢false, not, _&&_, _||_, Bool·beq}
+use lib.Dec.{eqb}
+use borrow.Author.Tests.{eq-eqb, eqb-true}
 
 pub and-left : (a b : Bool) → a && b ≡ true → a ≡ true
 and-left true b e = refl
@@ -22,11 +25,23 @@ and-swap true false true d = refl
 and-swap true false false d = refl
 and-swap false b c d = refl
 
+pub not-or : (a b : Bool) → not (a || b) ≡ not a && not b
+not-or true b = refl
+not-or false b = refl
+
+pub or-not : (a b : Bool) → (a || not b) ≡ not (not a && b)
+or-not true b = refl
+or-not false b = refl
+
 -- two tests that imply each other are equal
 pub both-ways : (a b : Bool) → (a ≡ true → b ≡ true) → (b ≡ true → a ≡ true) → a ≡ b
 both-ways true b f g = sym (f refl)
 both-ways false true f g = g refl
 both-ways false false f g = refl
+
+-- the test of equal numbers, turned
+pub eqb-swap : (x y : ℕ) → eqb x y ≡ eqb y x
+eqb-swap x y = both-ways (eqb x y) (eqb y x) (λ e. eq-eqb y x (sym (eqb-true x y e))) (λ e. eq-eqb x y (sym (eqb-true y x e)))
 
 -- the test of equal tests
 pub beq-says : (a b : Bool) → Bool·beq a b ≡ true → a ≡ b

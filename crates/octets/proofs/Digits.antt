@@ -155,7 +155,8 @@ digits-within = by-digits (λ (n : ℕ) (s : List ℕ). (k : ℕ) → n < 10 ^ s
     more n s h ih zero = λ l. absurd (omega arith)
     more n s h ih (suc k) = λ l. omega (arith, length-append s (lastDigit n), ih k (omega (arith, pow-suc 10 (suc k))))
 
-pub digits-ten : (n : ℕ) → n ≤ 4294967295 → length (digitsOf n) ≤ 10
+-- one of 32 bits has ten at most
+pub digits-ten : (n : ℕ) → n < 2 ^ 32 → length (digitsOf n) ≤ 10
 digits-ten n h = digits-within n 9 (omega arith)
 
 -- ---- numbers up to a limit

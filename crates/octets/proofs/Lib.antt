@@ -1,6 +1,7 @@
 -- Laws that the crates above cite.
 pub mod Bools
 pub mod Lists
+pub mod Bounded
 pub mod Elements
 pub mod Bytes
 pub mod Ordered

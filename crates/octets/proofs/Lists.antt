@@ -6,7 +6,7 @@ use Prim.Native.Nat.{ℕ, zero, suc, _+_, _-_, _≤_, _<_}
 use native.Mathlib.Numerals.{add-one}
 use native.Mathlib.Omega.{arith}
 use lib.ListN.{length, take, drop, getD, set, replicate, drop-of-length-le, length-append, length-take, length-drop, length-map, length-replicate, getD-replicate, List·getD-eq-default}
-use lib.Seq.{drop-cons, take-append-le, drop-append-le, take-append-seam, length-take-le, take-take, getD-take, getD-drop, ext-getD, sets}
+use lib.Seq.{take-suc, drop-cons, take-append-le, drop-append-le, take-append-seam, length-take-le, take-take, getD-take, getD-drop, ext-getD, sets}
 use lib.Dec.{eqb, ltb}
 use borrow.Author.Tests.{ne-eqb, ltb-true, ltb-false}
 use Rattle.octets.specs.Lists.{all, isNil, sameBy, padded}
@@ -16,6 +16,20 @@ use Rattle.octets.proofs.Bools.{and-left, and-right, and-intro}
 module _ {A : Type 0} where
   pub drop-step : (s : List A) (i : ℕ) (d : A) → i < length s → drop i s ≡ getD s i d ∷ drop (i + 1) s
   drop-step s i d h = rw (add-one, drop-cons s i d)
+
+  -- an element that stands at a place, and those behind it
+  module _ (s : List A) (i : ℕ) (x : A) (r : List A) (e : drop i s ≡ x ∷ r) where
+    pub drop-inside : i < length s
+    drop-inside = omega (arith, length-drop i s, ap (λ (l : List A). length l) e)
+
+    abbrev split : getD s i x ∷ drop (i + 1) s ≡ x ∷ r
+    split = sym (drop-step s i x drop-inside) ∙ e
+
+    pub drop-next : drop (i + 1) s ≡ r
+    drop-next = ap (λ (l : List A). drop 1 l) split
+
+    pub take-next : take (i + 1) s ≡ take i s ++ (x ∷ [])
+    take-next = rw (add-one i, take-suc s i x drop-inside) (ap (λ (l : List A). take i s ++ (getD l 0 x ∷ [])) split)
 
   -- inside a list the default of `getD` doesn't matter
   pub getD-any : (l : List A) (k : ℕ) (d e : A) → k < length l → getD l k d ≡ getD l k e

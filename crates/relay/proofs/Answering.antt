@@ -1,5 +1,5 @@
 -- The answer to a line, and what is written, by whether a rule refuses it. Assumes nothing.
-use mathlib.Core.Path.{_≡_, sym, ap, _∙_}
+use mathlib.Core.Path.{_≡_, ap, _∙_}
 use mathlib.Core.Bool.{true}
 use mathlib.Core.List.{List, []}
 use Prim.Native.Nat.{ℕ, _≤_}
@@ -17,7 +17,7 @@ use Rattle.table.specs.Table.{goodTable}
 use Rattle.table.proofs.WellFormed.{slots-good}
 use Rattle.relay.specs.declared.Change.{Change}
 use Rattle.relay.specs.declared.Taken.{Taken}
-use Rattle.relay.specs.Relay.{commandIn, takenRules, processRules, slotsBy, relayed, withSlots, refused, processAnswer, sent}
+use Rattle.relay.specs.Relay.{commandIn, takenRules, processRules, relayed, withSlots, refused, processAnswer, sent}
 use Rattle.relay.specs.Private.{Changes, slotsWith, sendRules, sendLine}
 use Rattle.relay.proofs.Enacted.{enacted-slots, enacted-line, enacted-rules}
 

@@ -1,7 +1,7 @@
 -- What is made of the judgement of a line that no rule refuses: the slots after, and the line that goes out, which nothing keeps from being written.
 -- Assumes nothing.
-use mathlib.Core.Path.{_≡_, refl, sym, ap, _∙_}
-use mathlib.Core.Bool.{Bool, true, false}
+use mathlib.Core.Path.{_≡_, refl, ap, _∙_}
+use mathlib.Core.Bool.{true}
 use mathlib.Core.List.{List}
 use Prim.Native.Nat.{ℕ, _≤_}
 use native.Mathlib.Omega.{arith}
@@ -17,7 +17,7 @@ use Rattle.writer.specs.Form.{written}
 use Rattle.writer.specs.Writing.{forwardRules, forwarded}
 use Rattle.channel.specs.declared.Record.{Record}
 use Rattle.channel.specs.Channel.{Channel}
-use Rattle.channel.specs.Record.{encode, decode}
+use Rattle.channel.specs.Record.{decode}
 use Rattle.channel.proofs.Proper.{proper-fits}
 use Rattle.channel.proofs.Records.{decode-encode}
 use Rattle.table.specs.Table.{goodSlot}
@@ -28,7 +28,7 @@ use Rattle.relay.specs.declared.Command.{Command}
 use Rattle.relay.specs.declared.Command.the-variants.{Sjoin, Part, Quit, Unknown}
 use Rattle.relay.specs.declared.Change.{Change}
 use Rattle.relay.specs.Commands.{sourceIn}
-use Rattle.relay.specs.Relay.{resulting, joined, outgoing, parted, commandRules, slotsAfter, messageAfter, commandIn, takenRules, slotsBy, relayed}
+use Rattle.relay.specs.Relay.{resulting, joined, outgoing, parted, slotsAfter, messageAfter, commandIn, takenRules, slotsBy, relayed}
 use Rattle.relay.specs.Private.{Changes, slotsWith, sendRules, sendLine}
 use Rattle.relay.proofs.Relayed.{rules-none, join-none, relayed-reads}
 use Rattle.relay.proofs.Taking.{result-proper}

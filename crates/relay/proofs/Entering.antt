@@ -3,9 +3,8 @@ use mathlib.Core.Path.{_≡_, refl, sym, ap, _∙_}
 use mathlib.Core.Bool.{Bool, true, false, _&&_}
 use mathlib.Core.List.{List}
 use Prim.Native.Nat.{ℕ, _≤_, _<_, _^_}
-use lib.Dec.{ltb}
 use borrow.Author.Tests.{lt-ltb, le-ltb, ltb-false}
-use Rattle.refusal.specs.Numbers.{accepted, notWellFormed, outputTooShort, badLink}
+use Rattle.refusal.specs.Numbers.{notWellFormed, outputTooShort, badLink}
 use Rattle.refusal.specs.Rules.{firstOf}
 use Rattle.refusal.proofs.Rules.{append-some, append-none}
 use Rattle.octets.specs.Bits.{hasBit}

@@ -6,14 +6,13 @@ use mathlib.Core.Option.{Option, some, none, Option·getD}
 use Prim.Native.Nat.{ℕ, _≤_, _<_}
 use native.Mathlib.Omega.{arith}
 use lib.ListN.{length, getD}
-use lib.Dec.{eqb}
-use borrow.Author.Tests.{eqb-true, le-leb, lt-leb}
+use borrow.Author.Tests.{le-leb, lt-leb}
 use Rattle.refusal.specs.Numbers.{accepted, wrongParamCount, badSource, badName, noSuchChannel, notOnChannel}
 use Rattle.refusal.specs.Rules.{firstOf}
 use Rattle.octets.specs.Lists.{padded}
-use Rattle.octets.proofs.Bools.{and-left}
 use Rattle.octets.proofs.Lists.{padded-whole}
 use Rattle.names.specs.Names.{userIdLength, isChannel, isUserId}
+use Rattle.names.proofs.Ids.{no-user-id, user-length}
 use Rattle.message.specs.Content.{Content}
 use Rattle.channel.specs.declared.Record.{Record}
 use Rattle.channel.specs.Members.{hasMember}
@@ -30,13 +29,9 @@ use Rattle.relay.specs.Private.{PartsHeld, Judged}
 -- ---- the source
 -- a missing prefix is the empty one, which is no user id
 user-is : (p : Option (List ℕ)) → isUserId (Option·getD p []) ≡ isUser p
-unfolding isUser isUserId
-user-is none = refl
+unfolding isUser
+user-is none = no-user-id
 user-is (some p) = refl
-
-user-length : (id : List ℕ) → isUserId id ≡ true → length id ≡ userIdLength
-unfolding isUserId
-user-length id h = eqb-true (length id) userIdLength (and-left (eqb (length id) userIdLength) _ h)
 
 module _ (c : Content) (bytes : List ℕ) (is : bytes ≡ sourceIn c) where
   pub user-told : (r t : Bool) → r ≡ isUserId bytes → r ≡ t → isUser (c .prefix) ≡ t

@@ -1,20 +1,17 @@
 -- What an incoming channel comes to in the slot that its name uses: it is merged into the record that is there, or opens the lowest free slot, or finds
 -- none. Assumes nothing.
-use mathlib.Core.Path.{_≡_, refl, sym, ap, _∙_}
-use mathlib.Core.Bool.{Bool, true, false, cond}
+use mathlib.Core.Path.{_≡_, sym, ap, _∙_}
+use mathlib.Core.Bool.{true}
 use mathlib.Core.List.{List, _++_}
 use Prim.Native.Nat.{ℕ, _<_}
 use native.Mathlib.Omega.{arith}
 use lib.ListN.{length, getD}
-use lib.Dec.{eqb}
-use borrow.Author.Tests.{eq-eqb, le-ltb}
+use borrow.Author.Tests.{le-ltb}
 use Rattle.refusal.specs.Numbers.{accepted, noFreeSlot}
 use Rattle.refusal.specs.Rules.{firstOf}
 use Rattle.refusal.proofs.Rules.{append-some, append-none}
 use Rattle.octets.specs.Lists.{all}
 use Rattle.octets.specs.Room.{part}
-use Rattle.octets.proofs.Lists.{all-at}
-use Rattle.names.specs.Fold.{sameName}
 use Rattle.message.specs.Content.{Content}
 use Rattle.message.specs.Reading.{isRead, contentOf}
 use Rattle.channel.specs.declared.Record.{Record}
@@ -22,7 +19,6 @@ use Rattle.channel.specs.declared.Merged.{Merged}
 use Rattle.channel.specs.Limits.{memberLimit, slotCount}
 use Rattle.channel.specs.Channel.{Channel}
 use Rattle.channel.specs.Record.{encode, decode, emptyRecord}
-use Rattle.channel.specs.WellFormed.{wellFormed}
 use Rattle.channel.specs.Merging.{merge, mergeRules, mergeAnswer}
 use Rattle.channel.proofs.Decoded.{decoded-name}
 use Rattle.channel.proofs.Proper.{Proper, proper-fits, encode-well}

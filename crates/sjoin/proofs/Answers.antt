@@ -21,6 +21,7 @@ use Rattle.channel.specs.declared.Roster.{Roster}
 use Rattle.channel.specs.Limits.{keyLimit, memberLimit}
 use Rattle.channel.specs.Record.{nobody, encode}
 use Rattle.channel.specs.Members.{roster, ordered}
+use Rattle.message.specs.declared.Message.{Message}
 use Rattle.message.specs.Grammar.{lineLimit}
 use Rattle.message.specs.Content.{Content}
 use Rattle.message.specs.Parts.{emptyAt}
@@ -32,6 +33,7 @@ use Rattle.sjoin.specs.declared.Told.{Told}
 use Rattle.sjoin.specs.Modes.{keyLetter, limitLetter, modesByte, argumentOf}
 use Rattle.sjoin.specs.Entries.{memberOf, named}
 use Rattle.sjoin.specs.Join.{timeIn, nameIn, modesIn, listIn, argumentsIn, fewest, most, goodCount, joinRules, channelIn, joinNumber, refusedBy, toldBy}
+use Rattle.sjoin.specs.Scan.{Parted}
 use Rattle.sjoin.proofs.Joined.{passes}
 
 -- ---- the count of parameters
@@ -48,12 +50,17 @@ module _ (line : List ℕ) (last : ℕ) (count : length (contentOf line .params)
   list-at = ap (λ (n : ℕ). getD (contentOf line .params) n []) (omega (arith, count))
 
   module _ (none : firstOf (joinRules (contentOf line)) ≡ accepted) where
-    pub last-from : 3 ≤ last
-    last-from = omega (arith, bounds (contentOf line) none .0, count)
+    pub parted : (m : Message) → m ≡ messageOf line → Parted line m last
+    parted m e = record {
+      spans = e;
+      behind = omega (arith, bounds (contentOf line) none .0, count);
+      room = omega (arith, bounds (contentOf line) none .1, count);
+      count = count;
+    }
 
     pub list-small : length line ≤ lineLimit → length (listIn (contentOf line)) ≤ lineLimit
     list-small h =
-        let n = placed-length line _ _ (param-at line (messageOf line) refl last (emptyAt (length line)) (omega (arith, bounds (contentOf line) none .1, count))) in
+        let n = placed-length line _ _ (param-at line (messageOf line) refl last (emptyAt (length line)) (parted (messageOf line) refl .room)) in
         omega (arith, ap (λ (l : List ℕ). length l) list-at, n, h)
 
 -- ---- its members in order

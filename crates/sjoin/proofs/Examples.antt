@@ -1,8 +1,9 @@
--- Document 01's whole case, the line: what it says, as computed from the definitions. A witness for the premises of the theorems about lines that no rule
--- refuses. Assumes nothing.
+-- Document 01's whole case, the line: what it says, as computed from the definitions. Instances that meet the premises of this crate's laws, of a line that
+-- no rule refuses and of a channel that is told. Assumes nothing.
 use Prim.Native.Nat.{ℕ}
 use mathlib.Core.Path.{_≡_, refl}
-use mathlib.Core.List.{List, _∷_}
+use mathlib.Core.Bool.{true}
+use mathlib.Core.List.{List, [], _∷_}
 use Rattle.refusal.specs.Numbers.{accepted}
 use Rattle.refusal.specs.Rules.{firstOf}
 use Rattle.octets.specs.Bytes.{within, isPlain, isLetter, isDigit, isIdByte, isNameByte}
@@ -12,14 +13,19 @@ use Rattle.octets.specs.Ascending.{insert, put, unite}
 use Rattle.octets.specs.Decimals.{leadsWithZero, isDecimal, valueFrom}
 use Rattle.names.specs.Names.{isChannel, isServerId, isUserId}
 use Rattle.channel.specs.Modes.{withMode, placeAmong}
+use Rattle.channel.specs.WellFormed.{wellFormed}
 use Rattle.channel.proofs.Examples.{incoming, 1ab}
+use Rattle.channel.proofs.Witnesses.{second, second-in, proper}
 use Rattle.message.specs.Grammar.{word, spaces, prefix, prefixEnd, commandStart, command, commandEnd, isCommand, rest, params}
 use Rattle.message.specs.Content.{contentIn}
 use Rattle.message.specs.Words.{wordsAt}
 use Rattle.message.specs.Reading.{crlf, endsLine, bodyOf, bodyRules, lineRules, numberFor, isRead, contentOf}
 use Rattle.sjoin.specs.Modes.{once, goodLetters, modesByte, parametered, goodArguments, argumentOf, goodModes}
 use Rattle.sjoin.specs.Entries.{past, idOf, statusOf, isEntry, memberOf, goodEntries}
-use Rattle.sjoin.specs.Join.{argumentsIn, isSource, goodCount, goodTime, joinRules, channelIn, joinNumber}
+use Rattle.sjoin.specs.Join.{argumentsIn, isSource, goodCount, goodTime, joinRules, channelIn, joinNumber, toldBy}
+use Rattle.sjoin.specs.Telling.{sjoin, joinMessage}
+use Rattle.sjoin.proofs.Wellformed.{line-well}
+use Rattle.sjoin.proofs.Back.{channel-back, rules-back}
 
 -- `:1AB SJOIN 1200 #race +nt :@1ABAAAAAA 1ABAAAAAB`
 line : List ℕ
@@ -33,3 +39,18 @@ line-taken = refl
 line-tells : channelIn (contentOf line) ≡ incoming
 unfolding line incoming 1ab channelIn argumentsIn argumentOf parametered modesByte withMode placeAmong valueFrom memberOf idOf statusOf past wordsAt insert put unite compare contentOf contentIn isRead numberFor lineRules bodyRules firstOf endsLine sameBy bodyOf all isPlain startsWith prefix word prefixEnd commandStart spaces command isCommand isLetter within commandEnd rest params
 line-tells = refl
+
+-- ---- the law of a line that no rule refuses
+line-holds : wellFormed (toldBy line .«record») ≡ true
+line-holds = line-well line line-taken
+
+-- ---- the laws of a channel that is told: one with key, limit and a status, by 1AB
+abbrev sid : List ℕ
+sid = 49 ∷ 65 ∷ 66 ∷ []
+
+second-back : channelIn (joinMessage sid second) ≡ second
+second-back = channel-back second (proper second second-in) sid sjoin
+
+second-taken : accepted ≡ firstOf (joinRules (joinMessage sid second))
+unfolding isServerId isDigit isIdByte all within
+second-taken = rules-back second (proper second second-in) sid sjoin refl

@@ -1,32 +1,27 @@
--- What is known of a line that no rule refuses: each test is passed, key and limit fit, and the list has room. Assumes nothing.
-use Prim.Native.Nat.{ℕ, suc, _+_, _*_, _≤_}
-use mathlib.Core.Path.{_≡_, refl, sym}
-use mathlib.Core.Bool.{Bool, true, false, not, true≢false}
+-- What is known of a line that no rule refuses: each test is passed, and key and limit fit their letters. Assumes nothing.
+use Prim.Native.Nat.{ℕ, _≤_}
+use mathlib.Core.Path.{_≡_, refl, sym, ap, _∙_}
+use mathlib.Core.Bool.{Bool, true, false, true≢false, _&&_}
 use mathlib.Core.Logic.{_⊎_, inl, inr}
 use mathlib.Core.List.{List, [], _∷_}
 use native.Mathlib.Omega.{arith}
-use lib.ListN.{length, getD, length-map, length-drop}
-use lib.Dec.{eqb, leb}
-use borrow.Author.Tests.{not-false, eqb-true, leb-true, le-leb}
+use lib.ListN.{length, getD}
+use lib.Dec.{eqb}
+use borrow.Author.Tests.{not-false, eqb-true}
 use Rattle.refusal.specs.Numbers.{accepted}
 use Rattle.refusal.specs.Rules.{firstOf}
 use Rattle.refusal.proofs.Rules.{first-none}
-use Rattle.octets.specs.Bytes.{space}
-use Rattle.octets.specs.Lists.{all, isNil, startsWith}
+use Rattle.octets.specs.Lists.{all}
 use Rattle.octets.specs.Decimals.{isDecimal, valueFrom, valueOf}
 use Rattle.octets.proofs.Bools.{and-left, and-right}
-use Rattle.octets.proofs.Lists.{all-head, all-tail, all-imp}
-use Rattle.names.specs.Names.{isChannel, userIdLength}
-use Rattle.channel.specs.Limits.{keyLimit, memberLimit}
+use Rattle.names.specs.Names.{isChannel}
+use Rattle.channel.specs.Limits.{keyLimit}
 use Rattle.channel.specs.Modes.{placeAmong}
 use Rattle.channel.proofs.Keys.{key-length}
-use Rattle.message.specs.Grammar.{Part, word, lineLimit}
-use Rattle.message.specs.Content.{Content, bytesOf}
-use Rattle.message.specs.Words.{wordsAt, afterWord, wordsOf}
-use Rattle.sjoin.specs.Modes.{plus, keyLetter, limitLetter, lettersOf, parametered, isLimit, limitIn, goodLetters, goodArgument, goodArguments, argumentOf, goodModes}
-use Rattle.sjoin.specs.Entries.{at, past, idOf, isEntry, goodEntries}
+use Rattle.message.specs.Content.{Content}
+use Rattle.sjoin.specs.Modes.{keyLetter, limitLetter, lettersOf, lacks, hasParameter, parametered, isLimit, limitIn, goodLetters, goodArgument, goodArguments, argumentOf, goodModes}
+use Rattle.sjoin.specs.Entries.{goodEntries}
 use Rattle.sjoin.specs.Join.{timeIn, nameIn, modesIn, listIn, argumentsIn, isSource, goodCount, goodTime, joinRules}
-use Rattle.sjoin.proofs.Listed.{entry-long}
 
 -- ---- each test is passed
 pub record Passes (c : Content) : Type 0 where
@@ -58,89 +53,51 @@ passes c e =
       list = not-false _ (i .0);
     }
 
--- ---- a letter's parameter is missing, or good
-fitting : (s : List ℕ) (args : List (List ℕ)) (letter : ℕ) → goodArguments s args ≡ true → (getD args (placeAmong s letter) [] ≡ []) ⊎ (goodArgument letter (getD args (placeAmong s letter) []) ≡ true)
-unfolding goodArguments placeAmong
-fitting [] [] letter h = inl refl
-fitting [] (a ∷ args) letter h = absurd (true≢false (sym h))
-fitting (x ∷ s) [] letter h = absurd (true≢false (sym h))
-fitting (x ∷ s) (a ∷ args) letter h = go (eqb x letter) refl (fitting s args letter (and-right (goodArgument x a) (goodArguments s args) h))
-  where
-    go : (t : Bool) → eqb x letter ≡ t → (getD args (placeAmong s letter) [] ≡ []) ⊎ (goodArgument letter (getD args (placeAmong s letter) []) ≡ true)
-        → (getD (a ∷ args) (placeAmong (x ∷ s) letter) [] ≡ []) ⊎ (goodArgument letter (getD (a ∷ args) (placeAmong (x ∷ s) letter) []) ≡ true)
-    go true e ih = rw e (inr (rw (sym (eqb-true x letter e)) (and-left (goodArgument x a) (goodArguments s args) h)))
-    go false e ih = rw e ih
+-- ---- a letter that is missing has no parameter, and one that is there a good one
+abbrev pub Given : ℕ → List ℕ → List ℕ → Type 0
+Given letter s a = ((lacks letter s ≡ true) × (a ≡ [])) ⊎ ((lacks letter s ≡ false) × (goodArgument letter a ≡ true))
 
-pub argument-good : (modes : List ℕ) (args : List (List ℕ)) (letter : ℕ) → goodModes modes args ≡ true → (argumentOf letter modes args ≡ []) ⊎ (goodArgument letter (argumentOf letter modes args) ≡ true)
+abbrev argument : ℕ → List ℕ → List (List ℕ) → List ℕ
+argument letter s args = getD args (placeAmong (parametered s) letter) []
+
+module _ (letter : ℕ) (has : hasParameter letter ≡ true) where
+  skip : (x : ℕ) (s args : List ℕ) → eqb x letter ≡ false → Given letter s args → Given letter (x ∷ s) args
+  unfolding all
+  skip x s a e (inl g) = inl (rw e (g .0), g .1)
+  skip x s a e (inr g) = inr (rw e (g .0), g .1)
+
+  other : (x : ℕ) → hasParameter x ≡ false → eqb x letter ≡ false
+  other x e = go (eqb x letter) refl
+    where
+      go : (t : Bool) → eqb x letter ≡ t → eqb x letter ≡ false
+      go true f = absurd (true≢false (sym has ∙ ap hasParameter (sym (eqb-true x letter f)) ∙ e))
+      go false f = f
+
+  given : (s : List ℕ) (args : List (List ℕ)) → goodArguments (parametered s) args ≡ true → Given letter s (argument letter s args)
+  unfolding all parametered goodArguments placeAmong
+  given [] [] h = inl (refl, refl)
+  given [] (a ∷ args) h = absurd (true≢false (sym h))
+  given (x ∷ s) args h = go (hasParameter x) refl args h (λ l k. given s l k)
+    where
+      found : (a : List ℕ) (args : List (List ℕ)) (t : Bool) → eqb x letter ≡ t → hasParameter x ≡ true → goodArgument x a && goodArguments (parametered s) args ≡ true → Given letter s (argument letter s args) → Given letter (x ∷ s) (argument letter (x ∷ s) (a ∷ args))
+      found a args true e f g ih = rw (f, e) (inr (refl, rw (sym (eqb-true x letter e)) (and-left (goodArgument x a) (goodArguments (parametered s) args) g)))
+      found a args false e f g ih = rw (f, e) ih
+
+      go : (t : Bool) → hasParameter x ≡ t → (args : List (List ℕ)) → goodArguments (parametered (x ∷ s)) args ≡ true → ((l : List (List ℕ)) → goodArguments (parametered s) l ≡ true → Given letter s (argument letter s l)) → Given letter (x ∷ s) (argument letter (x ∷ s) args)
+      go true e [] g rec = absurd (true≢false (sym (rw e at g)))
+      go true e (a ∷ args) g rec = let k = rw e at g in found a args (eqb x letter) refl e k (rec args (and-right (goodArgument x a) (goodArguments (parametered s) args) k))
+      go false e args g rec = rw e (skip x s (argument letter s args) (other x e) (rec args (rw e at g)))
+
+pub argument-given : (modes : List ℕ) (args : List (List ℕ)) (letter : ℕ) → hasParameter letter ≡ true → goodModes modes args ≡ true → Given letter (lettersOf modes) (argumentOf letter modes args)
 unfolding goodModes argumentOf
-argument-good modes args letter h = fitting (parametered (lettersOf modes)) args letter (and-right (goodLetters modes) (goodArguments (parametered (lettersOf modes)) args) h)
+argument-given modes args letter has h = given letter has (lettersOf modes) args (and-right (goodLetters modes) (goodArguments (parametered (lettersOf modes)) args) h)
 
-pub key-short : (k : List ℕ) → (k ≡ []) ⊎ (goodArgument keyLetter k ≡ true) → length k ≤ keyLimit
+pub key-short : (s k : List ℕ) → Given keyLetter s k → length k ≤ keyLimit
 unfolding goodArgument
-key-short k (inl e) = rw e (omega arith)
-key-short k (inr h) = key-length k h
+key-short s k (inl g) = rw (g .1) (omega arith)
+key-short s k (inr g) = key-length k (g .1)
 
-pub limit-read : (s : List ℕ) → (s ≡ []) ⊎ (goodArgument limitLetter s ≡ true) → limitIn s ≡ valueOf s
+pub limit-read : (s l : List ℕ) → Given limitLetter s l → limitIn l ≡ valueOf l
 unfolding goodArgument limitIn isLimit isDecimal valueFrom
-limit-read s (inl e) = rw e
-limit-read s (inr h) = rw h
-
--- ---- entries take ten bytes each, but for the last one's SPACE
-abbrev long : List ℕ → Bool
-long w = leb userIdLength (length w)
-
-past-short : (mark : ℕ) (s : List ℕ) → length (past mark s) ≤ length s
-unfolding past
-past-short mark s = go (startsWith mark s) refl
-  where
-    go : (t : Bool) → startsWith mark s ≡ t → length (past mark s) ≤ length s
-    go true e = rw e (omega (arith, length-drop 1 s))
-    go false e = rw e (omega arith)
-
-entry-takes : (e : List ℕ) → isEntry e ≡ true → long e ≡ true
-unfolding idOf
-entry-takes e h = le-leb userIdLength (length e) (omega (arith, entry-long e h, past-short plus (past at e), past-short at e))
-
-words-step : (b : ℕ) (s : List ℕ) (at : ℕ) → (all long (bytesOf (wordsAt (at + 1) s)) ≡ true → 10 * length (wordsAt (at + 1) s) ≤ length s + 1)
-    → (all long (bytesOf (afterWord (at + 1) s)) ≡ true → length (word s) + 10 * length (afterWord (at + 1) s) ≤ length s)
-    → all long (bytesOf (wordsAt at (b ∷ s))) ≡ true → 10 * length (wordsAt at (b ∷ s)) ≤ length (b ∷ s) + 1
-unfolding wordsAt
-words-step b s at f g = go (eqb b space) refl
-  where
-    go : (t : Bool) → eqb b space ≡ t → all long (bytesOf (wordsAt at (b ∷ s))) ≡ true → 10 * length (wordsAt at (b ∷ s)) ≤ length (b ∷ s) + 1
-    go true e h = rw e (omega (arith, f (rw e at h)))
-    go false e h =
-        let k = rw e at h in
-        let i = leb-true userIdLength (suc (length (word s))) (all-head long (b ∷ word s) _ k) in
-        let j = g (all-tail long (b ∷ word s) _ k) in
-        rw e (omega (arith, i, j))
-
-after-step : (b : ℕ) (s : List ℕ) (at : ℕ) → (all long (bytesOf (wordsAt (at + 1) s)) ≡ true → 10 * length (wordsAt (at + 1) s) ≤ length s + 1)
-    → (all long (bytesOf (afterWord (at + 1) s)) ≡ true → length (word s) + 10 * length (afterWord (at + 1) s) ≤ length s)
-    → all long (bytesOf (afterWord at (b ∷ s))) ≡ true → length (word (b ∷ s)) + 10 * length (afterWord at (b ∷ s)) ≤ length (b ∷ s)
-unfolding wordsAt word
-after-step b s at f g = go (eqb b space) refl
-  where
-    go : (t : Bool) → eqb b space ≡ t → all long (bytesOf (afterWord at (b ∷ s))) ≡ true → length (word (b ∷ s)) + 10 * length (afterWord at (b ∷ s)) ≤ length (b ∷ s)
-    go true e h = rw e (omega (arith, f (rw e at h)))
-    go false e h = rw e (omega (arith, g (rw e at h)))
-
-mutual
-  unfolding wordsAt word
-
-  words-few : (s : List ℕ) (at : ℕ) → all long (bytesOf (wordsAt at s)) ≡ true → 10 * length (wordsAt at s) ≤ length s + 1
-  words-few [] at = λ h. omega arith
-  words-few (b ∷ s) at = words-step b s at (words-few s (at + 1)) (after-few s (at + 1))
-
-  after-few : (s : List ℕ) (at : ℕ) → all long (bytesOf (afterWord at s)) ≡ true → length (word s) + 10 * length (afterWord at s) ≤ length s
-  after-few [] at = λ h. omega arith
-  after-few (b ∷ s) at = after-step b s at (words-few s (at + 1)) (after-few s (at + 1))
-
-pub list-entries : (list : List ℕ) → goodEntries list ≡ true → all isEntry (wordsOf list) ≡ true
-unfolding goodEntries
-list-entries list h = and-right (not (isNil (wordsOf list))) (all isEntry (wordsOf list)) h
-
-pub list-room : (list : List ℕ) → goodEntries list ≡ true → length list ≤ lineLimit → length (wordsOf list) ≤ memberLimit
-list-room list h k =
-    let n = words-few list 0 (all-imp isEntry long entry-takes (wordsOf list) (list-entries list h)) in
-    omega (arith, n, length-map (wordsAt 0 list) (λ (p : Part). p .bytes))
+limit-read s l (inl g) = rw (g .1)
+limit-read s l (inr g) = rw (g .1)

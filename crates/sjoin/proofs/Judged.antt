@@ -14,6 +14,7 @@ use Rattle.octets.specs.declared.Decimal.the-variants.{Value, Malformed}
 use Rattle.octets.specs.Decimals.{isDecimal, valueOf, decimalUpTo}
 use Rattle.octets.proofs.Digits.{value-digits, decimal-digits, decimal-read, value-in}
 use Rattle.names.specs.Names.{isChannel, isServerId}
+use Rattle.names.proofs.Ids.{no-server-id}
 use Rattle.channel.specs.Limits.{timeLimit}
 use Rattle.message.specs.Content.{Content}
 use Rattle.sjoin.specs.Modes.{lettersOf, goodLetters, parametered, goodArguments, goodModes}
@@ -27,8 +28,8 @@ rules-ascend c = refl
 
 -- ---- a missing prefix is the empty one, which is no server id
 source-is : (p : Option (List ℕ)) → isServerId (Option·getD p []) ≡ isSource p
-unfolding isSource isServerId
-source-is none = refl
+unfolding isSource
+source-is none = no-server-id
 source-is (some p) = refl
 
 pub source-told : (p : Option (List ℕ)) (bytes : List ℕ) (r t : Bool) → bytes ≡ Option·getD p [] → r ≡ isServerId bytes → r ≡ t → isSource p ≡ t

@@ -1,14 +1,14 @@
 -- Laws of a limit's text: what the decimal reader answers is the limit, 0 standing for none. Assumes nothing.
 use Prim.Native.Nat.{ℕ, _≤_}
 use mathlib.Core.Path.{_≡_, refl}
-use mathlib.Core.Bool.{Bool, true, false, not, _&&_, and-false}
+use mathlib.Core.Bool.{Bool, true, false, not, and-false}
 use mathlib.Core.List.{List}
 use native.Mathlib.Omega.{arith}
 use lib.Dec.{eqb, leb}
 use borrow.Author.Tests.{ne-eqb, le-leb, leb-true, leb-false}
 use Rattle.octets.specs.declared.Decimal.the-variants.{Value, Malformed}
 use Rattle.octets.specs.Decimals.{isDecimal, valueOf, decimalUpTo, digitsOf}
-use Rattle.octets.proofs.Bools.{and-left, and-right}
+use Rattle.octets.proofs.Bools.{and-three}
 use Rattle.octets.proofs.Digits.{value-digits, decimal-digits, decimal-read, value-in}
 use Rattle.channel.specs.Limits.{limitLimit}
 use Rattle.sjoin.specs.Modes.{isLimit, limitIn}
@@ -37,16 +37,14 @@ limit-none s e = go (isDecimal s) refl (leb (valueOf s) limitLimit) refl
     go false f u g = rw f
 
 -- a limit is one that isn't 0
-limit-some : (s : List ℕ) → isLimit s ≡ true → 1 ≤ valueOf s
+pub limit-bounds : (s : List ℕ) → isLimit s ≡ true → (1 ≤ valueOf s) × (valueOf s ≤ limitLimit)
 unfolding isLimit
-limit-some s e =
-    let k = and-right (isDecimal s) (leb 1 (valueOf s) && leb (valueOf s) limitLimit) e in
-    leb-true 1 (valueOf s) (and-left (leb 1 (valueOf s)) (leb (valueOf s) limitLimit) k)
+limit-bounds s e = let t = and-three (isDecimal s) (leb 1 (valueOf s)) (leb (valueOf s) limitLimit) e in (leb-true 1 (valueOf s) (t .1), leb-true (valueOf s) limitLimit (t .2))
 
 pub limit-is : (s : List ℕ) → not (eqb (limitIn s) 0) ≡ isLimit s
 unfolding limitIn
 limit-is s = go (isLimit s) refl
   where
     go : (t : Bool) → isLimit s ≡ t → not (eqb (limitIn s) 0) ≡ isLimit s
-    go true e = rw (e, ne-eqb (valueOf s) 0 (λ z. omega (arith, limit-some s e)))
+    go true e = rw (e, ne-eqb (valueOf s) 0 (λ z. omega (arith, limit-bounds s e .0)))
     go false e = rw e

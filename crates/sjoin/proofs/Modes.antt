@@ -1,57 +1,43 @@
 -- Laws of mode letters: a byte of the modes seen so far tells whether a letter comes again, and their bits united are the modes' byte. Assumes nothing.
-use Prim.Native.Nat.{ℕ, suc, _+_, _^_, _≤_, _<_}
+use Prim.Native.Nat.{ℕ, _+_, _≤_, _<_}
 use mathlib.Core.Path.{_≡_, refl, sym, ap, _∙_}
-use mathlib.Core.Bool.{Bool, true, false, not, _&&_, _||_, and-false, and-true, and-assoc, and-comm}
+use mathlib.Core.Bool.{Bool, true, false, not, _&&_, and-false, and-true, and-assoc, and-comm}
 use mathlib.Core.List.{List, [], _∷_}
 use native.Mathlib.Omega.{arith}
 use lib.Bits.{bitOr, or-zero-l, or-zero-r}
 use lib.ListN.{length, drop, getD, drop-of-length-le}
-use lib.Dec.{eqb, ltb}
+use lib.Dec.{eqb}
 use borrow.Author.Tests.{eq-eqb, eqb-true, lt-ltb, le-ltb, ltb-true}
 use Rattle.octets.specs.Lists.{all, startsWith}
 use Rattle.octets.specs.Joins.{total}
-use Rattle.octets.proofs.Bools.{both-ways, and-swap}
+use Rattle.octets.proofs.Bools.{both-ways, and-swap, not-or}
 use Rattle.octets.proofs.Lists.{drop-step}
 use Rattle.octets.proofs.Joins.{joining-bits}
-use Rattle.channel.specs.Modes.{letters, modeCount, hasMode, withMode, placeAmong, modePlace}
-use Rattle.channel.proofs.Letters.{has-no-mode, has-with}
+use Rattle.channel.specs.Modes.{letters, modeCount, hasMode, withMode, modePlace}
+use Rattle.channel.proofs.Letters.{has-no-mode, has-with, with-union, place-found}
 use Rattle.sjoin.specs.Modes.{plus, isMode, lacks, once, goodLetters, modesByte}
 use Rattle.sjoin.specs.Scan.{fresh}
 
 -- ---- a letter's place
--- a letter that is among some stands at its place
-found : (s : List ℕ) (x : ℕ) → placeAmong s x < length s → getD s (placeAmong s x) 0 ≡ x
-unfolding placeAmong
-found [] x = λ h. absurd (omega arith)
-found (y ∷ s) x = go (eqb y x) refl (found s x)
-  where
-    go : (t : Bool) → eqb y x ≡ t → (placeAmong s x < length s → getD s (placeAmong s x) 0 ≡ x) → placeAmong (y ∷ s) x < length (y ∷ s) → getD (y ∷ s) (placeAmong (y ∷ s) x) 0 ≡ x
-    go true e ih h = rw e (eqb-true y x e)
-    go false e ih h = let q : placeAmong (y ∷ s) x ≡ suc (placeAmong s x) = rw e in rw e (ih (omega arith))
-
--- so a mode's place is no other letter's
+-- a mode's place is no other letter's
 pub same-place : (x y : ℕ) → isMode x ≡ true → eqb (modePlace y) (modePlace x) ≡ eqb y x
 same-place x y m =
     both-ways (eqb (modePlace y) (modePlace x)) (eqb y x)
     (λ e.
     let p : modePlace y ≡ modePlace x = eqb-true (modePlace y) (modePlace x) e in
     let h : modePlace x < 8 = ltb-true (modePlace x) modeCount m in
-    eq-eqb y x (sym (found letters y (omega arith)) ∙ ap (λ (k : ℕ). getD letters k 0) p ∙ found letters x h))
+    eq-eqb y x (sym (place-found letters y (omega arith)) ∙ ap (λ (k : ℕ). getD letters k 0) p ∙ place-found letters x h))
     (λ e. eq-eqb (modePlace y) (modePlace x) (ap modePlace (eqb-true y x e)))
 
 -- ---- letters that the byte doesn't have
 abbrev unseen : ℕ → List ℕ → Bool
 unseen seen s = all (λ x. not (hasMode seen (modePlace x))) s
 
-neither : (a b : Bool) → not (a || b) ≡ not a && not b
-neither true b = refl
-neither false b = refl
-
 unseen-with : (seen x : ℕ) → isMode x ≡ true → (s : List ℕ) → unseen (withMode seen (modePlace x)) s ≡ unseen seen s && lacks x s
 unfolding all
 unseen-with seen x m [] = refl
 unseen-with seen x m (y ∷ s) =
-    rw (unseen-with seen x m s, has-with seen (modePlace x) (modePlace y) (ltb-true (modePlace x) modeCount m), same-place x y m, neither (hasMode seen (modePlace y)) (eqb y x))
+    rw (unseen-with seen x m s, has-with seen (modePlace x) (modePlace y) (ltb-true (modePlace x) modeCount m), same-place x y m, not-or (hasMode seen (modePlace y)) (eqb y x))
     (and-swap (not (hasMode seen (modePlace y))) (not (eqb y x)) (unseen seen s) (lacks x s))
 
 none-seen : (s : List ℕ) → unseen 0 s ≡ true
@@ -107,14 +93,6 @@ module _ (s : List ℕ) (i seen : ℕ) where
 abbrev pub bits : List ℕ → ℕ
 bits s = total bitOr 0 (λ x. withMode 0 (modePlace x)) s
 
-with-bits : (m place : ℕ) → withMode m place ≡ bitOr m (withMode 0 place)
-unfolding withMode
-with-bits m place = go (ltb place modeCount) refl
-  where
-    go : (t : Bool) → ltb place modeCount ≡ t → withMode m place ≡ bitOr m (withMode 0 place)
-    go true e = rw (e, or-zero-l (2 ^ place))
-    go false e = rw e (sym (or-zero-r m))
-
 pub bits-first : (s : List ℕ) → bitOr 0 (bits (drop 1 s)) ≡ modesByte s
 unfolding modesByte
 bits-first s = or-zero-l (bits (drop 1 s))
@@ -123,4 +101,4 @@ pub bits-past : (s : List ℕ) (i m : ℕ) → length s ≤ i → bitOr m (bits 
 bits-past s i m h = rw (drop-of-length-le s {i = i} h) (or-zero-r m)
 
 pub bits-go : (s : List ℕ) (i m : ℕ) → i < length s → bitOr (withMode m (modePlace (getD s i 0))) (bits (drop (i + 1) s)) ≡ bitOr m (bits (drop i s))
-bits-go s i m h = rw (drop-step s i 0 h, with-bits m (modePlace (getD s i 0))) (joining-bits .assoc m (withMode 0 (modePlace (getD s i 0))) (bits (drop (i + 1) s)))
+bits-go s i m h = rw (drop-step s i 0 h, with-union m (modePlace (getD s i 0))) (joining-bits .assoc m (withMode 0 (modePlace (getD s i 0))) (bits (drop (i + 1) s)))

@@ -1,6 +1,6 @@
 -- What a line told, told again under a name as long and at a time that is no later, reads as the message that it is and is never longer than the line, since it
 -- is a good message (`Writable`) and takes up no more room (`Shorter`). Assumes nothing.
-use Prim.Native.Nat.{ℕ, _-_, _+_, _≤_}
+use Prim.Native.Nat.{ℕ, _-_, _≤_}
 use mathlib.Core.Path.{_≡_, refl, sym, ap, _∙_}
 use mathlib.Core.Bool.{true, true≢false}
 use mathlib.Core.List.{List, [], map}
@@ -11,7 +11,7 @@ use Rattle.refusal.specs.Numbers.{accepted}
 use Rattle.refusal.specs.Rules.{firstOf}
 use Rattle.octets.specs.Bytes.{capital}
 use Rattle.names.specs.Names.{isChannel, isServerId}
-use Rattle.channel.proofs.Proper.{Proper, sided, proper-sided}
+use Rattle.channel.proofs.Proper.{sided, proper-sided}
 use Rattle.message.specs.Content.{Content}
 use Rattle.message.specs.Reading.{isRead, contentOf}
 use Rattle.message.proofs.Readings.{read-small}

@@ -3,7 +3,7 @@
 use Prim.Native.Nat.{ℕ, suc, _+_, _-_, _≤_, _<_}
 use mathlib.Core.Path.{_≡_, refl, sym, ap, _∙_}
 use mathlib.Core.Bool.{Bool, true, false, not, cond, _&&_, _||_, true≢false}
-use mathlib.Core.Logic.{_⊎_, inl, inr}
+use mathlib.Core.Logic.{inl, inr}
 use mathlib.Core.List.{List, [], _∷_, _++_, map, append-nil, append-assoc}
 use mathlib.Core.Option.{some}
 use native.Mathlib.Omega.{arith}
@@ -45,7 +45,7 @@ use Rattle.sjoin.specs.Entries.{at, voice, operator, past, idOf, statusO
 use Rattle.sjoin.specs.Join.{timeIn, nameIn, modesIn, listIn, argumentsIn, goodTime, joinRules, channelIn}
 use Rattle.sjoin.specs.Telling.{lettersFrom, modesText, entryOf, following, listText, paramsOf, sjoin, joinMessage}
 use Rattle.sjoin.proofs.Modes.{bits}
-use Rattle.sjoin.proofs.Joined.{Passes, passes, argument-good}
+use Rattle.sjoin.proofs.Joined.{Passes, passes, Given, argument-given}
 use Rattle.sjoin.proofs.Answers.{bounds}
 use Rattle.sjoin.proofs.Writable.{entry-middle}
 
@@ -138,13 +138,13 @@ key-takes : (modes : ℕ) (key : List ℕ) → hasMode modes keyMode ≡ not (is
 key-takes modes [] h = rw h
 key-takes modes (b ∷ key) h = rw h
 
-limit-takes : (modes : ℕ) (a : List ℕ) → hasMode modes limitMode ≡ ltb 0 (valueOf a) → (a ≡ []) ⊎ (goodArgument limitLetter a ≡ true)
+limit-takes : (modes : ℕ) (s a : List ℕ) → hasMode modes limitMode ≡ ltb 0 (valueOf a) → Given limitLetter s a
     → cond (hasMode modes limitMode) (suc (length (digitsOf (valueOf a)))) 0 ≤ taken a
 unfolding goodArgument isLimit valueFrom isDecimal
-limit-takes modes a h (inl e) = rw (h, e) (omega arith)
-limit-takes modes [] h (inr g) = absurd (true≢false (sym g))
-limit-takes modes (b ∷ a) h (inr g) =
-    rw (digits-value (b ∷ a) (and-left (isDecimal (b ∷ a)) (leb 1 (valueOf (b ∷ a)) && leb (valueOf (b ∷ a)) limitLimit) g)) (most (hasMode modes limitMode))
+limit-takes modes s a h (inl g) = rw (h, g .1) (omega arith)
+limit-takes modes s [] h (inr g) = absurd (true≢false (sym (g .1)))
+limit-takes modes s (b ∷ a) h (inr g) =
+    rw (digits-value (b ∷ a) (and-left (isDecimal (b ∷ a)) (leb 1 (valueOf (b ∷ a)) && leb (valueOf (b ∷ a)) limitLimit) (g .1))) (most (hasMode modes limitMode))
   where
     most : (t : Bool) → cond t (suc (suc (length a))) 0 ≤ suc (suc (length a))
     most true = omega arith
@@ -303,7 +303,7 @@ module _ (c : Content) (none : firstOf (joinRules c) ≡ accepted) (p : Proper (
       let s = parametered (lettersOf (modesIn c)) in
       let k = argumentOf keyLetter (modesIn c) (argumentsIn c) in
       let l = argumentOf limitLetter (modesIn c) (argumentsIn c) in
-      let limit = limit-takes (modes true) l (p .limited) (argument-good (modesIn c) (argumentsIn c) limitLetter (good .modes)) in
+      let limit = limit-takes (modes true) (lettersOf (modesIn c)) l (p .limited) (argument-given (modesIn c) (argumentsIn c) limitLetter refl (good .modes)) in
       let both = arguments-room keyLetter limitLetter refl s (argumentsIn c) (and-right (goodLetters (modesIn c)) _ (good .modes)) in
       omega (arith, key-takes (modes true) k (p .keyed), limit, both)
   arguments-shorter false = rw (has-no-mode keyMode, has-no-mode limitMode) (omega arith)

@@ -10,10 +10,9 @@ ghost use Rattle.message.specs.Words.{wordsOf};
 ghost use Rattle.sjoin.specs.Entries.{past as pastOf, idOf, statusOf, isEntry, memberOf, goodEntries, named as namedOf};
 use crate::letters::starts_with;
 use channel::Member;
-use channel::Record;
 use channel::Roster;
+use channel::members::vacant;
 use message::next_word;
-use names::USER_ID;
 use names::is_user_id;
 use names::user_id;
 use octets::part;
@@ -109,11 +108,7 @@ pub(crate) fn named(list: &[u8]) -> Roster
     requires { ⌜ (all isEntry (wordsOf (now list)) ≡ true) × (length (wordsOf (now list)) ≤ memberLimit) ⌝ }
     ensures { λ r. ⌜ r ≡ roster (namedOf (now (list .entry))) ⌝ }
 {
-    let none = Member {
-        id: [0u8; USER_ID],
-        status: 0,
-    };
-    let mut members = [none; Record::MEMBERS];
+    let mut members = vacant();
     let mut count = 0;
     let mut at = 0;
     while at < list.len() {

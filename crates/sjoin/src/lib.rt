@@ -1,13 +1,14 @@
 // What an SJOIN line says (document 01, 'SJOIN'): its time, name, modes with key and limit, and members, judged by the numbers 12 to 18 and put into a
-// record of their own.
+// record of their own; and the line that tells of a record.
 mod arguments;
 mod entries;
 mod letters;
+mod spans;
 mod telling;
 
 ghost use mathlib.Core.Path.{_≡_};
 ghost use mathlib.Core.Bool.{true};
-ghost use Prim.Native.Nat.{_+_, _≤_};
+ghost use Prim.Native.Nat.{_≤_};
 ghost use lib.ListN.{length};
 ghost use Rattle.refusal.specs.Numbers.{accepted};
 ghost use Rattle.refusal.specs.Rules.{firstOf, emitted};
@@ -18,11 +19,12 @@ ghost use Rattle.names.specs.Names.{nameLimit};
 ghost use Rattle.channel.specs.Limits.{keyLimit};
 ghost use Rattle.channel.specs.Record.{encode, decode};
 ghost use Rattle.message.specs.Grammar.{lineLimit};
-ghost use Rattle.message.specs.Reading.{contentOf};
+ghost use Rattle.message.specs.Reading.{contentOf, messageOf};
 ghost use Rattle.writer.specs.Form.{written};
 ghost use Rattle.writer.specs.Writing.{answerFor};
 ghost use Rattle.sjoin.specs.Join.{timeIn, goodTime, joinRules, channelIn, refusedBy, toldBy};
 ghost use Rattle.sjoin.specs.Telling.{joinMessage, tellRules};
+ghost use Rattle.sjoin.specs.Scan.{Parted};
 use arguments::MODES_AT;
 use arguments::argument;
 use arguments::good_arguments;
@@ -34,9 +36,9 @@ use letters::good_letters;
 use letters::limit_in;
 use letters::modes_byte;
 use message::LINE_LIMIT;
+use message::Message;
 use message::Reading;
-use message::param;
-use message::prefix;
+use message::parts;
 use message::read;
 use names::is_channel;
 use names::is_server_id;
@@ -53,6 +55,8 @@ use refusal::NO_ROOM;
 use refusal::OUTPUT_TOO_SHORT;
 use refusal::WRONG_PARAM_COUNT;
 use refusal::ZERO_TIME;
+use spans::param_at;
+use spans::prefix_at;
 use telling::put_join;
 use writer::Written;
 
@@ -74,9 +78,9 @@ pub struct Told {
     pub record: Record,
 }
 
-// The first of the numbers 12 to 18 that applies to a line that is read, with its count of parameters, or ACCEPTED.
-fn join_number(line: &[u8], count: usize) -> u8
-    requires { ⌜ count ≡ length (contentOf (now line) .params) ⌝ }
+// The first of the numbers 12 to 18 that applies to a line that is read, with its parts and its count of parameters, or ACCEPTED.
+fn join_number(line: &[u8], m: Message, count: usize) -> u8
+    requires { ⌜ (m ≡ messageOf (now line)) × (count ≡ length (contentOf (now line) .params)) ⌝ }
     ensures { λ r. ⌜ r ≡ firstOf (joinRules (contentOf (now (line .entry)))) ⌝ }
 {
     if count < FEWEST {
@@ -85,26 +89,26 @@ fn join_number(line: &[u8], count: usize) -> u8
     if MOST < count {
         return WRONG_PARAM_COUNT;
     }
-    if !is_server_id(prefix(line)) {
+    if !is_server_id(prefix_at(line, m)) {
         return BAD_SOURCE;
     }
-    let Decimal::Value(time) = decimal(param(line, TIME_AT), Record::TIME) else {
+    let Decimal::Value(time) = decimal(param_at(line, m, TIME_AT), Record::TIME) else {
         return BAD_TIME;
     };
     if time == 0 {
         return ZERO_TIME;
     }
-    if !is_channel(param(line, NAME_AT)) {
+    if !is_channel(param_at(line, m, NAME_AT)) {
         return BAD_NAME;
     }
-    let modes = param(line, MODES_AT);
+    let modes = param_at(line, m, MODES_AT);
     if !good_letters(modes) {
         return BAD_MODES;
     }
-    if !good_arguments(line, modes, count - 1) {
+    if !good_arguments(line, m, modes, count - 1) {
         return BAD_MODES;
     }
-    if !good_entries(param(line, count - 1)) {
+    if !good_entries(param_at(line, m, count - 1)) {
         return BAD_MEMBERS;
     }
     ACCEPTED
@@ -131,29 +135,29 @@ fn key_room(key: &[u8]) -> [u8; Record::KEY]
 }
 
 // The time of a line whose time is good.
-fn time_of(line: &[u8]) -> u32
-    requires { ⌜ goodTime (contentOf (now line)) ≡ true ⌝ }
+fn time_of(line: &[u8], m: Message) -> u32
+    requires { ⌜ (m ≡ messageOf (now line)) × (goodTime (contentOf (now line)) ≡ true) ⌝ }
     ensures { λ r. ⌜ r ≡ valueOf (timeIn (contentOf (now (line .entry)))) ⌝ }
 {
-    match decimal(param(line, TIME_AT), Record::TIME) {
+    match decimal(param_at(line, m, TIME_AT), Record::TIME) {
         Decimal::Value(time) => time,
         Decimal::Malformed => 0,
     }
 }
 
 // The record of the channel that a line tells of that no rule refuses. The list is at `last`.
-fn record_of(line: &[u8], last: usize) -> Record
-    requires { ⌜ (firstOf (joinRules (contentOf (now line))) ≡ accepted) × (length (contentOf (now line) .params) ≡ last + 1) × (length (now line) ≤ lineLimit) ⌝ }
+fn record_of(line: &[u8], m: Message, last: usize) -> Record
+    requires { ⌜ Parted (now line) m last × (firstOf (joinRules (contentOf (now line))) ≡ accepted) × (length (now line) ≤ lineLimit) ⌝ }
     ensures { λ r. ⌜ r ≡ encode (channelIn (contentOf (now (line .entry)))) ⌝ }
 {
-    let name = param(line, NAME_AT);
+    let name = param_at(line, m, NAME_AT);
     let name_held = name_room(name);
-    let time = time_of(line);
-    let modes = modes_byte(param(line, MODES_AT));
-    let key = argument(line, b'k', last);
+    let time = time_of(line, m);
+    let modes = modes_byte(param_at(line, m, MODES_AT));
+    let key = argument(line, m, b'k', last);
     let key_held = key_room(key);
-    let limit = limit_in(argument(line, b'l', last));
-    let list = named(param(line, last));
+    let limit = limit_in(argument(line, m, b'l', last));
+    let list = named(param_at(line, m, last));
     let entries = list.list;
     let all = ordered(entries, list.count);
     let members = all.list;
@@ -186,11 +190,12 @@ pub fn read_join(line: &[u8]) -> Told
     let Reading::Line(count) = reading else {
         return refused(reading.number());
     };
-    let number = join_number(line, count);
+    let m = parts(line);
+    let number = join_number(line, m, count);
     if number != ACCEPTED {
         return refused(number);
     }
-    let record = record_of(line, count - 1);
+    let record = record_of(line, m, count - 1);
     Told {
         number: ACCEPTED,
         record,

@@ -2,7 +2,7 @@
 -- than ten digits, there is a place for each. Assumes nothing.
 use mathlib.Core.Path.{_≡_, refl, sym, ap, _∙_}
 use mathlib.Core.List.{List, _∷_, _++_, append-nil}
-use Prim.Native.Nat.{ℕ, _+_, _-_, _/_, _%_, _≤_, _<_}
+use Prim.Native.Nat.{ℕ, _+_, _-_, _/_, _%_, _^_, _≤_, _<_}
 use native.Mathlib.Omega.{arith}
 use lib.ListN.{length, take, drop, set, length-append, length-drop, length-set}
 use lib.Seq.{append-snoc, getD-set-same, drop-set-lt, take-all}
@@ -31,7 +31,7 @@ module _ (digits : List ℕ) (first : ℕ) (h : first < 10) (ten : length digits
         take-all (10 - first) (drop first l) (omega (arith, length-drop first l, length-set digits first (digit left))) ∙ rw (digits-one left k) (gather (digit left))
 
     -- where ten or more is left, the digit is not the first of all
-    gather-room : (n : ℕ) → n ≤ 4294967295 → digitsOf left ++ drop (first + 1) digits ≡ digitsOf n → 10 ≤ left → 1 ≤ first
+    gather-room : (n : ℕ) → n < 2 ^ 32 → digitsOf left ++ drop (first + 1) digits ≡ digitsOf n → 10 ≤ left → 1 ≤ first
     gather-room n u e k =
         omega (
           arith,

@@ -1,5 +1,5 @@
 -- `changed` meets its contract: each command is acted on by its own function. Assumes nothing.
-use mathlib.Core.Path.{_≡_, sym, _∙_}
+use mathlib.Core.Path.{_≡_}
 use borrow.Author.Needs.{needs}
 use Rattle.relay.specs.declared.Command.the-variants.{Sjoin, Part, Quit, Unknown}
 use Rattle.relay.proofs.acting.changed.Statement.{statement}

@@ -1,16 +1,13 @@
 -- `without_user` meets its contract. The invariant: the user has left the first k slots, the rest are as they were. Assumes nothing.
 use mathlib.Core.Path.{_≡_, sym, ap, _∙_}
-use mathlib.Core.List.{List}
-use Prim.Native.Nat.{_-_, _≤_, _<_}
+use Prim.Native.Nat.{_-_, _≤_}
 use native.Mathlib.Omega.{arith}
-use lib.ListN.{length, set}
+use lib.ListN.{length}
 use borrow.Author.Needs.{needs}
 use Rattle.octets.proofs.Lists.{unmapped}
 use Rattle.octets.proofs.Mapped.{mapped, mapped-none, mapped-step, mapped-all}
-use Rattle.channel.specs.declared.Record.{Record}
 use Rattle.channel.specs.Limits.{slotCount}
 use Rattle.channel.specs.Members.{without}
-use Rattle.table.specs.declared.Table.{Table}
 use Rattle.relay.specs.Relay.{withSlots}
 use Rattle.relay.proofs.acting.without_user.Statement.{statement}
 use Rattle.relay.proofs.acting.without_user.Tie as tie

@@ -1,12 +1,9 @@
 -- `joins_held` meets its contract: the change is what the merge answers. Assumes nothing.
-use mathlib.Core.Path.{_≡_, sym, ap, _∙_}
+use mathlib.Core.Path.{sym, ap, _∙_}
 use native.Mathlib.Omega.{arith}
 use borrow.Author.Needs.{needs}
 use Rattle.channel.specs.declared.Merged.{Merged}
-use Rattle.channel.specs.declared.Record.{Record}
-use Rattle.channel.specs.Record.{decode}
 use Rattle.relay.specs.declared.Change.{Change}
-use Rattle.relay.specs.Private.{Joins}
 use Rattle.relay.proofs.judging.joins_held.Statement.{statement}
 use Rattle.relay.proofs.judging.joins_held.Tie as tie
 

@@ -13,7 +13,6 @@ use Rattle.message.specs.Grammar.{lineLimit}
 use Rattle.message.specs.Reading.{isRead, countOf, contentOf}
 use Rattle.message.proofs.Readings.{reading-line, reading-refused, refused-number}
 use Rattle.links.specs.Links.{linkCount}
-use Rattle.table.specs.declared.Table.{Table}
 use Rattle.table.specs.Table.{goodTable}
 use Rattle.relay.specs.declared.Command.{Command}
 use Rattle.relay.specs.declared.Command.the-variants.{Sjoin, Part, Quit, Unknown}

@@ -1,21 +1,18 @@
 -- `judge_join` meets its contract: the line's own rules, then what its channel comes to in the slot that its name uses. Assumes nothing.
-use mathlib.Core.Path.{_≡_, refl, sym, ap, _∙_}
+use mathlib.Core.Path.{_≡_, sym, ap, _∙_}
 use mathlib.Core.Bool.{true}
 use mathlib.Core.List.{List}
 use Prim.Native.Nat.{ℕ, _<_}
 use native.Mathlib.Omega.{arith}
-use lib.ListN.{length, getD}
+use lib.ListN.{length}
 use borrow.Author.Needs.{needs}
 use Rattle.refusal.specs.Numbers.{accepted}
-use Rattle.octets.specs.Lists.{all}
 use Rattle.octets.proofs.Lists.{unmapped, getD-any}
 use Rattle.message.specs.Reading.{isRead, contentOf}
 use Rattle.channel.specs.declared.Record.{Record}
 use Rattle.channel.specs.Limits.{slotCount}
 use Rattle.channel.specs.Record.{emptyRecord}
-use Rattle.table.specs.declared.Slot.{Slot}
 use Rattle.table.specs.declared.Slot.the-variants.{Held}
-use Rattle.table.specs.Table.{goodSlot}
 use Rattle.table.specs.Slots.{slotFor}
 use Rattle.table.proofs.Searching.{slot-held}
 use Rattle.table.proofs.WellFormed.{slots-good}

@@ -1,12 +1,10 @@
 -- `judge_quit` meets its contract: each return is the first rule that applies. Assumes nothing.
-use mathlib.Core.Path.{_≡_, refl, sym, ap, _∙_}
+use mathlib.Core.Path.{_≡_, refl, sym}
 use mathlib.Core.Bool.{true}
 use native.Mathlib.Omega.{arith}
-use lib.ListN.{length}
 use borrow.Author.Needs.{needs}
 use borrow.Author.Tests.{not-true, not-false}
 use Rattle.message.specs.Reading.{contentOf}
-use Rattle.relay.specs.declared.Change.{Change}
 use Rattle.relay.specs.Commands.{isUser}
 use Rattle.relay.proofs.Judgements.{refused-quit}
 use Rattle.relay.proofs.Leaving.{user-told, user-held, quit-many, quit-unsourced, quit-passes}

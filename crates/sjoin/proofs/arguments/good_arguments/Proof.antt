@@ -18,15 +18,15 @@ abbrev params : List ℕ → List (List ℕ)
 params line = contentOf line .params
 
 abbrev Inv-loop : tie.InvT-loop
-Inv-loop line modes last at₀ i₀ at i = (at ≤ last) × (Good modes (params line) last at i i at ≡ goodArguments (parametered (lettersOf modes)) (argumentsIn (contentOf line)))
+Inv-loop line m modes last at₀ i₀ at i = (at ≤ last) × (Good modes (params line) last at i i at ≡ goodArguments (parametered (lettersOf modes)) (argumentsIn (contentOf line)))
 
 abbrev μ-loop : tie.MeasureT-loop
-μ-loop line modes last at₀ i₀ at i = length modes - i
+μ-loop line m modes last at₀ i₀ at i = length modes - i
 
 loop-holds : tie.Need-loop-holds Inv-loop μ-loop
 loop-holds c =
     let a = c .before .before .args in
-    (c .before .before .pre .0, ap (goodArguments (parametered (lettersOf (a .modes .now)))) (sym (arguments-are (contentOf (a .line .now)) (a .last) (c .before .before .pre .1))))
+    (c .before .before .pre .behind, ap (goodArguments (parametered (lettersOf (a .modes .now)))) (sym (arguments-are (contentOf (a .line .now)) (a .last) (c .before .before .pre .count))))
 
 shared-slice-read-letter : tie.Need-shared-slice-read-letter Inv-loop μ-loop
 shared-slice-read-letter c = search needs
@@ -52,8 +52,8 @@ returns c =
     let l = c .before .before .before .before .before .loop in
     sym (good-missing (a .modes .now) (params (a .line .now)) (a .last) (l .at) (l .i) (c .before .before .before .before .loop-test .taken) (sym (c .before .before .has-parameter .ensures) ∙ not-false _ (c .before .if1 .left)) (c .if2 .taken)) ∙ l .inv .1
 
-param-requires : tie.Need-param-requires Inv-loop μ-loop
-param-requires c κs = search needs
+param-at-requires : tie.Need-param-at-requires Inv-loop μ-loop
+param-at-requires c κs = search needs
 
 good-argument-requires : tie.Need-good-argument-requires Inv-loop μ-loop
 good-argument-requires c κs = search needs
@@ -63,9 +63,9 @@ here : (c : tie.After-good-argument Inv-loop μ-loop) (t : Bool) → c .good-arg
 here c t e =
     let a = c .before .before .before .before .before .before .before .before .before .before .args in
     let l = c .before .before .before .before .before .before .before .loop in
-    let k : a .last < length (params (a .line .now)) = omega (arith, c .before .before .before .before .before .before .before .before .before .before .pre .1) in
+    let k : a .last < length (params (a .line .now)) = omega (arith, c .before .before .before .before .before .before .before .before .before .before .pre .count) in
     let rest = Good (a .modes .now) (params (a .line .now)) (a .last) (l .at) (l .i) (l .i + 1) (l .at + 1) in
-    ap (λ (u : Bool). u && rest) (sym e ∙ c .good-argument .ensures ∙ ap (goodArgument (getD (a .modes .now) (l .i) 0)) (c .before .param .ensures .0))
+    ap (λ (u : Bool). u && rest) (sym e ∙ c .good-argument .ensures ∙ ap (goodArgument (getD (a .modes .now) (l .i) 0)) (c .before .param-at .ensures))
     ∙ sym (good-one (a .modes .now) (params (a .line .now)) (a .last) (l .at) (l .i) (c .before .before .before .before .before .before .loop-test .taken) (sym (c .before .before .before .before .has-parameter .ensures) ∙ not-false _ (c .before .before .before .if1 .left)) (l .inv .0) (c .before .before .if2 .left) k)
     ∙ l .inv .1
 
@@ -88,7 +88,7 @@ returns-3 : tie.Need-returns-3 Inv-loop μ-loop
 returns-3 c =
     let a = c .before .before .before .before .args in
     let l = c .before .loop in
-    let k : a .last < length (params (a .line .now)) = omega (arith, c .before .before .before .before .pre .1) in
+    let k : a .last < length (params (a .line .now)) = omega (arith, c .before .before .before .before .pre .count) in
     sym (good-end (a .modes .now) (params (a .line .now)) (a .last) (l .at) (l .i) (l .inv .0) k (c .loop-test .left)) ∙ l .inv .1
 
 pub good-arguments-spec : {M : Type 1} → statement M
@@ -104,7 +104,7 @@ good-arguments-spec =
     loop-less
     loop-again
     returns
-    param-requires
+    param-at-requires
     good-argument-requires
     returns-2
     add-at

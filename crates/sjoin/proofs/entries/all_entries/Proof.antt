@@ -8,8 +8,8 @@ use borrow.Author.Needs.{needs}
 use borrow.Author.Tests.{not-true, not-false}
 use Rattle.octets.specs.Lists.{all}
 use Rattle.message.specs.Words.{wordsOf}
+use Rattle.message.proofs.Splits.{wordsFrom, words-past, next-none, next-one, next-in, next-further}
 use Rattle.sjoin.specs.Entries.{isEntry}
-use Rattle.sjoin.proofs.Listed.{wordsFrom, next-none, next-one, next-in, next-further, words-past}
 use Rattle.sjoin.proofs.entries.all_entries.Statement.{statement}
 use Rattle.sjoin.proofs.entries.all_entries.Tie as tie
 

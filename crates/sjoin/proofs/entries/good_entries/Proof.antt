@@ -5,8 +5,8 @@ use native.Mathlib.Omega.{arith}
 use borrow.Author.Needs.{needs}
 use Rattle.octets.specs.Lists.{isNil}
 use Rattle.message.specs.Words.{wordsOf}
+use Rattle.message.proofs.Splits.{next-none, next-one}
 use Rattle.sjoin.specs.Entries.{goodEntries}
-use Rattle.sjoin.proofs.Listed.{next-none, next-one}
 use Rattle.sjoin.proofs.entries.good_entries.Statement.{statement}
 use Rattle.sjoin.proofs.entries.good_entries.Tie as tie
 

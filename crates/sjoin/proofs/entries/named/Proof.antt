@@ -8,17 +8,17 @@ use native.Mathlib.Omega.{arith}
 use lib.ListN.{length, take, drop, length-map, length-drop}
 use lib.Seq.{take-all}
 use borrow.Author.Needs.{needs}
-use Rattle.octets.specs.Lists.{all, padded}
+use Rattle.octets.specs.Lists.{all}
 use Rattle.octets.specs.Room.{part}
-use Rattle.octets.proofs.Lists.{all-head, all-tail}
+use Rattle.octets.proofs.Lists.{drop-inside, drop-next, take-next, all-head, all-tail}
 use Rattle.channel.specs.declared.Member.{Member}
 use Rattle.channel.specs.declared.Roster.{Roster}
 use Rattle.channel.specs.Limits.{memberLimit}
 use Rattle.channel.specs.Members.{roster}
 use Rattle.channel.proofs.Gathering.{Gathers, gathers-more, gathers-roster}
 use Rattle.message.specs.Words.{wordsOf}
+use Rattle.message.proofs.Splits.{wordsFrom, words-past, next-none, next-one, next-in, next-further}
 use Rattle.sjoin.specs.Entries.{isEntry, memberOf, named}
-use Rattle.sjoin.proofs.Listed.{wordsFrom, next-none, next-one, next-in, next-further, words-past, drop-next}
 use Rattle.sjoin.proofs.entries.named.Statement.{statement}
 use Rattle.sjoin.proofs.entries.named.Tie as tie
 
@@ -34,16 +34,18 @@ done list at members count e f g =
     let n : length (drop count (named list)) ≡ 0 = ap (λ (m : List Member). length m) (sym f ∙ ap (map memberOf) e) in
     gathers-roster members count (take count (named list)) g ∙ ap roster (take-all count (named list) (omega (arith, length-drop count (named list))))
 
+vacant-requires : tie.Need-vacant-requires Inv-loop μ-loop
+vacant-requires c κs = search needs
+
 loop-holds : tie.Need-loop-holds Inv-loop μ-loop
-unfolding padded
-loop-holds c = (omega arith, c .before .pre .0, refl, record { holds = refl; counts = refl })
+loop-holds c = (omega arith, c .before .before .pre .0, refl, record { holds = c .vacant .ensures; counts = refl })
 
 next-word-requires : tie.Need-next-word-requires Inv-loop μ-loop
 next-word-requires c κs = search needs
 
 returns : tie.Need-returns Inv-loop μ-loop
 returns c =
-    let s = c .before .before .before .before .before .before .args .list .now in
+    let s = c .before .before .before .before .before .before .before .args .list .now in
     let l = c .before .before .before .before .loop in
     done s (l .at) (l .members) (l .count) (next-none s (l .at) (c .before .before .next-word .result) (l .inv .0) (c .before .before .next-word .ensures) (c .if1 .taken)) (l .inv .2) (l .inv .3)
 
@@ -52,7 +54,7 @@ part-requires c κs = search needs
 
 -- the word at hand, and those behind it
 abbrev list : tie.After-part Inv-loop μ-loop → List ℕ
-list c = c .before .before .before .before .before .before .before .args .list .now
+list c = c .before .before .before .before .before .before .before .before .args .list .now
 
 abbrev entry : tie.After-part Inv-loop μ-loop → List ℕ
 entry c = part (list c) (c .before .before .before .next-word .result .start) (c .before .before .before .next-word .result .end)
@@ -66,11 +68,11 @@ here c = next-one (list c) (c .before .before .before .before .before .loop .at)
 entries : (c : tie.After-part Inv-loop μ-loop) → all isEntry (entry c ∷ behind c) ≡ true
 entries c = sym (ap (all isEntry) (here c)) ∙ c .before .before .before .before .before .loop .inv .1
 
-next : (c : tie.After-part Inv-loop μ-loop) → (c .before .before .before .before .before .loop .count < length (named (list c))) × (take (c .before .before .before .before .before .loop .count) (named (list c)) ++ (memberOf (entry c) ∷ []) ≡ take (c .before .before .before .before .before .loop .count + 1) (named (list c))) × (map memberOf (behind c) ≡ drop (c .before .before .before .before .before .loop .count + 1) (named (list c)))
-next c = drop-next (named (list c)) (c .before .before .before .before .before .loop .count) (memberOf (entry c)) (map memberOf (behind c)) (sym (ap (map memberOf) (here c)) ∙ c .before .before .before .before .before .loop .inv .2)
+next : (c : tie.After-part Inv-loop μ-loop) → drop (c .before .before .before .before .before .loop .count) (named (list c)) ≡ memberOf (entry c) ∷ map memberOf (behind c)
+next c = sym (c .before .before .before .before .before .loop .inv .2) ∙ ap (map memberOf) (here c)
 
 room : (c : tie.After-part Inv-loop μ-loop) → c .before .before .before .before .before .loop .count < memberLimit
-room c = omega (arith, next c .0, length-map (wordsOf (list c)) memberOf, c .before .before .before .before .before .before .before .pre .1)
+room c = omega (arith, drop-inside (named (list c)) (c .before .before .before .before .before .loop .count) _ _ (next c), length-map (wordsOf (list c)) memberOf, c .before .before .before .before .before .before .before .before .pre .1)
 
 member-of-requires : tie.Need-member-of-requires Inv-loop μ-loop
 member-of-requires c κs = ap isEntry (c .part .ensures .0) ∙ all-head isEntry (entry c) (behind c) (entries c)
@@ -98,12 +100,12 @@ loop-again c =
     let l = c .before .before .before .before .before .before .loop in
     let w = c .before .before .before .before .next-word in
     let m : c .member-of .result ≡ memberOf (entry p) = c .member-of .ensures ∙ ap memberOf (c .before .part .ensures .0) in
-    let e : take (l .count + 1) (named s) ≡ take (l .count) (named s) ++ (c .member-of .result ∷ []) = sym (next p .1) ∙ ap (λ (x : Member). take (l .count) (named s) ++ (x ∷ [])) (sym m) in
-    (next-in s (l .at) (w .result) (l .inv .0) (w .ensures) (c .before .before .if1 .left), all-tail isEntry (entry p) (behind p) (entries p), next p .2, rw e (gathers-more (l .members) (l .count) (take (l .count) (named s)) (c .member-of .result) (l .inv .3)))
+    let e : take (l .count + 1) (named s) ≡ take (l .count) (named s) ++ (c .member-of .result ∷ []) = take-next (named s) (l .count) _ _ (next p) ∙ ap (λ (x : Member). take (l .count) (named s) ++ (x ∷ [])) (sym m) in
+    (next-in s (l .at) (w .result) (l .inv .0) (w .ensures) (c .before .before .if1 .left), all-tail isEntry (entry p) (behind p) (entries p), sym (drop-next (named s) (l .count) _ _ (next p)), rw e (gathers-more (l .members) (l .count) (take (l .count) (named s)) (c .member-of .result) (l .inv .3)))
 
 returns-2 : tie.Need-returns-2 Inv-loop μ-loop
 returns-2 c =
-    let s = c .before .before .before .args .list .now in
+    let s = c .before .before .before .before .args .list .now in
     let l = c .before .loop in
     done s (l .at) (l .members) (l .count) (words-past s (l .at) (c .loop-test .left)) (l .inv .2) (l .inv .3)
 
@@ -113,6 +115,7 @@ named-spec =
     (tie.spec
     Inv-loop
     μ-loop
+    vacant-requires
     loop-holds
     next-word-requires
     returns
