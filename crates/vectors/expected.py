@@ -12,6 +12,13 @@ SPACE after it,
     name    any bytes, as a channel name, a server id and a user id
     same    two names with a SPACE between them
     mask    a mask, a SPACE and a text
+    over    nothing: the table is empty again
+    link    the number of a link that is registered
+    drop    the number of a link that is dropped
+    take    the number of a link, a SPACE and a line as received from it
+    thin    the same, with an output of 511 bytes lent
+    harm    nothing: the first slot's name is cut to one byte, so that the
+            table isn't well formed
 
 For a line that is read, `stdout` has
 
@@ -32,18 +39,39 @@ and for one that isn't, `refused K` with its number. For the others it has
 
     match Y         or `refused K`
 
+The last six words are steps of a relay, whose table goes from one to the
+next. `link`, `drop`, `take` and `thin` are answered by
+
+    done            or `refused K`
+
+and `take` and `thin` then by
+
+    to L L          the links of the relay set, ascending, if any
+    count N         how many they are
+    sent W          what was written, with its CR LF, if anything was
+
+(The program adds `spoiled` where a byte of the output behind that isn't as
+before. It is never expected.) After each step the table is shown, refused or
+not:
+
+    links L L       the registered links, ascending, if any
+    slot S time T name N modes M key K limit L
+                    once for each used slot; the modes as their byte, key and
+                    limit only if there is one
+    member U S      once for each member of the slot: user id and status
+
 An empty line follows each record's.
 
 What is below is made from the text of document 01 alone ("Reading one line",
-"Names and ids", "The numbers a caller may get"). It shares nothing with the
-program that it judges.
+"Names and ids", "SJOIN", "What goes out", "The numbers a caller may get"). It
+shares nothing with the program that it judges.
 """
 
 import argparse
 import re
 import sys
 from pathlib import Path
-from typing import Dict, List, NamedTuple, Optional, Tuple
+from typing import Dict, FrozenSet, Iterable, List, NamedTuple, Optional, Tuple
 
 FOLDER = Path(__file__).resolve().parent
 EXAMPLES = FOLDER / "examples.txt"
@@ -51,6 +79,12 @@ STDIN = FOLDER / "stdin"
 STDOUT = FOLDER / "stdout"
 
 LINE, NAME, SAME, MASK = b"line", b"name", b"same", b"mask"
+OVER, LINK, DROP, HARM = b"over", b"link", b"drop", b"harm"
+TAKE, THIN = b"take", b"thin"
+STEPS = (OVER, LINK, DROP, HARM, TAKE, THIN)
+
+# How many bytes of output are lent.
+LENT = {TAKE: 600, THIN: 511}
 
 CR_LF = b"\r\n"
 LF = b"\n"
@@ -99,11 +133,32 @@ def filled_pair(arguments: bytes) -> bytes:
     return SPACE.join(parts)
 
 
+def crew(first: bytes, count: bytes, text: bytes) -> bytes:
+    """Put user ids, by number from the first on, in the place of '...'."""
+    before, after = text.split(b"...")
+    numbers = range(int(first), int(first) + int(count))
+    ids = SPACE.join(b"1ABA%05d" % number for number in numbers)
+    return unescape(before) + ids + unescape(after)
+
+
 class Record(NamedTuple):
     """What one entry gives: its word, and what it is tried on."""
 
     word: bytes
     text: bytes
+
+
+def taken_line(directive: bytes, arguments: bytes) -> bytes:
+    """Return the line that is taken by a directive, its end included."""
+    if directive in (b"@take", b"@thin"):
+        return unescape(arguments) + CR_LF
+    if directive == b"@take-lf":
+        return unescape(arguments) + LF
+    if directive == b"@take-fill":
+        return filled(*arguments.split(SPACE, 2), CR_LF)
+    if directive == b"@take-crew":
+        return crew(*arguments.split(SPACE, 2)) + CR_LF
+    raise ValueError(f"unknown directive: {directive!r}")
 
 
 def entry_record(entry: bytes) -> Record:
@@ -119,9 +174,11 @@ def entry_record(entry: bytes) -> Record:
         return Record(LINE, filled(*arguments.split(SPACE, 2), LF))
     if directive == b"@fill-mask":
         return Record(MASK, filled_pair(arguments) + LF)
-    if directive[1:] in (NAME, SAME, MASK):
+    if directive[1:] in (NAME, SAME, MASK, OVER, LINK, DROP, HARM):
         return Record(directive[1:], unescape(arguments) + LF)
-    raise ValueError(f"unknown directive: {entry!r}")
+    link, _, rest = arguments.partition(SPACE)
+    line = taken_line(directive, rest)
+    return Record(THIN if directive == b"@thin" else TAKE, link + SPACE + line)
 
 
 def example_records(source: bytes) -> List[Record]:
@@ -254,12 +311,289 @@ def matches(mask: bytes, text: bytes) -> bool:
     return bool(re.fullmatch(pattern, text.translate(FOLD), re.DOTALL))
 
 
+# --- The table --------------------------------------------------------------
+
+SLOTS = 16
+LINKS = 32
+SHORTEST_OUTPUT = 512
+
+
+class Channel(NamedTuple):
+    """A channel's record. `members` gives each user id its status."""
+
+    name: bytes
+    time: int
+    modes: FrozenSet[int]
+    key: Optional[bytes]
+    limit: Optional[int]
+    members: Dict[bytes, int]
+
+
+class Table(NamedTuple):
+    """The registered links, and the slots, a free one being None."""
+
+    links: FrozenSet[int]
+    slots: Tuple[Optional[Channel], ...]
+
+
+EMPTY = Table(frozenset(), SLOTS * (None,))
+
+
+def check_table(table: Table) -> None:
+    """Refuse a table that isn't well formed: here only a name can be bad."""
+    for channel in filter(None, table.slots):
+        if not CHANNEL.fullmatch(channel.name):
+            raise Refused(1)
+
+
+def linked(table: Table, word: bytes, link: int) -> Table:
+    """Register or drop a link, or refuse it."""
+    check_table(table)
+    if link >= LINKS:
+        raise Refused(3)
+    if word == LINK:
+        return table._replace(links=table.links | {link})
+    return table._replace(links=table.links - {link})
+
+
+def slot_of(table: Table, name: bytes) -> Optional[int]:
+    """Return the slot whose folded name equals a name's."""
+    for place, channel in enumerate(table.slots):
+        if channel and channel.name.translate(FOLD) == name.translate(FOLD):
+            return place
+    return None
+
+
+def with_slot(table: Table, place: int, channel: Optional[Channel]) -> Table:
+    """Return the table with another record in one slot."""
+    slots = table.slots[:place] + (channel,) + table.slots[place + 1 :]
+    return table._replace(slots=slots)
+
+
+def without_member(table: Table, place: int, user: bytes) -> Table:
+    """Return the table without a member of one slot, free if it's emptied."""
+    channel = table.slots[place]
+    members = {u: s for u, s in channel.members.items() if u != user}
+    left = channel._replace(members=members) if members else None
+    return with_slot(table, place, left)
+
+
+def harmed(table: Table) -> Table:
+    """Return the table with the first slot's name cut to one byte."""
+    channel = table.slots[0]
+    return with_slot(table, 0, channel._replace(name=channel.name[:1]))
+
+
+# --- SJOIN ------------------------------------------------------------------
+
+LATEST_TIME = 4294967295
+LARGEST_LIMIT = 65535
+MOST_MEMBERS = 64
+MODES = b"imnpstkl"
+VOICE, OPERATOR = 1, 2
+NUMBER = re.compile(rb"0|[1-9][0-9]*")
+KEY = re.compile(rb"(?!:)[!-+\--~]{1,23}")
+ENTRY = re.compile(rb"(@?)(\+?)(" + USER_ID.pattern + rb")")
+
+
+def number(text: bytes, largest: int, refusal: int) -> int:
+    """Return a decimal without leading zeros, or refuse it."""
+    if not NUMBER.fullmatch(text) or int(text) > largest:
+        raise Refused(refusal)
+    return int(text)
+
+
+def read_modes(
+    text: bytes, given: List[bytes]
+) -> Tuple[FrozenSet[int], Optional[bytes], Optional[int]]:
+    """Return modes, key and limit, or refuse them with 17."""
+    letters = text[1:]
+    distinct = frozenset(letters)
+    if text[:1] != b"+" or not distinct <= set(MODES):
+        raise Refused(17)
+    wanted = [letter for letter in letters if letter in b"kl"]
+    if len(distinct) != len(letters) or len(wanted) != len(given):
+        raise Refused(17)
+    key = limit = None
+    for letter, parameter in zip(wanted, given):
+        if letter == ord("l"):
+            limit = number(parameter, LARGEST_LIMIT, 17)
+        else:
+            key = parameter
+    if limit == 0 or (key is not None and not KEY.fullmatch(key)):
+        raise Refused(17)
+    return distinct, key, limit
+
+
+def read_members(text: bytes) -> Dict[bytes, int]:
+    """Return the members of a list, or refuse it with 18."""
+    members: Dict[bytes, int] = {}
+    for entry in filter(None, text.split(SPACE)):
+        match = ENTRY.fullmatch(entry)
+        if not match:
+            raise Refused(18)
+        operator, voice, user = match.groups()
+        status = (OPERATOR if operator else 0) | (VOICE if voice else 0)
+        members[user] = members.get(user, 0) | status
+    if not members:
+        raise Refused(18)
+    return members
+
+
+def read_join(message: Message) -> Channel:
+    """Return the record that an SJOIN tells of, or refuse it, 12 to 18."""
+    if not 4 <= len(message.parameters) <= 6:
+        raise Refused(12)
+    if not SERVER_ID.fullmatch(message.prefix or b""):
+        raise Refused(13)
+    time, name, modes, *given, members = message.parameters
+    when = number(time, LATEST_TIME, 14)
+    if when == 0:
+        raise Refused(15)
+    if not CHANNEL.fullmatch(name):
+        raise Refused(16)
+    return Channel(name, when, *read_modes(modes, given), read_members(members))
+
+
+def merged_members(old: Channel, new: Channel) -> Dict[bytes, int]:
+    """Return the members of both, each with the statuses that stand."""
+    members = {}
+    for user in old.members.keys() | new.members.keys():
+        before, incoming = old.members.get(user, 0), new.members.get(user, 0)
+        if new.time > old.time:
+            members[user] = before
+        elif new.time < old.time:
+            members[user] = incoming
+        else:
+            members[user] = before | incoming
+    if len(members) > MOST_MEMBERS:
+        raise Refused(22)
+    return members
+
+
+def merged(old: Channel, new: Channel) -> Channel:
+    """Merge an incoming record into the one that is there, or refuse it."""
+    members = merged_members(old, new)
+    if new.time > old.time:
+        return old._replace(members=members)
+    if new.time < old.time:
+        return new._replace(name=old.name, members=members)
+    return old._replace(
+        modes=old.modes | new.modes,
+        key=max(old.key or b"", new.key or b"") or None,
+        limit=max(old.limit or 0, new.limit or 0) or None,
+        members=members,
+    )
+
+
+def list_entry(user: bytes, status: int) -> bytes:
+    """Return a member as an entry of a list."""
+    operator = b"@" if status & OPERATOR else b""
+    voice = b"+" if status & VOICE else b""
+    return operator + voice + user
+
+
+def join_message(prefix: bytes, result: Channel, new: Channel) -> Message:
+    """Return the SJOIN that goes out for an incoming record."""
+    later = new.time > result.time
+    modes, given = b"+", []
+    if not later:
+        modes += bytes(letter for letter in MODES if letter in new.modes)
+        given += [new.key] if new.key is not None else []
+        given += [b"%d" % new.limit] if new.limit is not None else []
+    members = SPACE.join(
+        list_entry(user, 0 if later else status)
+        for user, status in sorted(new.members.items())
+    )
+    time = b"%d" % result.time
+    return Message(prefix, b"SJOIN", [time, result.name, modes, *given, members])
+
+
+def take_join(table: Table, message: Message) -> Tuple[Table, Message]:
+    """Return the table after an SJOIN and what goes out, or refuse it."""
+    new = read_join(message)
+    place = slot_of(table, new.name)
+    if place is not None:
+        result = merged(table.slots[place], new)
+    elif None in table.slots:
+        place, result = table.slots.index(None), new
+    else:
+        raise Refused(21)
+    sent = join_message(message.prefix, result, new)
+    return with_slot(table, place, result), sent
+
+
+# --- PART, QUIT, and taking a line ------------------------------------------
+
+
+def take_part(table: Table, message: Message) -> Tuple[Table, Message]:
+    """Return the table after a PART and what goes out, or refuse it."""
+    if not 1 <= len(message.parameters) <= 2:
+        raise Refused(12)
+    user = message.prefix or b""
+    if not USER_ID.fullmatch(user):
+        raise Refused(13)
+    name = message.parameters[0]
+    if not CHANNEL.fullmatch(name):
+        raise Refused(16)
+    place = slot_of(table, name)
+    if place is None:
+        raise Refused(19)
+    if user not in table.slots[place].members:
+        raise Refused(20)
+    return without_member(table, place, user), message
+
+
+def take_quit(table: Table, message: Message) -> Tuple[Table, Message]:
+    """Return the table after a QUIT and what goes out, or refuse it."""
+    if len(message.parameters) > 1:
+        raise Refused(12)
+    user = message.prefix or b""
+    if not USER_ID.fullmatch(user):
+        raise Refused(13)
+    for place, channel in enumerate(table.slots):
+        if channel and user in channel.members:
+            table = without_member(table, place, user)
+    return table, message
+
+
+COMMANDS = {b"SJOIN": take_join, b"PART": take_part, b"QUIT": take_quit}
+
+
+class Taken(NamedTuple):
+    """What comes of a line: the table, the relay set and what goes out."""
+
+    table: Table
+    relayed: FrozenSet[int]
+    sent: bytes
+
+
+def take(table: Table, link: int, line: bytes, lent: int) -> Taken:
+    """Take a line from a link, or refuse it with the lowest number."""
+    check_table(table)
+    if lent < SHORTEST_OUTPUT:
+        raise Refused(2)
+    if link >= LINKS or link not in table.links:
+        raise Refused(3)
+    message = read(line)
+    command = message.command.upper()
+    if command not in COMMANDS:
+        raise Refused(11)
+    after, sent = COMMANDS[command](table, message)
+    return Taken(after, table.links - {link}, write(sent._replace(command=command)))
+
+
 # --- The two files ----------------------------------------------------------
 
 
 def answer(label: bytes, yes: object) -> bytes:
     """Return one line of output that answers yes or no."""
     return label + (b" yes" if yes else b" no")
+
+
+def refused(refusal: Refused) -> bytes:
+    """Return one line of output that gives a refusal's number."""
+    return b"refused %d" % refusal.number
 
 
 def message_report(message: Message) -> List[bytes]:
@@ -292,13 +626,85 @@ def report(record: Record) -> List[bytes]:
     return [answer(b"match", matches(first, second))]
 
 
-def record_output(record: Record) -> bytes:
-    """Return the output for one record and the empty line after it."""
+def show_links(label: bytes, links: FrozenSet[int]) -> bytes:
+    """Return one line of output with the links of a set, ascending."""
+    return SPACE.join([label, *(b"%d" % link for link in sorted(links))])
+
+
+def slot_report(place: int, channel: Channel) -> List[bytes]:
+    """Return the output lines for a used slot."""
+    modes = sum(1 << MODES.index(letter) for letter in channel.modes)
+    parts = [b"slot %d time %d" % (place, channel.time)]
+    parts.append(b"name %s modes %d" % (channel.name, modes))
+    if channel.key is not None:
+        parts.append(b"key " + channel.key)
+    if channel.limit is not None:
+        parts.append(b"limit %d" % channel.limit)
+    members = sorted(channel.members.items())
+    return [SPACE.join(parts)] + [b"member %s %d" % member for member in members]
+
+
+def table_report(table: Table) -> List[bytes]:
+    """Return the output lines for the table."""
+    report = [show_links(b"links", table.links)]
+    for place, channel in enumerate(table.slots):
+        if channel:
+            report.extend(slot_report(place, channel))
+    return report
+
+
+def taken_report(relayed: FrozenSet[int], sent: bytes) -> List[bytes]:
+    """Return the output lines for what goes out, and where to."""
+    report = [show_links(b"to", relayed), b"count %d" % len(relayed)]
+    return report + ([b"sent " + sent + b"\r"] if sent else [])
+
+
+def take_step(table: Table, record: Record) -> Tuple[Table, List[bytes]]:
+    """Return the table after a line is taken, and what is answered."""
+    link, _, line = record.text.partition(SPACE)
     try:
-        lines = report(record)
+        taken = take(table, int(link), line, LENT[record.word])
     except Refused as refusal:
-        lines = [b"refused %d" % refusal.number]
-    return LF.join(lines) + LF + LF
+        nothing = taken_report(frozenset(), b"")
+        return table, [refused(refusal), *nothing]
+    return taken.table, [b"done", *taken_report(taken.relayed, taken.sent)]
+
+
+def link_step(table: Table, record: Record) -> Tuple[Table, List[bytes]]:
+    """Return the table after a link changes, and what is answered."""
+    try:
+        return linked(table, record.word, int(record.text)), [b"done"]
+    except Refused as refusal:
+        return table, [refused(refusal)]
+
+
+def step(table: Table, record: Record) -> Tuple[Table, List[bytes]]:
+    """Return the table after a step, and what is answered."""
+    if record.word in LENT:
+        return take_step(table, record)
+    if record.word in (LINK, DROP):
+        return link_step(table, record)
+    return (EMPTY if record.word == OVER else harmed(table)), []
+
+
+def answers(record: Record) -> List[bytes]:
+    """Return the output lines for a record that no table is needed for."""
+    try:
+        return report(record)
+    except Refused as refusal:
+        return [refused(refusal)]
+
+
+def outputs(records: Iterable[Record]) -> Iterable[bytes]:
+    """Yield the output for each record and the empty line after it."""
+    table = EMPTY
+    for record in records:
+        if record.word in STEPS:
+            table, lines = step(table, record)
+            lines += table_report(table)
+        else:
+            lines = answers(record)
+        yield LF.join(lines) + LF + LF
 
 
 def made_files() -> Dict[Path, bytes]:
@@ -306,7 +712,7 @@ def made_files() -> Dict[Path, bytes]:
     records = example_records(EXAMPLES.read_bytes())
     return {
         STDIN: b"".join(r.word + SPACE + r.text for r in records),
-        STDOUT: b"".join(record_output(record) for record in records),
+        STDOUT: b"".join(outputs(records)),
     }
 
 

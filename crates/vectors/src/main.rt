@@ -1,15 +1,28 @@
-// Tries the records of standard input on the reader, the writer, the tests of names and the matching of masks, and prints what comes of each, then an
-// empty line.
+// Tries the records of standard input on the reader, the writer, the tests of names, the matching of masks and the relay, and prints what comes of
+// each, then an empty line.
 // A record is a word of five bytes, which says what is tried, and then what it is tried on, up to and including LF.
-// Bytes after the last LF are no record.
-ghost use Prim.Native.Nat.{_≤_};
-ghost use lib.ListN.{length};
+// The relay's table goes from record to record, and is empty at the start. Bytes after the last LF are no record.
+mod printing;
+mod showing;
+mod steps;
+mod text;
+
 use libc::STDIN_FILENO;
-use libc::STDOUT_FILENO;
 use message::LINE_LIMIT;
 use message::Reading;
 use octets::part;
+use printing::print;
+use printing::print_answer;
+use printing::print_bytes;
+use printing::print_number;
+use printing::print_refusal;
+use printing::print_unknown;
 use refusal::ACCEPTED;
+use table::Table;
+use text::after_space;
+use text::before_space;
+use text::body;
+use text::without_end;
 use writer::Written;
 
 // The bytes of a record's first word, its SPACE counted.
@@ -18,43 +31,12 @@ const WORD: usize = 5;
 // The most bytes of a record that are kept. A line that is cut there is still over the reader's limit, and so refused as it would be whole.
 const ROOM: usize = 1024;
 
-// The input between two reads: the bytes so far of the record that is under way, and whether more may come.
+// What stands between two reads: the bytes so far of the record that is under way, the table after the last one, and whether more input may come.
 struct Input {
     record: [u8; ROOM],
     len: usize,
+    table: Table,
     more: bool,
-}
-
-// A write that fails is passed over: the output then isn't what is expected, and that is seen there.
-fn print(s: &[u8]) {
-    io::write_all(STDOUT_FILENO, s);
-}
-
-// One line of output: a label and bytes.
-fn print_bytes(label: &[u8], s: &[u8]) {
-    print(label);
-    print(s);
-    print(b"\n");
-}
-
-// One line of output: a label and a number.
-fn print_number(label: &[u8], n: usize) {
-    print(label);
-    io::print_decimal(STDOUT_FILENO, n as u64);
-    print(b"\n");
-}
-
-fn print_refusal(k: u8) {
-    print_number(b"refused ", k as usize);
-}
-
-// The line without its CR LF.
-fn body(line: &[u8]) -> &[u8] {
-    let n = line.len();
-    if n < 2 {
-        return line;
-    }
-    part(line, 0, n - 2)
 }
 
 // What the writer put at the front of the output; or its number, though it refuses no line that was read.
@@ -104,15 +86,6 @@ fn show_line(line: &[u8]) {
     show_forwarded(line);
 }
 
-// One line of output: a label, and yes or no.
-fn print_answer(label: &[u8], yes: bool) {
-    if yes {
-        print_bytes(label, b"yes");
-        return;
-    }
-    print_bytes(label, b"no");
-}
-
 // What the bytes are a name or an id of.
 fn show_name(name: &[u8]) {
     print_answer(b"channel ", names::is_channel(name));
@@ -120,39 +93,17 @@ fn show_name(name: &[u8]) {
     print_answer(b"user ", names::is_user_id(name));
 }
 
-// The place of the first SPACE, or the end.
-fn first_space(s: &[u8]) -> usize
-    ensures { λ r. ⌜ r ≤ length (now (s .entry)) ⌝ }
-{
-    let mut i = 0;
-    while i < s.len() {
-        if s[i] == b' ' {
-            return i;
-        }
-        i += 1;
-    }
-    i
-}
-
-// What follows the first SPACE.
-fn after_space(s: &[u8]) -> &[u8] {
-    let at = first_space(s);
-    if at == s.len() {
-        return part(s, at, at);
-    }
-    part(s, at + 1, s.len())
-}
-
 // Whether two names are equal.
 fn show_same(pair: &[u8]) {
-    let first = part(pair, 0, first_space(pair));
-    print_answer(b"same ", names::equal(first, after_space(pair)));
+    print_answer(
+        b"same ",
+        names::equal(before_space(pair), after_space(pair)),
+    );
 }
 
 // Whether a mask matches a text.
 fn show_mask(pair: &[u8]) {
-    let mask = part(pair, 0, first_space(pair));
-    let m = glob::matches(mask, after_space(pair));
+    let m = glob::matches(before_space(pair), after_space(pair));
     if m.number != ACCEPTED {
         print_refusal(m.number);
         return;
@@ -160,7 +111,7 @@ fn show_mask(pair: &[u8]) {
     print_answer(b"match ", m.yes);
 }
 
-// What is tried on a record's bytes, which end with LF, by its word. Here alone the word is looked at.
+// What is tried on a record's bytes, which end with LF, by its word, where no table is needed.
 fn show_by(word: &[u8], rest: &[u8]) {
     if check::same(word, b"line ") {
         show_line(rest);
@@ -179,22 +130,38 @@ fn show_by(word: &[u8], rest: &[u8]) {
         show_mask(text);
         return;
     }
-    print(b"unknown\n");
+    print_unknown();
 }
 
-// The bytes before the last.
-fn without_end(s: &[u8]) -> &[u8] {
-    let n = s.len();
-    if n == 0 {
-        return s;
+// What is tried on a record's bytes, which end with LF, by its word, and the table after it.
+fn step_by(t: Table, word: &[u8], rest: &[u8]) -> Table {
+    if check::same(word, b"take ") {
+        return steps::take(t, rest);
     }
-    part(s, 0, n - 1)
+    if check::same(word, b"thin ") {
+        return steps::take_thin(t, rest);
+    }
+    if check::same(word, b"link ") {
+        return steps::link(t, without_end(rest));
+    }
+    if check::same(word, b"drop ") {
+        return steps::drop(t, without_end(rest));
+    }
+    if check::same(word, b"over ") {
+        return steps::start_over();
+    }
+    if check::same(word, b"harm ") {
+        return steps::harm(t);
+    }
+    show_by(word, rest);
+    t
 }
 
-// A whole record.
-fn show_record(record: &[u8]) {
-    show_by(part(record, 0, WORD), part(record, WORD, record.len()));
+// A whole record, and the table after it.
+fn show_record(t: Table, record: &[u8]) -> Table {
+    let next = step_by(t, part(record, 0, WORD), part(record, WORD, record.len()));
     print(b"\n");
+    next
 }
 
 // The record with one byte more. What it has past ROOM bytes is left off.
@@ -209,7 +176,8 @@ fn with_byte(mut input: Input, b: u8) -> Input {
 
 // The record is whole: it is shown, and the next one begins.
 fn finish(mut input: Input) -> Input {
-    show_record(part(&input.record, 0, input.len));
+    let table = show_record(input.table, part(&input.record, 0, input.len));
+    input.table = table;
     input.len = 0;
     input
 }
@@ -248,6 +216,7 @@ fn main() {
     let mut input = Input {
         record: [0; ROOM],
         len: 0,
+        table: Table::empty(),
         more: true,
     };
     let mut turns = u64::MAX;

@@ -9,6 +9,9 @@ Inv-loop input₀ turns₀ input turns = Unit {0}
 abbrev μ-loop : tie.MeasureT-loop
 μ-loop input₀ turns₀ input turns = turns
 
+empty-requires : tie.Need-empty-requires Inv-loop μ-loop
+empty-requires c κs = search needs
+
 loop-holds : tie.Need-loop-holds Inv-loop μ-loop
 loop-holds c = search needs
 
@@ -36,6 +39,7 @@ main-spec =
     (tie.spec
     Inv-loop
     μ-loop
+    empty-requires
     loop-holds
     step-requires
     sub-turns

@@ -1,15 +1,15 @@
--- `first_space` meets its contract: it counts up to the end at most. Assumes nothing.
+-- `is_untouched` is safe and ends: it counts up to the end at most. Assumes nothing.
 use Prim.Native.Nat.{_≤_, _-_}
 use lib.ListN.{length}
 use borrow.Author.Needs.{needs}
-use Rattle.vectors.proofs.first_space.Statement.{statement}
-use Rattle.vectors.proofs.first_space.Tie as tie
+use Rattle.vectors.proofs.steps.is_untouched.Statement.{statement}
+use Rattle.vectors.proofs.steps.is_untouched.Tie as tie
 
 abbrev Inv-loop : tie.InvT-loop
-Inv-loop s i₀ i = i ≤ length s
+Inv-loop out i₀ i = i ≤ length out
 
 abbrev μ-loop : tie.MeasureT-loop
-μ-loop s i₀ i = length s - i
+μ-loop out i₀ i = length out - i
 
 loop-holds : tie.Need-loop-holds Inv-loop μ-loop
 loop-holds c = search needs
@@ -32,8 +32,8 @@ loop-again c = search needs
 returns-2 : tie.Need-returns-2 Inv-loop μ-loop
 returns-2 c = search needs
 
-pub first-space-spec : {M : Type 1} → statement M
-first-space-spec =
+pub is-untouched-spec : {M : Type 1} → statement M
+is-untouched-spec =
     tie.close
     (tie.spec
     Inv-loop
