@@ -37,7 +37,7 @@ use Rattle.channel.proofs.Rules.{peopled}
 use Rattle.channel.proofs.Examples.{2cd, 1ab, stored}
 use Rattle.table.specs.declared.Table.{Table}
 use Rattle.table.specs.Table.{goodSlot, holds, alike, distinct, goodTable}
-use Rattle.table.specs.Slots.{firstAt, freeSlot, slotFor}
+use Rattle.table.specs.Slots.{firstAt, freeSlot, slotFor, placeOf}
 use Rattle.sjoin.specs.Modes.{once, goodLetters, modesByte, parametered, goodArguments, argumentOf}
 use Rattle.sjoin.specs.Modes as modes
 use Rattle.sjoin.specs.Entries.{past, idOf, statusOf, isEntry, memberOf, goodEntries}
@@ -47,7 +47,7 @@ use Rattle.sjoin.specs.Telling.{lettersFrom, entryOf, following, listText, para
 use Rattle.relay.specs.declared.Taken.{Taken}
 use Rattle.relay.specs.declared.Command.the-variants.{Sjoin}
 use Rattle.relay.specs.Commands.{commandOf, isUser}
-use Rattle.relay.specs.Relay.{placeOf, resulting, joinedRules, joined, outgoing, partRules, parted, quitRules, messageAfter, commandIn, takenRules, processRules, slotsBy, relayed, withSlots, processAnswer}
+use Rattle.relay.specs.Relay.{resulting, joinedRules, joined, outgoing, partRules, parted, quitRules, messageAfter, commandIn, takenRules, processRules, slotsBy, relayed, withSlots, processAnswer}
 use Rattle.relay.proofs.Relayed.{relayed-reads}
 use Rattle.relay.proofs.Taking.{taken-good, OneChanged, join-one, Later, after-alone}
 

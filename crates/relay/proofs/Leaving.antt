@@ -19,11 +19,11 @@ use Rattle.channel.specs.Members.{hasMember}
 use Rattle.channel.specs.Record.{decode, emptyRecord}
 use Rattle.table.specs.declared.Slot.{Slot}
 use Rattle.table.specs.declared.Slot.the-variants.{Held}
-use Rattle.table.specs.Slots.{slotFor}
+use Rattle.table.specs.Slots.{slotFor, isHeld}
 use Rattle.relay.specs.declared.Command.the-variants.{Part}
 use Rattle.relay.specs.declared.Change.{Change}
 use Rattle.relay.specs.Commands.{isUser, sourceIn, partedIn}
-use Rattle.relay.specs.Relay.{isHeld, heldAt, partRules, quitRules}
+use Rattle.relay.specs.Relay.{heldAt, partRules, quitRules}
 use Rattle.relay.specs.Private.{PartsHeld, Judged}
 
 -- ---- the source

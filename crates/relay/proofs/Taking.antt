@@ -37,7 +37,7 @@ use Rattle.table.specs.declared.Table.{Table}
 use Rattle.table.specs.declared.Slot.{Slot}
 use Rattle.table.specs.declared.Slot.the-variants.{Held, Free, Full}
 use Rattle.table.specs.Table.{isFree, goodSlot, holds, distinct, goodTable}
-use Rattle.table.specs.Slots.{slotFor}
+use Rattle.table.specs.Slots.{slotFor, isFull, placeOf}
 use Rattle.table.proofs.Searching.{slot-held, slot-free}
 use Rattle.table.proofs.WellFormed.{holding-used, holding-name}
 use Rattle.table.proofs.Using.{held-well}
@@ -47,7 +47,7 @@ use Rattle.sjoin.proofs.Wellformed.{read-proper}
 use Rattle.relay.specs.declared.Command.{Command}
 use Rattle.relay.specs.declared.Command.the-variants.{Sjoin, Part, Quit, Unknown}
 use Rattle.relay.specs.Commands.{sourceIn, partedIn}
-use Rattle.relay.specs.Relay.{isFull, placeOf, resultIn, resulting, joinedRules, joined, partRules, parted, quitRules, commandRules, slotsAfter, commandIn, takenRules, processRules, slotsBy, relayed, withSlots, processAnswer, sent}
+use Rattle.relay.specs.Relay.{resultIn, resulting, joinedRules, joined, partRules, parted, quitRules, commandRules, slotsAfter, commandIn, takenRules, processRules, slotsBy, relayed, withSlots, processAnswer, sent}
 use Rattle.relay.proofs.Relayed.{rules-none, join-none}
 
 -- ---- an incoming channel in its slot

@@ -25,7 +25,7 @@ use Rattle.channel.proofs.Proper.{Proper, proper-fits, encode-well}
 use Rattle.channel.proofs.Records.{decode-encode}
 use Rattle.table.specs.declared.Slot.the-variants.{Held, Free, Full}
 use Rattle.table.specs.Table.{goodSlot, holds}
-use Rattle.table.specs.Slots.{slotFor}
+use Rattle.table.specs.Slots.{slotFor, placeOf}
 use Rattle.table.proofs.First.{IsFirst}
 use Rattle.table.proofs.Searching.{slot-held, slot-free}
 use Rattle.table.proofs.WellFormed.{holding-name}
@@ -37,7 +37,7 @@ use Rattle.sjoin.proofs.Answers.{told-number, told-says}
 use Rattle.sjoin.proofs.Wellformed.{read-proper}
 use Rattle.relay.specs.declared.Change.{Change}
 use Rattle.relay.specs.declared.Command.the-variants.{Sjoin}
-use Rattle.relay.specs.Relay.{placeOf, resulting, joinedRules}
+use Rattle.relay.specs.Relay.{resulting, joinedRules}
 use Rattle.relay.specs.Private.{unchanged, Joins, JoinsHeld, Judged}
 use Rattle.relay.proofs.Judgements.{refused-judged}
 

@@ -17,14 +17,14 @@ use Rattle.channel.specs.Channel.{Channel}
 use Rattle.channel.specs.Record.{encode, decode, emptyRecord}
 use Rattle.channel.specs.declared.Merged.{Merged}
 use Rattle.channel.specs.Members.{hasMember, without}
-use Rattle.table.specs.Slots.{slotFor}
+use Rattle.table.specs.Slots.{slotFor, placeOf}
 use Rattle.sjoin.specs.Join.{channelIn}
 use Rattle.sjoin.specs.Telling.{joinMessage, tellRules}
 use Rattle.relay.specs.declared.Command.{Command}
 use Rattle.relay.specs.declared.Command.the-variants.{Sjoin, Part, Quit, Unknown}
 use Rattle.relay.specs.declared.Change.{Change}
 use Rattle.relay.specs.Commands.{sourceIn, partedIn}
-use Rattle.relay.specs.Relay.{placeOf, heldAt, resulting, outgoing, quitRules}
+use Rattle.relay.specs.Relay.{heldAt, resulting, outgoing, quitRules}
 
 -- ---- a judgement
 abbrev pub unchanged : ℕ → Change

@@ -1,7 +1,7 @@
 -- Taking a line (document 01, 'SJOIN', 'What goes out' and 'The numbers a caller may get'): the rules in their order, the slots after, the line that
 -- goes out, and the answer. From rule 4 on, all depends on the slots and the line alone; the links enter rule 3 and the relay set.
 use Prim.Native.Nat.{ℕ}
-use mathlib.Core.Bool.{Bool, true, false, not, cond, _&&_}
+use mathlib.Core.Bool.{true, not, cond, _&&_}
 use mathlib.Core.List.{List, [], _∷_, _++_, map}
 use lib.ListN.{length, getD, set}
 use lib.Dec.{eqb, leb, ltb}
@@ -24,7 +24,7 @@ use Rattle.table.specs.declared.Table.{Table}
 use Rattle.table.specs.declared.Slot.{Slot}
 use Rattle.table.specs.declared.Slot.the-variants.{Held, Free, Full}
 use Rattle.table.specs.Table.{goodTable}
-use Rattle.table.specs.Slots.{slotFor}
+use Rattle.table.specs.Slots.{slotFor, isHeld, isFull, placeOf}
 use Rattle.sjoin.specs.Join.{joinRules, channelIn}
 use Rattle.sjoin.specs.Telling.{joinMessage}
 use Rattle.relay.specs.declared.Command.{Command}
@@ -33,22 +33,6 @@ use Rattle.relay.specs.declared.Taken.{Taken}
 use Rattle.relay.specs.Commands.{commandOf, isUser, sourceIn, partedIn}
 
 -- ---- the slot used
-abbrev pub isFull : Slot → Bool
-isFull (Held k) = false
-isFull (Free k) = false
-isFull Full = true
-
-abbrev pub isHeld : Slot → Bool
-isHeld (Held k) = true
-isHeld (Free k) = false
-isHeld Full = false
-
--- its place; past all slots where there is none
-abbrev pub placeOf : List Record → Slot → ℕ
-placeOf slots (Held k) = k
-placeOf slots (Free k) = k
-placeOf slots Full = length slots
-
 -- what it holds
 abbrev pub heldAt : List Record → Slot → Record
 heldAt slots s = getD slots (placeOf slots s) emptyRecord

@@ -1,12 +1,22 @@
 -- Laws of the first place of a list that passes a test: it passes, and none before it does. Assumes nothing.
-use mathlib.Core.Path.{_≡_, refl}
-use mathlib.Core.Bool.{Bool, true, false}
+use mathlib.Core.Path.{_≡_, refl, sym, ap, _∙_}
+use mathlib.Core.Bool.{Bool, true, false, not}
 use mathlib.Core.List.{List, [], _∷_}
 use Prim.Native.Nat.{ℕ, zero, suc, _+_, _≤_, _<_}
 use native.Mathlib.Omega.{arith}
 use lib.ListN.{length, drop, getD}
+use lib.Dec.{ltb}
+use borrow.Author.Tests.{lt-ltb, le-ltb, ltb-true, ltb-false}
+use Rattle.octets.specs.Lists.{all}
 use Rattle.octets.proofs.Lists.{drop-step}
 use Rattle.table.specs.Slots.{firstAt}
+
+ltb-suc : (a b : ℕ) → ltb (suc a) (suc b) ≡ ltb a b
+ltb-suc a b = go (ltb a b) refl
+  where
+    go : (t : Bool) → ltb a b ≡ t → ltb (suc a) (suc b) ≡ ltb a b
+    go true e = rw e (lt-ltb (suc a) (suc b) (omega (arith, ltb-true a b e)))
+    go false e = rw e (le-ltb (suc a) (suc b) (omega (arith, ltb-false a b e)))
 
 module _ {A : Type 0} (p : A → Bool) where
   -- ---- at a place
@@ -49,6 +59,16 @@ module _ {A : Type 0} (p : A → Bool) where
       go true e i ih = λ h. absurd (let k : i < 0 = rw e at h in omega arith)
       go false e zero ih = λ h. e
       go false e (suc i) ih = λ h. ih i (let k : suc i < suc (firstAt p l) = rw e at h in omega arith)
+
+  -- no element passes exactly if there is no first
+  pub first-all : (l : List A) → all (λ x. not (p x)) l ≡ not (ltb (firstAt p l) (length l))
+  unfolding firstAt all
+  first-all [] = refl
+  first-all (x ∷ l) = go (p x) refl (first-all l)
+    where
+      go : (t : Bool) → p x ≡ t → all (λ y. not (p y)) l ≡ not (ltb (firstAt p l) (length l)) → all (λ y. not (p y)) (x ∷ l) ≡ not (ltb (firstAt p (x ∷ l)) (suc (length l)))
+      go true e ih = rw (e, lt-ltb 0 (suc (length l)) (omega arith))
+      go false e ih = rw e (ih ∙ ap not (sym (ltb-suc (firstAt p l) (length l))))
 
 -- ---- what is first
 -- The place k is the first of a list that passes the test; d stands for what lies past the end.

@@ -1,20 +1,23 @@
 -- Whether a slot holds a name, and what the search answers by where the first slot that holds it stands, and the first free one. Assumes nothing.
-use mathlib.Core.Path.{_≡_, refl, sym, _∙_}
-use mathlib.Core.Bool.{Bool, true, false}
+use mathlib.Core.Path.{_≡_, refl, sym, ap, _∙_}
+use mathlib.Core.Bool.{Bool, true, false, not, cond, _&&_}
 use mathlib.Core.List.{List}
 use Prim.Native.Nat.{ℕ, _≤_, _<_}
 use native.Mathlib.Omega.{arith}
 use lib.ListN.{length}
 use lib.Dec.{ltb}
 use borrow.Author.Tests.{eq-eqb, ne-eqb, lt-ltb, le-ltb, ltb-true, ltb-false}
+use Rattle.refusal.specs.Numbers.{accepted, noFreeSlot}
+use Rattle.refusal.specs.Rules.{firstOf}
 use Rattle.octets.specs.Room.{part}
 use Rattle.names.specs.Fold.{sameName}
 use Rattle.channel.specs.declared.Record.{Record}
 use Rattle.channel.proofs.Decoded.{decoded-name}
+use Rattle.table.specs.declared.Slot.{Slot}
 use Rattle.table.specs.declared.Slot.the-variants.{Held, Free, Full}
 use Rattle.table.specs.Table.{isFree, holds}
-use Rattle.table.specs.Slots.{firstAt, freeSlot, slotFor}
-use Rattle.table.proofs.First.{IsFirst, IsNone, first-is, first-none}
+use Rattle.table.specs.Slots.{firstAt, freeSlot, slotFor, numberOf, slotRules}
+use Rattle.table.proofs.First.{IsFirst, IsNone, first-is, first-none, first-all}
 
 -- ---- whether a slot holds the name
 module _ (name : List ℕ) (r : Record) where
@@ -89,3 +92,17 @@ module _ (slots : List Record) (name : List ℕ) where
         go (held h q) = let z : _≡_ {A = ℕ} 0 1 = cc in absurd (omega arith)
         go (free h f q) = let z : _≡_ {A = ℕ} 0 1 = cc in absurd (omega arith)
         go (full h f q) = (first-none (holds name) slots d h, first-none isFree slots d f)
+
+  -- the answer settles its number
+  number-is : numberOf (slotFor slots name) ≡ firstOf (slotRules slots name)
+  unfolding slotFor freeSlot firstOf slotRules
+  number-is = rw (first-all (holds name) slots, first-all isFree slots) (go (ltb (firstAt (holds name) slots) (length slots)) refl (ltb (firstAt isFree slots) (length slots)) refl)
+    where
+      go : (a : Bool) → ltb (firstAt (holds name) slots) (length slots) ≡ a → (b : Bool) → ltb (firstAt isFree slots) (length slots) ≡ b
+          → numberOf (slotFor slots name) ≡ cond (not (ltb (firstAt (holds name) slots) (length slots)) && not (ltb (firstAt isFree slots) (length slots))) noFreeSlot accepted
+      go true e b f = rw e
+      go false e true f = rw (e, f)
+      go false e false f = rw (e, f)
+
+  pub answers : (s : Slot) → s ≡ slotFor slots name → (s ≡ slotFor slots name) × (numberOf s ≡ firstOf (slotRules slots name))
+  answers s e = (e, ap numberOf e ∙ number-is)

@@ -1,9 +1,12 @@
 -- The slot that a name uses (document 01, 'SJOIN': "The slot used is the one whose folded name equals the line's; else the lowest free slot").
 use Prim.Native.Nat.{ℕ, suc}
-use mathlib.Core.Bool.{Bool, cond}
+use mathlib.Core.Bool.{Bool, true, false, not, cond, _&&_}
 use mathlib.Core.List.{List, [], _∷_}
 use lib.ListN.{length}
 use lib.Dec.{ltb}
+use Rattle.refusal.specs.Numbers.{accepted, noFreeSlot}
+use Rattle.refusal.specs.Rules.{Rule, _when_}
+use Rattle.octets.specs.Lists.{all}
 use Rattle.channel.specs.declared.Record.{Record}
 use Rattle.table.specs.declared.Slot.{Slot}
 use Rattle.table.specs.declared.Slot.the-variants.{Held, Free, Full}
@@ -21,3 +24,30 @@ freeSlot slots = cond (ltb (firstAt isFree slots) (length slots)) (Free (firstAt
 -- the slot that holds the name, else the lowest free one
 unfoldable pub slotFor : List Record → List ℕ → Slot
 slotFor slots name = cond (ltb (firstAt (holds name) slots) (length slots)) (Held (firstAt (holds name) slots)) (freeSlot slots)
+
+-- ---- the answer, by cases
+-- the number that a record of that name gets: 21 where there is no slot for it
+abbrev pub numberOf : Slot → ℕ
+numberOf (Held k) = accepted
+numberOf (Free k) = accepted
+numberOf Full = noFreeSlot
+
+abbrev pub isHeld : Slot → Bool
+isHeld (Held k) = true
+isHeld (Free k) = false
+isHeld Full = false
+
+abbrev pub isFull : Slot → Bool
+isFull (Held k) = false
+isFull (Free k) = false
+isFull Full = true
+
+-- the place of the slot; past all slots where there is none
+abbrev pub placeOf : List Record → Slot → ℕ
+placeOf slots (Held k) = k
+placeOf slots (Free k) = k
+placeOf slots Full = length slots
+
+-- number 21: new name, all slots used
+unfoldable pub slotRules : List Record → List ℕ → List Rule
+slotRules slots name = noFreeSlot when (all (λ r. not (holds name r)) slots && all (λ r. not (isFree r)) slots) ∷ []

@@ -2,8 +2,9 @@
 mod slots;
 
 ghost use mathlib.Core.Path.{_≡_};
+ghost use Rattle.refusal.specs.Rules.{firstOf};
 ghost use Rattle.table.specs.Table.{emptyTable, goodTable, relinked as relinkedOf, registerAnswer, unregisterAnswer};
-ghost use Rattle.table.specs.Slots.{slotFor};
+ghost use Rattle.table.specs.Slots.{slotFor, numberOf, slotRules};
 use channel::Record;
 use links::Links;
 use links::with_link;
@@ -102,7 +103,8 @@ pub fn unregister(t: Table, link: u32) -> Registered
 
 // The slot that a name uses. Each used slot's folded name is compared byte by byte; the first that differs leaves for the next slot.
 pub fn find(t: Table, name: &[u8]) -> Slot
-    ensures { λ r. ⌜ r ≡ slotFor (t .slots) (now (name .entry)) ⌝ }
+    ensures slot { λ r. ⌜ r ≡ slotFor (t .slots) (now (name .entry)) ⌝ }
+    ensures number { λ r. ⌜ numberOf r ≡ firstOf (slotRules (t .slots) (now (name .entry))) ⌝ }
 {
     'slots: for k in 0..Record::SLOTS {
         let r = t.slots[k];

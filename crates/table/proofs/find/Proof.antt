@@ -22,7 +22,7 @@ use Rattle.table.specs.declared.Slot.the-variants.{Held}
 use Rattle.table.specs.Table.{holds}
 use Rattle.table.specs.Slots.{firstAt}
 use Rattle.table.proofs.First.{first-here, first-next, first-end}
-use Rattle.table.proofs.Searching.{free-holds, used-holds, held-found, held-none}
+use Rattle.table.proofs.Searching.{free-holds, used-holds, held-found, held-none, answers}
 use Rattle.table.proofs.find.Statement.{statement}
 use Rattle.table.proofs.find.Tie as tie
 
@@ -173,9 +173,10 @@ returns c =
     let s = c .before .before .before .before .before .before .before .before .before in
     let l = c .before .loop in
     let same : sameName (c .before .before .before .part .result .now) (sought s) ≡ true = sym (l .inv .3) ∙ name-past _ (sought s) (l .i) (omega arith) (omega arith) in
-    ap Held (l .inv .0)
+    answers (table s .slots) (sought s) (Held (l .k))
+    (ap Held (l .inv .0)
     ∙ held-found (table s .slots) (sought s) (place s)
-    (first-here (holds (sought s)) (table s .slots) (place s) none (within s) (s .before .slots .inv .1) (compared (c .before .before .before) ∙ same)) (within s)
+    (first-here (holds (sought s)) (table s .slots) (place s) none (within s) (s .before .slots .inv .1) (compared (c .before .before .before) ∙ same)) (within s))
 
 lowest-free-requires : tie.Need-lowest-free-requires Inv-loop μ-loop Inv-slots μ-slots
 lowest-free-requires c κs = search needs
@@ -184,7 +185,8 @@ returns-2 : tie.Need-returns-2 Inv-loop μ-loop Inv-slots μ-slots
 returns-2 c =
     let a = c .before .before .before .before .args in
     let s = c .before .before .slots in
-    c .lowest-free .ensures ∙ sym (held-none (a .t1 .slots) (a .name .now) (first-end (holds (a .name .now)) (a .t1 .slots) (s .k) (omega (arith, sixteen (c .before .before .before .before))) (s .inv .1)))
+    answers (a .t1 .slots) (a .name .now) (c .lowest-free .result)
+    (c .lowest-free .ensures ∙ sym (held-none (a .t1 .slots) (a .name .now) (first-end (holds (a .name .now)) (a .t1 .slots) (s .k) (omega (arith, sixteen (c .before .before .before .before))) (s .inv .1))))
 
 pub find-spec : {M : Type 1} → statement M
 find-spec =

@@ -45,7 +45,7 @@ none : (c : tie.After-find) → told c .number ≡ accepted
 none c = c .before .before .before .before .before .if1 .left
 
 found : (c : tie.After-find) → c .find .result ≡ slotFor (slots c) (channelIn (contentOf (line c)) .name)
-found c = c .find .ensures ∙ ap (slotFor (slots c)) (incoming-name (slots c) (line c) (told c) (is c) (read c) (none c) (c .before .part .result .now) (c .before .part .ensures .0))
+found c = c .find .ensures .0 ∙ ap (slotFor (slots c)) (incoming-name (slots c) (line c) (told c) (is c) (read c) (none c) (c .before .part .result .now) (c .before .part .ensures .0))
 
 -- ---- slot k holds the name
 held : (c : tie.After-k) → slotFor (slots (c .before .before)) (channelIn (contentOf (line (c .before .before))) .name) ≡ Held (c .k .given .0 .0)

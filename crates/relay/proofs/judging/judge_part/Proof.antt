@@ -15,10 +15,9 @@ use Rattle.channel.specs.declared.Record.{Record}
 use Rattle.channel.specs.Limits.{slotCount}
 use Rattle.channel.specs.Record.{emptyRecord}
 use Rattle.table.specs.declared.Slot.the-variants.{Held}
-use Rattle.table.specs.Slots.{slotFor}
+use Rattle.table.specs.Slots.{slotFor, isHeld}
 use Rattle.table.proofs.Searching.{slot-held}
 use Rattle.relay.specs.Commands.{isUser, partedIn}
-use Rattle.relay.specs.Relay.{isHeld}
 use Rattle.relay.proofs.Judgements.{refused-judged}
 use Rattle.relay.proofs.Leaving.{user-told, user-held, part-few, part-many, part-unsourced, part-unnamed, part-absent, part-judged}
 use Rattle.relay.proofs.judging.judge_part.Statement.{statement}
@@ -50,7 +49,7 @@ named : (c : tie.Else4) → isChannel (partedIn (content (c .before .before .bef
 named c = channel (c .before) true (not-false _ (c .if4 .left))
 
 found : (c : tie.After-find) → c .find .result ≡ slotFor (slots (c .before .before .before .before .before .before .before .before .before .before)) (partedIn (content (c .before .before .before .before .before .before .before .before .before .before)))
-found c = c .find .ensures ∙ ap (slotFor (slots (c .before .before .before .before .before .before .before .before .before .before))) (c .before .before .before .param .ensures .0)
+found c = c .find .ensures .0 ∙ ap (slotFor (slots (c .before .before .before .before .before .before .before .before .before .before))) (c .before .before .before .param .ensures .0)
 
 -- ---- slot k holds the name
 held : (c : tie.After-k) → slotFor (slots (c .before .before .before .before .before .before .before .before .before .before .before .before)) (partedIn (content (c .before .before .before .before .before .before .before .before .before .before .before .before))) ≡ Held (c .k .given .0 .0)
