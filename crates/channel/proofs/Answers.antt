@@ -14,7 +14,7 @@ use Rattle.refusal.specs.Numbers.{accepted, notWellFormed, badName, tooManyMemb
 use Rattle.refusal.specs.Rules.{firstOf}
 use Rattle.octets.specs.Lists.{all, padded}
 use Rattle.octets.specs.Ascending.{unite}
-use Rattle.octets.proofs.Bools.{and-left}
+use Rattle.octets.proofs.Bools.{and-left, and-intro}
 use Rattle.octets.proofs.Lists.{all-from, padded-take}
 use Rattle.names.specs.Names.{nameLimit}
 use Rattle.names.specs.Fold.{sameName}
@@ -25,13 +25,14 @@ use Rattle.channel.specs.declared.merging.Settings.{Settings}
 use Rattle.channel.specs.declared.merging.Key.{Key}
 use Rattle.channel.specs.Limits.{memberLimit, keyLimit}
 use Rattle.channel.specs.Key.{greater}
-use Rattle.channel.specs.Channel.{member, byId}
+use Rattle.channel.specs.Channel.{Channel, member, byId}
 use Rattle.channel.specs.Record.{nobody, encode, decode}
 use Rattle.channel.specs.WellFormed.{isZero, inRoom, clear, wellFormed}
 use Rattle.channel.specs.Merging.{stands, bare, standing, merge, mergeRules, mergeAnswer}
 use Rattle.channel.specs.Members.{roster}
 use Rattle.channel.specs.Private.{answerOf, asGiven, settingsOf, keyOf}
-use Rattle.channel.proofs.Proper.{well-says}
+use Rattle.channel.proofs.Records.{decode-encode}
+use Rattle.channel.proofs.Proper.{Proper, proper-fits, well-says, encode-well}
 use Rattle.channel.proofs.Uniting.{side}
 
 -- ---- the refusals in their order
@@ -53,6 +54,14 @@ module _ (a b : Record) where
       answer-merged : length (merge (decode a) (decode b) .members) ≤ memberLimit → mergeAnswer a b ≡ answerOf accepted (encode (merge (decode a) (decode b)))
       unfolding mergeAnswer mergeRules firstOf
       answer-merged h = simp (w, s, le-ltb memberLimit (length (merge (decode a) (decode b) .members)) h)
+
+-- the records of two channels
+pub answer-encoded : (a b : Channel) → Proper a → Proper b → sameName (a .name) (b .name) ≡ true → length (merge a b .members) ≤ memberLimit
+    → mergeAnswer (encode a) (encode b) ≡ answerOf accepted (encode (merge a b))
+answer-encoded a b p q e h =
+    let u : decode (encode a) ≡ a = decode-encode a (proper-fits a p) in
+    let v : decode (encode b) ≡ b = decode-encode b (proper-fits b q) in
+    rw (u, v) at (answer-merged (encode a) (encode b) (and-intro _ _ (encode-well a p) (encode-well b q)) (rw (u, v) e) (rw (u, v) h))
 
 -- ---- what a side gives
 as-counted : (l : List Member) → map (asGiven true) l ≡ l

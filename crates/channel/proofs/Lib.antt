@@ -7,6 +7,7 @@ pub mod Records
 pub mod Proper
 pub mod Plains
 pub mod Merges
+pub mod Answers
 pub mod Removals
 pub mod Blank
 pub mod Decoded
@@ -19,4 +20,3 @@ mod Others
 mod Placing
 mod Ordering
 mod Uniting
-mod Answers

@@ -45,7 +45,18 @@ unfoldable pub folded : Channel → List Channel → Channel
 folded l [] = l
 folded l (k ∷ s) = folded (merge l k) s
 
+-- the first one's spelling
+pub folded-name : (l : Channel) (s : List Channel) → folded l s .name ≡ l .name
+unfolding folded merge
+folded-name l [] = refl
+folded-name l (k ∷ s) = folded-name (merge l k) s
+
 -- one record more
+pub folded-snoc : (l k : Channel) (s : List Channel) → folded l (s ++ k ∷ []) ≡ merge (folded l s) k
+unfolding folded
+folded-snoc l k [] = refl
+folded-snoc l k (j ∷ s) = folded-snoc (merge l j) k s
+
 plain-snoc : (l k : Channel) (s : List Channel) → 1 ≤ earliest l s → Fair k → merge (plain l s) k ≡ plain l (s ++ k ∷ [])
 unfolding earliest
 plain-snoc l k s g h = ap (merge (plain l s)) (sym (plain-single k (h .0))) ∙ merge-plain l k s [] g (h .1)

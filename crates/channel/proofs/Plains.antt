@@ -75,7 +75,17 @@ everyone-same s t h i =
     same-length byId (everyone s) (everyone t) (ascending-everyone s) (ascending-everyone t)
     (λ x. has-everyone x s ∙ total-same _||_ false joining-or (named x) s t h i ∙ sym (has-everyone x t))
 
--- ---- the plain record's members
+-- ---- the plain record's name and time
+-- as the first line spells it
+pub plain-name : (l : Channel) (s : List Channel) → plain l s .name ≡ l .name
+unfolding plain
+plain-name l s = refl
+
+pub plain-time : (l : Channel) (s : List Channel) → plain l s .time ≡ earliest l s
+unfolding plain
+plain-time l s = refl
+
+-- ---- its members
 pub ascending-plain : (l : Channel) (s : List Channel) → Ascending byId (plain l s .members)
 unfolding plain
 ascending-plain l s = ascending-restated byId keyed-byId (statusAt (earliest l s) (l ∷ s)) (everyone (l ∷ s)) (ascending-everyone (l ∷ s))

@@ -3,7 +3,7 @@
 use Prim.Native.Nat.{ℕ, _+_, _*_, _/_, _%_, _^_, max}
 use mathlib.Core.Path.{_≡_, refl, sym, ap, ap₂, _∙_}
 use mathlib.Core.Bool.{false, _||_, or-assoc, or-comm, or-self}
-use mathlib.Core.List.{List, [], _∷_, _++_, List·Memᴰ, List·Memᴰ·head, List·Memᴰ·tail}
+use mathlib.Core.List.{List, [], _∷_, _++_, map, List·Memᴰ, List·Memᴰ·head, List·Memᴰ·tail, Memᴰ·cast, Memᴰ·map, Memᴰ·of-map}
 use native.Mathlib.Omega.{arith}
 use lib.Arith.{bin-ind}
 use lib.Bits.{bitOr, or-step, or-comm as bits-comm, or-self as bits-self, or-zero-l, or-shr}
@@ -18,6 +18,9 @@ pub record Joining {A : Type 0} (join : A → A → A) (none : A) : Type 0 where
 -- each element of s is one of t's
 abbrev pub Within : {X : Type 0} → List X → List X → Type 0
 Within {X} s t = (x : X) → List·Memᴰ x s → List·Memᴰ x t
+
+pub within-map : {X Y : Type 0} (f : X → Y) (s t : List X) → Within s t → Within (map f s) (map f t)
+within-map f s t h y m = let (x, i, e) = Memᴰ·of-map f s m in Memᴰ·cast (sym e) (Memᴰ·map f (h x i))
 
 -- ---- laws of any such join
 module _ {A : Type 0} (join : A → A → A) (none : A) (J : Joining join none) where

@@ -5,7 +5,7 @@ use mathlib.Core.List.{List, [], _∷_, _++_, map}
 use Prim.Native.Nat.{ℕ, zero, suc, _+_, _-_, _≤_, _<_}
 use native.Mathlib.Numerals.{add-one}
 use native.Mathlib.Omega.{arith}
-use lib.ListN.{length, take, drop, getD, set, replicate, drop-of-length-le, length-append, length-take, length-drop, length-map, length-replicate, getD-replicate, List·getD-eq-default}
+use lib.ListN.{length, take, drop, getD, set, replicate, drop-of-length-le, length-append, length-take, length-drop, length-map, length-replicate, getD-replicate, List·getD-map, List·getD-eq-default}
 use lib.Seq.{take-suc, drop-cons, take-append-le, drop-append-le, take-append-seam, length-take-le, take-take, getD-take, getD-drop, ext-getD, sets}
 use lib.Dec.{eqb, ltb}
 use borrow.Author.Tests.{ne-eqb, ltb-true, ltb-false}
@@ -230,3 +230,11 @@ module _ {A : Type 0} (x : A) where
   pub sets-padded : (n : ℕ) (vs : List A) → sets (replicate n x) 0 vs ≡ padded n x vs
   unfolding padded
   sets-padded n vs = sets-continued vs n n (omega arith)
+
+-- a function of each place, the open ones too
+pub map-padded : {A B : Type 0} (f : A → B) (x : A) (n : ℕ) (l : List A) → map f (padded n x l) ≡ padded n (f x) (map f l)
+map-padded f x n l =
+    let e : length (map f (padded n x l)) ≡ n = length-map (padded n x l) f ∙ length-padded x n l in
+    ext-getD (f x) (map f (padded n x l)) (padded n (f x) (map f l)) (e ∙ sym (length-padded (f x) n (map f l)))
+    (λ k h. let b : k < n = omega (arith, e) in
+    List·getD-map f (padded n x l) k x ∙ ap f (getD-padded x n l k x b) ∙ sym (getD-padded (f x) n (map f l) k (f x) b ∙ List·getD-map f l k x))

@@ -17,7 +17,7 @@ use Rattle.table.specs.Table.{goodTable}
 use Rattle.table.proofs.WellFormed.{slots-good}
 use Rattle.relay.specs.declared.Change.{Change}
 use Rattle.relay.specs.declared.Taken.{Taken}
-use Rattle.relay.specs.Relay.{commandIn, takenRules, processRules, relayed, withSlots, refused, processAnswer, sent}
+use Rattle.relay.specs.Relay.{commandIn, takenRules, processRules, relayed, withSlots, refused, taken, processAnswer, sent}
 use Rattle.relay.specs.Private.{Changes, slotsWith, sendRules, sendLine}
 use Rattle.relay.proofs.Enacted.{enacted-slots, enacted-line, enacted-rules}
 
@@ -34,13 +34,17 @@ module _ (t : Table) (link : ℕ) (line : List ℕ) (n : ℕ) where
 
   -- ---- no rule does
   module _ (none : firstOf (processRules t link line n) ≡ accepted) where
-    passed : (goodTable t ≡ true) × (lineLimit ≤ n) × (firstOf (takenRules (t .slots) line) ≡ accepted)
+    pub passed : (goodTable t ≡ true) × (lineLimit ≤ n) × (firstOf (takenRules (t .slots) line) ≡ accepted)
     unfolding processRules
     passed =
         let a = first-none _ _ (λ z. omega arith) none in
         let b = first-none _ _ (λ z. omega arith) (a .1) in
         let c = first-none _ _ (λ z. omega arith) (b .1) in
         (not-false _ (a .0), ltb-false n lineLimit (b .0), c .1)
+
+    pub answer-accepted : processAnswer t link line n ≡ taken t link line
+    unfolding processAnswer
+    answer-accepted = rw none
 
     pub sent-line : sent t link line n ≡ relayed (t .slots) line
     unfolding sent

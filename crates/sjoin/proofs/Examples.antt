@@ -28,7 +28,7 @@ use Rattle.sjoin.proofs.Wellformed.{line-well}
 use Rattle.sjoin.proofs.Back.{channel-back, rules-back}
 
 -- `:1AB SJOIN 1200 #race +nt :@1ABAAAAAA 1ABAAAAAB`
-line : List ℕ
+unfoldable pub line : List ℕ
 line = 58 ∷ 49 ∷ 65 ∷ 66 ∷ 32 ∷ 83 ∷ 74 ∷ 79 ∷ 73 ∷ 78 ∷ 32 ∷ 49 ∷ 50 ∷ 48 ∷ 48 ∷ 32 ∷ 35 ∷ 114 ∷ 97 ∷ 99 ∷ 101 ∷ 32 ∷ 43 ∷ 110 ∷ 116 ∷ 32 ∷ 58 ∷ 64 ∷ 49 ∷ 65 ∷ 66 ∷ 65 ∷ 65 ∷ 65 ∷ 65 ∷ 65 ∷ 65 ∷ 32 ∷ 49 ∷ 65 ∷ 66 ∷ 65 ∷ 65 ∷ 65 ∷ 65 ∷ 65 ∷ 66 ∷ crlf
 
 line-taken : joinNumber line ≡ accepted
@@ -36,7 +36,7 @@ unfolding line joinNumber joinRules goodCount isSource goodTime isDecimal leadsW
 line-taken = refl
 
 -- the channel of channel/proofs/Examples.antt
-line-tells : channelIn (contentOf line) ≡ incoming
+pub line-tells : channelIn (contentOf line) ≡ incoming
 unfolding line incoming 1ab channelIn argumentsIn argumentOf parametered modesByte withMode placeAmong valueFrom memberOf idOf statusOf past wordsAt insert put unite compare contentOf contentIn isRead numberFor lineRules bodyRules firstOf endsLine sameBy bodyOf all isPlain startsWith prefix word prefixEnd commandStart spaces command isCommand isLetter within commandEnd rest params
 line-tells = refl
 

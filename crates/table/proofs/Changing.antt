@@ -33,7 +33,7 @@ well-used r h = ne-eqb (r .count) 0 (λ e. omega (arith, well-says r h .holds .s
 pub well-good : (r : Record) → wellFormed r ≡ true → goodSlot r ≡ true
 well-good r h = good-used r (eqb-false (r .count) 0 (well-used r h)) ∙ h
 
-empty-slot : goodSlot emptyRecord ≡ true
+pub empty-slot : goodSlot emptyRecord ≡ true
 empty-slot = good-free emptyRecord empty-free ∙ empty-blank
 
 -- one at any place of good slots, past their end the empty one

@@ -5,5 +5,6 @@ pub mod Searching
 pub mod WellFormed
 pub mod Using
 pub mod Changing
+pub mod Alone
 mod Pairs
 pub mod Examples

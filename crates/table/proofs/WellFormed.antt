@@ -49,7 +49,7 @@ unlike r s = not (alike r s)
 
 -- ---- the empty table
 module _ (r : Record) where
-  free-distinct : (n : ℕ) → r .count ≡ 0 → distinct (replicate n r) ≡ true
+  pub free-distinct : (n : ℕ) → r .count ≡ 0 → distinct (replicate n r) ≡ true
   unfolding distinct
   free-distinct zero e = refl
   free-distinct (suc n) e = and-intro (all (unlike r) (replicate n r)) (distinct (replicate n r)) (all-replicate (unlike r) r n (ap not (free-alike r r e))) (free-distinct n e)

@@ -1,0 +1,30 @@
+-- Our taking meets demand 1: where a rule applies, its answer is that refusal by definition, and each rule's number is from the list. Assumes nothing.
+use Prim.Native.Nat.{ℕ}
+use mathlib.Core.Path.{_≡_, refl, sym, ap}
+use mathlib.Core.List.{List}
+use native.Mathlib.Omega.{arith}
+use lib.ListN.{length}
+use Rattle.refusal.specs.Numbers.{accepted}
+use Rattle.octets.specs.Room.{front}
+use Rattle.table.specs.declared.Table.{Table}
+use Rattle.relay.specs.Relay.{refused, processAnswer, sent}
+use Rattle.relay.proofs.Numbers.{process-listed}
+use Rattle.relay.proofs.Answering.{answer-refused, sent-nothing}
+use Rattle.convergence.specs.Demands.{ruled, Listed, Demand1}
+use Rattle.convergence.specs.Ours.{ours}
+
+module _ (t : Table) (link : ℕ) (line out : List ℕ) (bad : ruled t link line out ≡ accepted → ⊥) where
+  answered : processAnswer t link line (length out) ≡ refused t (ruled t link line out)
+  answered = sym (answer-refused t link line (length out) (ruled t link line out) refl bad)
+
+  untouched : front (sent t link line (length out)) out ≡ out
+  untouched = ap (λ (w : List ℕ). front w out) (sent-nothing t link line (length out) (ruled t link line out) refl bad)
+
+  refuses : ours t link line out ≡ (refused t (ruled t link line out), out)
+  refuses = λ i. (answered i, untouched i)
+
+  listed : Listed (ours t link line out .0 .number)
+  listed = rw answered (omega (arith, bad), process-listed t link line (length out))
+
+pub demand1 : Demand1 ours
+demand1 = record { one = λ t link line out. (ours t link line out, refl, λ b e. sym e); refuses = refuses; listed = listed }

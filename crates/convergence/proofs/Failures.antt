@@ -1,0 +1,238 @@
+-- Each useless relay fails: lines that the rules accept, and what is wrong after them. `later` has the time 1200, `earlier` 1000, an empty slot 0. Assumes nothing.
+use Prim.Native.Nat.{ℕ, _-_}
+use mathlib.Core.Path.{_≡_, refl, sym, ap, ap₂, _∙_}
+use mathlib.Core.Bool.{Bool, true, false, _&&_, cond}
+use mathlib.Core.Logic.{_⊎_, inl, inr, ⊎-elim}
+use mathlib.Core.List.{List, [], _∷_, _++_, map}
+use native.Mathlib.Omega.{arith}
+use lib.ListN.{length, set}
+use lib.Dec.{eqb}
+use borrow.Author.Tests.{eq-eqb, eqb-true, eqb-false}
+use Rattle.refusal.specs.Numbers.{accepted, notWellFormed}
+use Rattle.octets.specs.Bits.{hasBit}
+use Rattle.octets.specs.Bytes.{capital}
+use Rattle.octets.specs.Lists.{all}
+use Rattle.octets.specs.Order.{compare}
+use Rattle.octets.specs.Ascending.{insert, put, unite}
+use Rattle.octets.proofs.Lists.{all-replicate}
+use Rattle.message.specs.Reading.{contentOf}
+use Rattle.channel.specs.declared.Record.{Record}
+use Rattle.channel.specs.declared.Merged.{Merged}
+use Rattle.channel.specs.Limits.{slotCount}
+use Rattle.channel.specs.Record.{encode, emptyRecord}
+use Rattle.channel.specs.Plain.{earliest, entries, everyone}
+use Rattle.channel.proofs.Examples.{2cd, 1ab, stored, incoming}
+use Rattle.channel.proofs.Blank.{empty-free}
+use Rattle.channel.proofs.Plains.{plain-time}
+use Rattle.links.specs.Links.{isLink}
+use Rattle.table.specs.declared.Table.{Table}
+use Rattle.table.specs.Table.{isFree}
+use Rattle.table.proofs.Alone.{free-slot}
+use Rattle.sjoin.specs.Telling.{sjoin}
+use Rattle.relay.specs.declared.Taken.{Taken}
+use Rattle.relay.specs.Relay.{slotsBy, withSlots}
+use Rattle.relay.proofs.Answering.{answer-accepted}
+use Rattle.relay.proofs.Joining.{slots-joined, opened}
+use Rattle.convergence.specs.Demands.{Taking, Merging, ruled, Accepts, Demand2, Join, goodLines, takeJoin, tableAfter, channelOf, Kept, plainRecord, holding, firstSlot, Demand3}
+use Rattle.convergence.specs.Ours.{ours}
+use Rattle.convergence.specs.Useless.{refusing, constant, unaltering, firstOnly, firstRecord}
+use Rattle.convergence.proofs.Lines.{earlier, later, earlier-command, later-command, room, start, earlierFrom, laterFrom, earlier-tells, later-tells, earlier-number, later-number, stored-race, incoming-race, kept-by, not-none}
+
+-- ---- the lines are good: links 0, 3 and 5 are registered
+abbrev links : ℕ
+links = 41
+
+on-0 : isLink 0 && hasBit links 0 ≡ true
+unfolding hasBit
+on-0 = refl
+
+on-3 : isLink 3 && hasBit links 3 ≡ true
+unfolding hasBit
+on-3 = refl
+
+later-good : goodLines (start links) (laterFrom 3 ∷ []) ≡ later ∷ []
+unfolding goodLines
+later-good = rw (later-number links 3 on-3)
+
+earlier-good : goodLines (start links) (earlierFrom 0 ∷ []) ≡ earlier ∷ []
+unfolding goodLines
+earlier-good = rw (earlier-number links 0 on-0)
+
+both-good : goodLines (start links) (laterFrom 3 ∷ earlierFrom 0 ∷ []) ≡ later ∷ earlier ∷ []
+unfolding goodLines
+both-good = rw (later-number links 3 on-3, earlier-number links 0 on-0)
+
+-- and keep to one channel and 64 users
+later-kept : Kept (later ∷ [])
+unfolding everyone entries insert put unite compare incoming 1ab
+later-kept = kept-by (later ∷ []) (incoming ∷ []) (rw later-tells) (incoming-race, tt) (omega arith)
+
+earlier-kept : Kept (earlier ∷ [])
+unfolding everyone entries insert put unite compare stored 2cd
+earlier-kept = kept-by (earlier ∷ []) (stored ∷ []) (rw earlier-tells) (stored-race, tt) (omega arith)
+
+both-kept : Kept (later ∷ earlier ∷ [])
+unfolding everyone entries insert put unite compare incoming stored 1ab 2cd
+both-kept = kept-by (later ∷ earlier ∷ []) (incoming ∷ stored ∷ []) (rw (later-tells, earlier-tells)) (incoming-race, (stored-race, tt)) (omega arith)
+
+-- ---- the time in the first slot
+abbrev firstTime : Table → ℕ
+firstTime t = firstSlot t .time
+
+start-time : firstTime (start links) ≡ 0
+unfolding emptyRecord encode
+start-time = refl
+
+-- after one line is taken
+taken-slots : (l : List ℕ) → map capital (contentOf l .command) ≡ sjoin → slotsBy (start links .slots) l ≡ set (start links .slots) 0 (encode (channelOf l))
+taken-slots l e = slots-joined (start links .slots) l e ∙ opened (start links .slots) (channelOf l) 0 (free-slot (channelOf l .name) (slotCount - 1))
+
+taken-time : (l : List ℕ) → map capital (contentOf l .command) ≡ sjoin → firstTime (withSlots (start links) (slotsBy (start links .slots) l)) ≡ channelOf l .time
+unfolding encode
+taken-time l e = rw (taken-slots l e)
+
+-- where the plain record of lines is held
+record-time : (l : List ℕ) (s : List (List ℕ)) → plainRecord (l ∷ s) .time ≡ earliest (channelOf l) (map channelOf s)
+unfolding plainRecord encode
+record-time l s = plain-time (channelOf l) (map channelOf s)
+
+held-time : (l : List ℕ) (s : List (List ℕ)) → firstTime (holding (start links) (l ∷ s)) ≡ earliest (channelOf l) (map channelOf s)
+unfolding holding
+held-time l s = record-time l s
+
+later-time : channelOf later .time ≡ 1200
+unfolding incoming
+later-time = rw later-tells
+
+earlier-time : channelOf earlier .time ≡ 1000
+unfolding stored
+earlier-time = rw earlier-tells
+
+-- after each alone, and after both
+later-held : firstTime (holding (start links) (goodLines (start links) (laterFrom 3 ∷ []))) ≡ 1200
+unfolding earliest
+later-held = rw later-good (held-time later [] ∙ later-time)
+
+earlier-held : firstTime (holding (start links) (goodLines (start links) (earlierFrom 0 ∷ []))) ≡ 1000
+unfolding earliest
+earlier-held = rw earlier-good (held-time earlier [] ∙ earlier-time)
+
+both-held : firstTime (holding (start links) (goodLines (start links) (laterFrom 3 ∷ earlierFrom 0 ∷ []))) ≡ 1000
+unfolding earliest
+both-held = rw both-good (held-time later (earlier ∷ []) ∙ omega (arith, later-time, earlier-time))
+
+-- ---- what it is to fail
+-- a line that the rules accept, and that isn't taken as demand 2 says
+abbrev pub Fails2 : Taking → ℕ → List ℕ → Type 0
+Fails2 taking link line =
+    (ruled (start links) link line room ≡ accepted) × (Accepts (start links) link line room (taking (start links) link line room .0) (taking (start links) link line room .1) → ⊥)
+
+-- joins that meet the premises of demand 3, and that leave another table than it says
+abbrev pub Fails3 : Taking → List Join → Type 0
+Fails3 taking js = Kept (goodLines (start links) js) × (tableAfter taking (start links) js ≡ holding (start links) (goodLines (start links) js) → ⊥)
+
+fails-2 : (taking : Taking) (link : ℕ) (line : List ℕ) → Fails2 taking link line → Demand2 taking → ⊥
+fails-2 taking link line f d = f .1 (d (start links) link line room (f .0))
+
+fails-3 : (taking : Taking) (js : List Join) → Fails3 taking js → (merging : Merging) → Demand3 taking merging → ⊥
+fails-3 taking js f merging d = f .1 (d .leaves (start links) js refl (f .0))
+
+-- ---- refusing all
+pub refusing-later : Fails2 refusing 3 later
+refusing-later =
+    let n = later-number links 3 on-3 in
+    (n, λ a. let e : notWellFormed ≡ accepted = rw n at (a .number) in absurd (omega (arith, e)))
+
+pub refusing-fails : Demand2 refusing → ⊥
+refusing-fails = fails-2 refusing 3 later refusing-later
+
+-- ---- a constant answer: whatever it is, it is wrong for one of two lines
+module _ (answer : Taken) (after : List ℕ) where
+  pub constant-line : Fails2 (constant answer after) 3 later ⊎ Fails2 (constant answer after) 0 earlier
+  constant-line = go (eqb (firstTime (answer .table)) 1200) refl
+    where
+      go : (t : Bool) → eqb (firstTime (answer .table)) 1200 ≡ t → Fails2 (constant answer after) 3 later ⊎ Fails2 (constant answer after) 0 earlier
+      go true e =
+          inr (
+            earlier-number links 0 on-0,
+            λ a. omega (arith, eqb-true (firstTime (answer .table)) 1200 e, ap firstTime (a .table), taken-time earlier earlier-command, earlier-time),
+          )
+      go false e = inl (later-number links 3 on-3, λ a. eqb-false (firstTime (answer .table)) 1200 e (ap firstTime (a .table) ∙ taken-time later later-command ∙ later-time))
+
+  pub constant-joins : Fails3 (constant answer after) (laterFrom 3 ∷ []) ⊎ Fails3 (constant answer after) (earlierFrom 0 ∷ [])
+  unfolding tableAfter
+  constant-joins = go (eqb (firstTime (answer .table)) 1200) refl
+    where
+      go : (t : Bool) → eqb (firstTime (answer .table)) 1200 ≡ t → Fails3 (constant answer after) (laterFrom 3 ∷ []) ⊎ Fails3 (constant answer after) (earlierFrom 0 ∷ [])
+      go true e = inr (rw earlier-good earlier-kept, λ a. omega (arith, eqb-true (firstTime (answer .table)) 1200 e, ap firstTime a, earlier-held))
+      go false e = inl (rw later-good later-kept, λ a. eqb-false (firstTime (answer .table)) 1200 e (ap firstTime a ∙ later-held))
+
+  pub constant-fails-2 : Demand2 (constant answer after) → ⊥
+  constant-fails-2 d = ⊎-elim (λ (f : Fails2 (constant answer after) 3 later). fails-2 _ 3 later f d) (λ (f : Fails2 (constant answer after) 0 earlier). fails-2 _ 0 earlier f d) constant-line
+
+  pub constant-fails-3 : (merging : Merging) → Demand3 (constant answer after) merging → ⊥
+  constant-fails-3 merging d =
+      ⊎-elim
+      (λ (f : Fails3 (constant answer after) (laterFrom 3 ∷ [])). fails-3 _ (laterFrom 3 ∷ []) f merging d)
+      (λ (f : Fails3 (constant answer after) (earlierFrom 0 ∷ [])). fails-3 _ (earlierFrom 0 ∷ []) f merging d) constant-joins
+
+-- ---- a table that never alters
+pub unaltering-later : Fails2 unaltering 3 later
+unaltering-later = (later-number links 3 on-3, λ a. omega (arith, ap firstTime (a .table), taken-time later later-command, later-time, start-time))
+
+pub unaltering-join : Fails3 unaltering (laterFrom 3 ∷ [])
+unfolding tableAfter
+unaltering-join = (rw later-good later-kept, λ a. omega (arith, ap firstTime a, later-held, start-time))
+
+pub unaltering-fails-2 : Demand2 unaltering → ⊥
+unaltering-fails-2 = fails-2 unaltering 3 later unaltering-later
+
+pub unaltering-fails-3 : (merging : Merging) → Demand3 unaltering merging → ⊥
+unaltering-fails-3 = fails-3 unaltering (laterFrom 3 ∷ []) unaltering-join
+
+-- ---- the first join alone folded
+-- the table after `later`
+abbrev next : Table
+next = withSlots (start links) (slotsBy (start links .slots) later)
+
+start-free : all isFree (start links .slots) ≡ true
+start-free = all-replicate isFree emptyRecord slotCount (eq-eqb (emptyRecord .count) 0 empty-free)
+
+next-used : all isFree (next .slots) ≡ false
+unfolding all encode incoming
+next-used = rw (taken-slots later later-command, later-tells)
+
+first-takes : takeJoin firstOnly (start links) (laterFrom 3) .table ≡ next
+first-takes =
+    ap (λ (free : Bool). cond free (ours (start links) 3 later room) (unaltering (start links) 3 later room) .0 .table) start-free
+    ∙ ap (λ (a : Taken). a .table) (answer-accepted (start links) 3 later (length room) (later-number links 3 on-3))
+
+first-leaves : takeJoin firstOnly next (earlierFrom 0) .table ≡ next
+first-leaves = ap (λ (free : Bool). cond free (ours next 0 earlier room) (unaltering next 0 earlier room) .0 .table) next-used
+
+pub first-joins : Fails3 firstOnly (laterFrom 3 ∷ earlierFrom 0 ∷ [])
+unfolding tableAfter
+first-joins =
+    let e : firstTime (tableAfter firstOnly (start links) (laterFrom 3 ∷ earlierFrom 0 ∷ [])) ≡ 1200 =
+    ap firstTime (ap (λ (t : Table). takeJoin firstOnly t (earlierFrom 0) .table) first-takes ∙ first-leaves) ∙ taken-time later later-command ∙ later-time in
+    (rw both-good both-kept, λ a. omega (arith, e, ap firstTime a, both-held))
+
+pub first-fails : (merging : Merging) → Demand3 firstOnly merging → ⊥
+first-fails = fails-3 firstOnly (laterFrom 3 ∷ earlierFrom 0 ∷ []) first-joins
+
+-- ---- a merging that answers its first record, whatever the taking
+pub first-record : firstRecord (plainRecord (later ∷ [])) (plainRecord (earlier ∷ [])) ≡ record { number = accepted; result = plainRecord (later ∷ earlier ∷ []) } → ⊥
+unfolding earliest
+first-record e =
+    let f : plainRecord (later ∷ []) .time ≡ plainRecord (later ∷ earlier ∷ []) .time = ap (λ (m : Merged). m .result .time) e in
+    omega (arith, f, record-time later [], record-time later (earlier ∷ []), later-time, earlier-time)
+
+pub first-record-fails : (taking : Taking) → Demand3 taking firstRecord → ⊥
+unfolding holding
+first-record-fails taking d =
+    let left = d .leaves (start links) (laterFrom 3 ∷ []) refl (rw later-good later-kept) ∙ ap (holding (start links)) later-good in
+    let answer = d .merges (start links) (start links) (laterFrom 3 ∷ []) (earlierFrom 0 ∷ []) refl refl (not-none later-good) (not-none earlier-good) (rw (later-good, earlier-good) both-kept) in
+    first-record (sym (ap answered (ap firstSlot left)) ∙ answer ∙ ap₂ (λ (s t : List (List ℕ)). answered (plainRecord (s ++ t))) later-good earlier-good)
+  where
+    answered : Record → Merged
+    answered r = record { number = accepted; result = r }

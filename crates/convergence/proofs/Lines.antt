@@ -1,0 +1,216 @@
+-- Lines for `#Race`, good ones and bad ones, and joins of them: what the rules and the reader give, as computed. The failures and the witnesses name them.
+-- Assumes nothing.
+use Prim.Native.Nat.{ℕ, suc, _≤_}
+use mathlib.Core.Path.{_≡_, refl, sym, ap, _∙_}
+use mathlib.Core.Bool.{true, false, _&&_}
+use mathlib.Core.Logic.{inl, inr}
+use mathlib.Core.List.{List, [], _∷_, _++_, map, List·Memᴰ, List·Memᴰ·head, List·Memᴰ·tail, List·Memᴰ·not-nil, Memᴰ·map}
+use native.Mathlib.Omega.{arith}
+use lib.ListN.{length, getD, replicate, length-replicate}
+use Rattle.refusal.specs.Numbers.{accepted, emptyPrefix, zeroTime, badLink}
+use Rattle.refusal.specs.Rules.{firstOf}
+use Rattle.octets.specs.Bits.{hasBit}
+use Rattle.octets.specs.Bytes.{capital, within, isPlain, isLetter, isDigit, isIdByte, isNameByte, isKeyByte}
+use Rattle.octets.specs.Lists.{all, sameBy, startsWith}
+use Rattle.octets.specs.Order.{compare}
+use Rattle.octets.specs.Ascending.{insert, put, unite}
+use Rattle.octets.specs.Decimals.{leadsWithZero, isDecimal, valueFrom}
+use Rattle.names.specs.Fold.{fold}
+use Rattle.names.specs.Names.{isChannel, isServerId, isUserId}
+use Rattle.message.specs.Grammar.{lineLimit, word, spaces, prefix, prefixEnd, commandStart, command, commandEnd, isCommand, rest, params}
+use Rattle.message.specs.Content.{contentIn}
+use Rattle.message.specs.Words.{wordsAt}
+use Rattle.message.specs.Reading.{crlf, endsLine, bodyOf, bodyRules, lineRules, numberFor, isRead, contentOf}
+use Rattle.channel.specs.Limits.{memberLimit, slotCount}
+use Rattle.channel.specs.Modes.{withMode, placeAmong}
+use Rattle.channel.specs.Key.{isKey}
+use Rattle.channel.specs.Channel.{Channel, member}
+use Rattle.channel.specs.Record.{emptyRecord}
+use Rattle.channel.specs.Plain.{everyone}
+use Rattle.channel.proofs.Examples.{2cd, 1ab, stored, incoming}
+use Rattle.links.specs.Links.{isLink, links}
+use Rattle.table.specs.declared.Table.{Table}
+use Rattle.sjoin.specs.Modes.{once, goodLetters, modesByte, parametered, isLimit, goodArgument, goodArguments, argumentOf, goodModes}
+use Rattle.sjoin.specs.Entries.{past, idOf, statusOf, isEntry, memberOf, goodEntries}
+use Rattle.sjoin.specs.Join.{argumentsIn, isSource, goodCount, goodTime, joinRules, channelIn}
+use Rattle.sjoin.specs.Telling.{sjoin}
+use Rattle.sjoin.proofs.Examples.{line, line-tells}
+use Rattle.relay.proofs.Joining.{IsJoin}
+use Rattle.convergence.specs.Demands.{Join, numberAt, channelOf, Kept}
+use Rattle.convergence.proofs.Folding.{start-number}
+
+-- ---- the lines
+-- `:2CD SJOIN 1000 #Race +k buoy @2CDAAAAAA`
+unfoldable pub earlier : List ℕ
+earlier = 58 ∷ 50 ∷ 67 ∷ 68 ∷ 32 ∷ 83 ∷ 74 ∷ 79 ∷ 73 ∷ 78 ∷ 32 ∷ 49 ∷ 48 ∷ 48 ∷ 48 ∷ 32 ∷ 35 ∷ 82 ∷ 97 ∷ 99 ∷ 101 ∷ 32 ∷ 43 ∷ 107 ∷ 32 ∷ 98 ∷ 117 ∷ 111 ∷ 121 ∷ 32 ∷ 64 ∷ 50 ∷ 67 ∷ 68 ∷ 65 ∷ 65 ∷ 65 ∷ 65 ∷ 65 ∷ 65 ∷ crlf
+
+-- `:1AB SJOIN 1200 #race +nt :@1ABAAAAAA 1ABAAAAAB`, document 01's whole case
+abbrev pub later : List ℕ
+later = line
+
+-- `:1AB sjoin 1000 #RACE +lk 20 cove :1ABAAAAAA +2CDAAAAAA`
+unfoldable pub equal : List ℕ
+equal = 58 ∷ 49 ∷ 65 ∷ 66 ∷ 32 ∷ 115 ∷ 106 ∷ 111 ∷ 105 ∷ 110 ∷ 32 ∷ 49 ∷ 48 ∷ 48 ∷ 48 ∷ 32 ∷ 35 ∷ 82 ∷ 65 ∷ 67 ∷ 69 ∷ 32 ∷ 43 ∷ 108 ∷ 107 ∷ 32 ∷ 50 ∷ 48 ∷ 32 ∷ 99 ∷ 111 ∷ 118 ∷ 101 ∷ 32 ∷ 58 ∷ 49 ∷ 65 ∷ 66 ∷ 65 ∷ 65 ∷ 65 ∷ 65 ∷ 65 ∷ 65 ∷ 32 ∷ 43 ∷ 50 ∷ 67 ∷ 68 ∷ 65 ∷ 65 ∷ 65 ∷ 65 ∷ 65 ∷ 65 ∷ crlf
+
+-- `: X`, which isn't read
+unfoldable pub unread : List ℕ
+unread = 58 ∷ 32 ∷ 88 ∷ crlf
+
+-- `:1AB SJOIN 0 #race + 1ABAAAAAA`
+unfoldable pub untimed : List ℕ
+untimed = 58 ∷ 49 ∷ 65 ∷ 66 ∷ 32 ∷ 83 ∷ 74 ∷ 79 ∷ 73 ∷ 78 ∷ 32 ∷ 48 ∷ 32 ∷ 35 ∷ 114 ∷ 97 ∷ 99 ∷ 101 ∷ 32 ∷ 43 ∷ 32 ∷ 49 ∷ 65 ∷ 66 ∷ 65 ∷ 65 ∷ 65 ∷ 65 ∷ 65 ∷ 65 ∷ crlf
+
+-- ---- what the rules give them, those on link and output apart
+abbrev judge : List ℕ → ℕ
+judge l = firstOf (lineRules l ++ joinRules (contentOf l))
+
+judged : map judge (earlier ∷ later ∷ equal ∷ unread ∷ untimed ∷ []) ≡ accepted ∷ accepted ∷ accepted ∷ emptyPrefix ∷ zeroTime ∷ []
+unfolding earlier line equal unread untimed joinRules goodCount isSource goodTime isDecimal leadsWithZero valueFrom isDigit isChannel isNameByte isServerId isUserId isIdByte goodModes goodLetters once parametered goodArguments goodArgument isKey isKeyByte isLimit argumentsIn placeAmong goodEntries isEntry idOf past wordsAt contentOf contentIn isRead numberFor lineRules bodyRules firstOf endsLine sameBy bodyOf all isPlain startsWith prefix word prefixEnd commandStart spaces command isCommand isLetter within commandEnd rest params
+judged = refl
+
+-- the commands, and the line that isn't read
+commands : map (λ l. map capital (contentOf l .command)) (earlier ∷ later ∷ equal ∷ untimed ∷ []) ≡ sjoin ∷ sjoin ∷ sjoin ∷ sjoin ∷ []
+unfolding earlier line equal untimed capital contentOf contentIn isRead numberFor lineRules bodyRules firstOf endsLine sameBy bodyOf all isPlain startsWith prefix word prefixEnd commandStart spaces command isCommand isLetter within commandEnd rest params
+commands = refl
+
+not-read : isRead unread ≡ false
+unfolding unread isRead numberFor lineRules bodyRules firstOf endsLine sameBy bodyOf all isPlain startsWith prefix word
+not-read = refl
+
+-- ---- what they tell
+unfoldable pub third : Channel
+third = record {
+  name = 35 ∷ 82 ∷ 65 ∷ 67 ∷ 69 ∷ [];
+  time = 1000;
+  modes = 192;
+  key = 99 ∷ 111 ∷ 118 ∷ 101 ∷ [];
+  limit = 20;
+  members = member (1ab 65) 0 ∷ member 2cd 1 ∷ [];
+}
+
+told : map channelOf (earlier ∷ equal ∷ []) ≡ stored ∷ third ∷ []
+unfolding earlier equal stored third 1ab 2cd channelIn argumentsIn argumentOf parametered modesByte withMode placeAmong valueFrom memberOf idOf statusOf past wordsAt insert put unite compare contentOf contentIn isRead numberFor lineRules bodyRules firstOf endsLine sameBy bodyOf all isPlain startsWith prefix word prefixEnd commandStart spaces command isCommand isLetter within commandEnd rest params
+told = refl
+
+pub earlier-tells : channelOf earlier ≡ stored
+earlier-tells = ap (λ (l : List Channel). getD l 0 stored) told
+
+pub later-tells : channelOf later ≡ incoming
+later-tells = line-tells
+
+pub equal-tells : channelOf equal ≡ third
+equal-tells = ap (λ (l : List Channel). getD l 1 stored) told
+
+-- ---- joins of them
+-- a lent output of 512 bytes
+unfoldable pub room : List ℕ
+room = replicate lineLimit 0
+
+length-room : length room ≡ lineLimit
+unfolding room
+length-room = length-replicate {A = ℕ} lineLimit 0
+
+-- an empty table with these links
+abbrev pub start : ℕ → Table
+start set = record { slots = replicate slotCount emptyRecord; links = links set }
+
+abbrev pub from : (l : List ℕ) → IsJoin l → ℕ → Join
+from l is link = record { line = l; link = link; output = room; reads = is }
+
+pub earlier-command : map capital (contentOf earlier .command) ≡ sjoin
+earlier-command = ap (λ (l : List (List ℕ)). getD l 0 []) commands
+
+pub later-command : map capital (contentOf later .command) ≡ sjoin
+later-command = ap (λ (l : List (List ℕ)). getD l 1 []) commands
+
+pub earlier-is : IsJoin earlier
+earlier-is = inl earlier-command
+
+pub later-is : IsJoin later
+later-is = inl later-command
+
+pub equal-is : IsJoin equal
+equal-is = inl (ap (λ (l : List (List ℕ)). getD l 2 []) commands)
+
+pub untimed-is : IsJoin untimed
+untimed-is = inl (ap (λ (l : List (List ℕ)). getD l 3 []) commands)
+
+pub unread-is : IsJoin unread
+unread-is = inr not-read
+
+abbrev pub earlierFrom : ℕ → Join
+earlierFrom = from earlier earlier-is
+
+abbrev pub laterFrom : ℕ → Join
+laterFrom = from later later-is
+
+abbrev pub equalFrom : ℕ → Join
+equalFrom = from equal equal-is
+
+abbrev pub untimedFrom : ℕ → Join
+untimedFrom = from untimed untimed-is
+
+abbrev pub unreadFrom : ℕ → Join
+unreadFrom = from unread unread-is
+
+-- the number of a join at the start: that of its line on a registered link
+module _ (set link : ℕ) where
+  on-link : (l : List ℕ) (is : IsJoin l) → isLink link && hasBit set link ≡ true → numberAt (start set) (from l is link) ≡ judge l
+  unfolding firstOf
+  on-link l is h = start-number (start set) refl (from l is link) ∙ rw (length-room, h)
+
+  pub off-link : (l : List ℕ) (is : IsJoin l) → isLink link && hasBit set link ≡ false → numberAt (start set) (from l is link) ≡ badLink
+  unfolding firstOf
+  off-link l is h = start-number (start set) refl (from l is link) ∙ rw (length-room, h)
+
+  module _ (h : isLink link && hasBit set link ≡ true) where
+    pub earlier-number : numberAt (start set) (earlierFrom link) ≡ accepted
+    earlier-number = on-link earlier earlier-is h ∙ ap (λ (l : List ℕ). getD l 0 0) judged
+
+    pub later-number : numberAt (start set) (laterFrom link) ≡ accepted
+    later-number = on-link later later-is h ∙ ap (λ (l : List ℕ). getD l 1 0) judged
+
+    pub equal-number : numberAt (start set) (equalFrom link) ≡ accepted
+    equal-number = on-link equal equal-is h ∙ ap (λ (l : List ℕ). getD l 2 0) judged
+
+    pub unread-number : numberAt (start set) (unreadFrom link) ≡ emptyPrefix
+    unread-number = on-link unread unread-is h ∙ ap (λ (l : List ℕ). getD l 3 0) judged
+
+    pub untimed-number : numberAt (start set) (untimedFrom link) ≡ zeroTime
+    untimed-number = on-link untimed untimed-is h ∙ ap (λ (l : List ℕ). getD l 4 0) judged
+
+-- ---- lines that keep to one channel and to 64 users, by what they tell
+-- the folded name
+abbrev pub race : List ℕ
+race = 35 ∷ 114 ∷ 97 ∷ 99 ∷ 101 ∷ []
+
+abbrev pub Races : List Channel → Type 0
+Races [] = Unit {0}
+Races (c ∷ s) = (map fold (c .name) ≡ race) × Races s
+
+pub stored-race : map fold (stored .name) ≡ race
+unfolding stored fold within
+stored-race = refl
+
+pub incoming-race : map fold (incoming .name) ≡ race
+unfolding incoming fold within
+incoming-race = refl
+
+pub third-race : map fold (third .name) ≡ race
+unfolding third fold within
+third-race = refl
+
+one-race : (cs : List Channel) → Races cs → (c : Channel) → List·Memᴰ c cs → map fold (c .name) ≡ race
+one-race [] h c m = absurd (List·Memᴰ·not-nil m)
+one-race (d ∷ cs) h c (List·Memᴰ·head e) = ap (λ (x : Channel). map fold (x .name)) e ∙ h .0
+one-race (d ∷ cs) h c (List·Memᴰ·tail m) = one-race cs (h .1) c m
+
+pub kept-by : (lines : List (List ℕ)) (cs : List Channel) → map channelOf lines ≡ cs → Races cs → length (everyone cs) ≤ memberLimit → Kept lines
+kept-by lines cs e h f = record { one = λ k l x y. name k x ∙ sym (name l y); few = rw e f }
+  where
+    name : (k : List ℕ) → List·Memᴰ k lines → map fold (channelOf k .name) ≡ race
+    name k m = one-race cs h (channelOf k) (rw e at (Memᴰ·map channelOf m))
+
+-- lines with a first one are some
+pub not-none : {lines : List (List ℕ)} {l : List ℕ} {s : List (List ℕ)} → lines ≡ l ∷ s → lines ≡ [] → ⊥
+not-none {s = s} e f = let n : suc (length s) ≡ 0 = ap (λ (x : List (List ℕ)). length x) (sym e ∙ f) in omega (arith, n)

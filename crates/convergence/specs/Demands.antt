@@ -1,0 +1,180 @@
+-- The customer's three demands (document 00; document 01, 'Many joins, for demand 3' and 'How the promises are judged') as predicates of a relay. Two things
+-- vary in them: how a line is taken, and how two records are merged. All else is fixed by the definitions below this crate: the rules and their numbers, what a
+-- line reads as, the fold, the limits, the plain record and the record that holds a channel.
+use Prim.Native.Nat.{ℕ, _≤_}
+use mathlib.Core.Path.{_≡_}
+use mathlib.Core.Bool.{Bool, true, false, not, cond, _&&_}
+use mathlib.Core.Logic.{_⊎_}
+use mathlib.Core.List.{List, [], _∷_, _++_, map, List·Memᴰ}
+use lib.ListN.{length, take, getD, set, replicate}
+use lib.Dec.{eqb}
+use Rattle.refusal.specs.Numbers.{accepted, notWellFormed, noRoom}
+use Rattle.refusal.specs.Rules.{firstOf}
+use Rattle.octets.specs.Bits.{hasBit}
+use Rattle.octets.specs.Bytes.{capital}
+use Rattle.octets.specs.Room.{front}
+use Rattle.names.specs.Fold.{fold}
+use Rattle.message.specs.Reading.{isRead, contentOf}
+use Rattle.channel.specs.declared.Record.{Record}
+use Rattle.channel.specs.declared.Merged.{Merged}
+use Rattle.channel.specs.Limits.{memberLimit, slotCount}
+use Rattle.channel.specs.Channel.{Channel}
+use Rattle.channel.specs.Record.{encode, emptyRecord}
+use Rattle.channel.specs.Plain.{everyone, plain}
+use Rattle.links.specs.Links.{linksIn}
+use Rattle.table.specs.declared.Table.{Table}
+use Rattle.sjoin.specs.Join.{channelIn}
+use Rattle.sjoin.specs.Telling.{sjoin}
+use Rattle.relay.specs.declared.Taken.{Taken}
+use Rattle.relay.specs.Relay.{processRules, slotsBy, relayed, messageAfter, commandIn, withSlots, refused}
+
+-- ---- what varies
+-- How a line is taken: a table, the link that the line came on, the line and the lent output give an answer and the output after.
+abbrev pub Taking : Type 0
+Taking = Table → ℕ → List ℕ → List ℕ → Taken × List ℕ
+
+-- How two records are merged: they give a number and a record.
+abbrev pub Merging : Type 0
+Merging = Record → Record → Merged
+
+-- ---- the rules
+-- the number that the rules give a line; `accepted` is none
+abbrev pub ruled : Table → ℕ → List ℕ → List ℕ → ℕ
+ruled t link line out = firstOf (processRules t link line (length out))
+
+-- ---- demand 1
+-- the fixed list of numbers: 1 to 25
+abbrev pub Listed : ℕ → Type 0
+Listed number = (notWellFormed ≤ number) × (number ≤ noRoom)
+
+-- there is one such, and no other
+abbrev pub One : {A : Type 0} → (A → Type 0) → Type 0
+One {A} P = (a : A) × P a × ((b : A) → P b → b ≡ a)
+
+-- "Any bytes, on any link, with any table, get one answer. Bad input is refused by a number from a fixed list; the table and every lent buffer are then as
+-- before."
+pub record Demand1 (taking : Taking) : Type 0 where
+  -- a taking is a function: each input has one answer
+  pub one : (t : Table) (link : ℕ) (line out : List ℕ) → One (λ answer. taking t link line out ≡ answer)
+  -- where the rules give a number: that number, the table as before, relay set 0, count 0, length 0, the output as before
+  pub refuses : (t : Table) (link : ℕ) (line out : List ℕ) → (ruled t link line out ≡ accepted → ⊥) → taking t link line out ≡ (refused t (ruled t link line out), out)
+  -- and the number is from the list
+  pub listed : (t : Table) (link : ℕ) (line out : List ℕ) → (ruled t link line out ≡ accepted → ⊥) → Listed (taking t link line out .0 .number)
+
+-- ---- demand 2
+-- The answer to a line that is taken, and the output after.
+pub record Accepts (t : Table) (link : ℕ) (line out : List ℕ) (answer : Taken) (after : List ℕ) : Type 0 where
+  pub number : answer .number ≡ accepted
+  -- the slots change as SJOIN, PART and QUIT say, and nothing else of the table does
+  pub table : answer .table ≡ withSlots t (slotsBy (t .slots) line)
+  -- the relay set: every registered link except the source
+  pub links : (k : ℕ) → hasBit (answer .set) k ≡ hasBit (t .links .set) k && not (eqb k link)
+  -- the number of links in it
+  pub count : answer .count ≡ length (linksIn (answer .set))
+  -- the line that goes out, in the writer's form, stands at the front of the output, the rest unchanged
+  pub len : answer .len ≡ length (relayed (t .slots) line)
+  pub output : after ≡ front (relayed (t .slots) line) out
+  -- and what was written reads as the message that goes out
+  pub reads : isRead (take (answer .len) after) ≡ true
+  pub message : contentOf (take (answer .len) after) ≡ messageAfter (commandIn line) (t .slots) (contentOf line)
+
+-- "Lines are read by RFC 1459's grammar and written back in one fixed form that reads as the same message. Channel joins, parts and quits change the table as
+-- TS6 and the plan say, and go to every registered link except the source." Every line by the rules is accepted.
+abbrev pub Demand2 : Taking → Type 0
+Demand2 taking =
+    (t : Table) (link : ℕ) (line out : List ℕ) → ruled t link line out ≡ accepted → Accepts t link line out (taking t link line out .0) (taking t link line out .1)
+
+-- ---- demand 3: joins
+-- A join: one taking of a line that reads as SJOIN, in any case of letters, or isn't read, with its link and lent output. The line is a value, there before
+-- the first call, and no call writes it.
+pub record Join : Type 0 where
+  pub line : List ℕ
+  pub link : ℕ
+  pub output : List ℕ
+  pub reads : (map capital (contentOf line .command) ≡ sjoin) ⊎ (isRead line ≡ false)
+
+-- an empty table: each of the sixteen slots free, which is to say zero, any links registered
+abbrev pub Empty : Table → Type 0
+Empty t = t .slots ≡ replicate slotCount emptyRecord
+
+-- the number that the rules give a join at the start
+abbrev pub numberAt : Table → Join → ℕ
+numberAt start j = ruled start (j .link) (j .line) (j .output)
+
+-- a join is good if they give it none there
+abbrev pub isGood : Table → Join → Bool
+isGood start j = eqb (numberAt start j) accepted
+
+-- the lines of the good joins, in their order
+unfoldable pub goodLines : Table → List Join → List (List ℕ)
+goodLines start [] = []
+goodLines start (j ∷ js) = cond (isGood start j) (j .line ∷ goodLines start js) (goodLines start js)
+
+-- ---- the joins of a list taken, each given the table that the one before returned
+abbrev pub takeJoin : Taking → Table → Join → Taken
+takeJoin taking t j = taking t (j .link) (j .line) (j .output) .0
+
+-- the number that each is answered
+unfoldable pub numbersOf : Taking → Table → List Join → List ℕ
+numbersOf taking t [] = []
+numbersOf taking t (j ∷ js) = takeJoin taking t j .number ∷ numbersOf taking (takeJoin taking t j .table) js
+
+-- the table after the last
+unfoldable pub tableAfter : Taking → Table → List Join → Table
+tableAfter taking t [] = t
+tableAfter taking t (j ∷ js) = tableAfter taking (takeJoin taking t j .table) js
+
+-- ---- what the good lines come to
+-- the channel that a line tells of
+abbrev pub channelOf : List ℕ → Channel
+channelOf line = channelIn (contentOf line)
+
+-- The lines are for one channel, which means names with equal folds, and name at most 64 users, which are different ids.
+pub record Kept (lines : List (List ℕ)) : Type 0 where
+  pub one : (k l : List ℕ) → List·Memᴰ k lines → List·Memᴰ l lines → map fold (channelOf k .name) ≡ map fold (channelOf l .name)
+  pub few : length (everyone (map channelOf lines)) ≤ memberLimit
+
+-- the plain record of some lines, unused room zero; of none, the empty record
+unfoldable pub plainRecord : List (List ℕ) → Record
+plainRecord [] = emptyRecord
+plainRecord (l ∷ s) = encode (plain (channelOf l) (map channelOf s))
+
+-- the start with the first slot holding the plain record; with no line the start itself
+unfoldable pub holding : Table → List (List ℕ) → Table
+holding start [] = start
+holding start (l ∷ s) = withSlots start (set (start .slots) 0 (plainRecord (l ∷ s)))
+
+abbrev pub firstSlot : Table → Record
+firstSlot t = getD (t .slots) 0 emptyRecord
+
+-- each of some lines, byte for byte, is one of others
+abbrev pub Among : List (List ℕ) → List (List ℕ) → Type 0
+Among s t = (line : List ℕ) → List·Memᴰ line s → List·Memᴰ line t
+
+-- Two records agree in all but the bytes of the name, whose folds agree.
+pub record Alike (r s : Record) : Type 0 where
+  pub name : map fold (r .name) ≡ map fold (s .name)
+  pub nameLen : r .«name_len» ≡ s .«name_len»
+  pub time : r .time ≡ s .time
+  pub modes : r .modes ≡ s .modes
+  pub key : r .key ≡ s .key
+  pub keyLen : r .«key_len» ≡ s .«key_len»
+  pub limit : r .limit ≡ s .limit
+  pub members : r .members ≡ s .members
+  pub count : r .count ≡ s .count
+
+-- "This holds for every list of joins, refused ones included, from an empty table, each given the table that the last one left."
+pub record Demand3 (taking : Taking) (merging : Merging) : Type 0 where
+  -- each good join is accepted, every other is refused by the number that it has at the start
+  pub numbers : (start : Table) (js : List Join) → Empty start → Kept (goodLines start js) → numbersOf taking start js ≡ map (numberAt start) js
+  -- after the list the first slot holds the plain record, the other fifteen are free, the links are as at the start; with no good join all is as at the start
+  pub leaves : (start : Table) (js : List Join) → Empty start → Kept (goodLines start js) → tableAfter taking start js ≡ holding start (goodLines start js)
+  -- two lists with the same good lines, in any order and with any repeats, give records alike in all but the spelling
+  pub alike : (start other : Table) (js ks : List Join) → Empty start → Empty other → Kept (goodLines start js)
+      → Among (goodLines start js) (goodLines other ks) → Among (goodLines other ks) (goodLines start js)
+      → Alike (firstSlot (tableAfter taking start js)) (firstSlot (tableAfter taking other ks))
+  -- two lists, each with a good join, folded apart and then merged give the record of both, the first list's lines first
+  pub merges : (start other : Table) (js ks : List Join) → Empty start → Empty other → (goodLines start js ≡ [] → ⊥) → (goodLines other ks ≡ [] → ⊥)
+      → Kept (goodLines start js ++ goodLines other ks)
+      → merging (firstSlot (tableAfter taking start js)) (firstSlot (tableAfter taking other ks))
+      ≡ record { number = accepted; result = plainRecord (goodLines start js ++ goodLines other ks) }

@@ -1,0 +1,12 @@
+-- The relay's own taking and merging: the definitions that stand in the contracts of `process` (crate relay) and `merge` (crate channel).
+use lib.ListN.{length}
+use Rattle.octets.specs.Room.{front}
+use Rattle.channel.specs.Merging.{mergeAnswer}
+use Rattle.relay.specs.Relay.{processAnswer, sent}
+use Rattle.convergence.specs.Demands.{Taking, Merging}
+
+abbrev pub ours : Taking
+ours t link line out = (processAnswer t link line (length out), front (sent t link line (length out)) out)
+
+abbrev pub ourMerging : Merging
+ourMerging = mergeAnswer

@@ -1,0 +1,37 @@
+-- The useless relays of document 01, 'How the promises are judged', each made as good as it can be without its use, and a useless merging.
+use Prim.Native.Nat.{ℕ}
+use mathlib.Core.Bool.{cond}
+use mathlib.Core.List.{List}
+use lib.Dec.{eqb}
+use Rattle.refusal.specs.Numbers.{accepted, notWellFormed}
+use Rattle.octets.specs.Lists.{all}
+use Rattle.table.specs.declared.Table.{Table}
+use Rattle.table.specs.Table.{isFree}
+use Rattle.relay.specs.declared.Taken.{Taken}
+use Rattle.relay.specs.Relay.{refused}
+use Rattle.convergence.specs.Demands.{Taking, Merging, ruled}
+use Rattle.convergence.specs.Ours.{ours}
+
+-- refuses all: by the rules' number where they give one, else by 1
+abbrev pub refusing : Taking
+refusing t link line out = (refused t (cond (eqb (ruled t link line out) accepted) notWellFormed (ruled t link line out)), out)
+
+-- answers the same whatever it is given
+abbrev pub constant : Taken → List ℕ → Taking
+constant answer after t link line out = (answer, after)
+
+-- the answer with another table
+abbrev pub withTable : Taken → Table → Taken
+withTable a t = record { number = a .number; table = t; set = a .set; count = a .count; len = a .len }
+
+-- answers and writes as ours does, and never alters the table
+abbrev pub unaltering : Taking
+unaltering t link line out = (withTable (ours t link line out .0) t, ours t link line out .1)
+
+-- takes the first join as ours does, and alters no table that has a channel
+abbrev pub firstOnly : Taking
+firstOnly t link line out = cond (all isFree (t .slots)) (ours t link line out) (unaltering t link line out)
+
+-- answers its first record
+abbrev pub firstRecord : Merging
+firstRecord a b = record { number = accepted; result = a }

@@ -1,0 +1,67 @@
+-- Tables whose slots are all free, or all but the first: they are well formed, and the first is the slot that a name uses, where it is free or holds that
+-- name. Assumes nothing.
+use mathlib.Core.Path.{_≡_, refl, sym, ap, _∙_}
+use mathlib.Core.Bool.{true, false, not, and-false}
+use mathlib.Core.List.{List, _∷_}
+use Prim.Native.Nat.{ℕ, zero, suc}
+use native.Mathlib.Omega.{arith}
+use lib.ListN.{replicate, length-replicate}
+use borrow.Author.Tests.{eq-eqb}
+use Rattle.octets.proofs.Bools.{and-intro}
+use Rattle.octets.proofs.Lists.{all-cons, all-replicate}
+use Rattle.names.specs.Fold.{sameName}
+use Rattle.channel.specs.declared.Record.{Record}
+use Rattle.channel.specs.Limits.{slotCount}
+use Rattle.channel.specs.Channel.{Channel}
+use Rattle.channel.specs.Record.{encode, decode, emptyRecord}
+use Rattle.channel.specs.WellFormed.{wellFormed}
+use Rattle.channel.proofs.Blank.{empty-free}
+use Rattle.channel.proofs.Records.{decode-encode}
+use Rattle.channel.proofs.Proper.{Proper, proper-fits, encode-well}
+use Rattle.table.specs.declared.Table.{Table}
+use Rattle.table.specs.declared.Slot.the-variants.{Held, Free}
+use Rattle.table.specs.Table.{isFree, goodSlot, holds, alike, distinct, goodTable, emptyTable}
+use Rattle.table.specs.Slots.{firstAt, slotFor}
+use Rattle.table.proofs.Searching.{free-holds, free-found, held-found, held-none}
+use Rattle.table.proofs.WellFormed.{unlike, free-distinct, empty-good}
+use Rattle.table.proofs.Changing.{well-used, well-good, empty-slot}
+
+-- ---- all free
+pub free-good : (t : Table) → t .slots ≡ replicate slotCount emptyRecord → goodTable t ≡ true
+unfolding goodTable emptyTable
+free-good t e = rw e empty-good
+
+none-holds : (name : List ℕ) (n : ℕ) → firstAt (holds name) (replicate n emptyRecord) ≡ n
+unfolding firstAt
+none-holds name zero = refl
+none-holds name (suc n) = rw (free-holds name emptyRecord empty-free) (ap suc (none-holds name n))
+
+first-free : (l : List Record) → firstAt isFree (emptyRecord ∷ l) ≡ 0
+unfolding firstAt
+first-free l = rw (eq-eqb (emptyRecord .count) 0 empty-free)
+
+pub free-slot : (name : List ℕ) (n : ℕ) → slotFor (replicate (suc n) emptyRecord) name ≡ Free 0
+free-slot name n =
+    let slots = replicate (suc n) emptyRecord in
+    held-none slots name (omega (arith, none-holds name (suc n), length-replicate (suc n) emptyRecord)) ∙ sym (free-found slots 0 (first-free (replicate n emptyRecord)) (omega arith))
+
+-- ---- all but the first
+module _ (r : Record) where
+  alone-distinct : (n : ℕ) → distinct (r ∷ replicate n emptyRecord) ≡ true
+  unfolding distinct alike
+  alone-distinct n =
+      let e : alike r emptyRecord ≡ false = rw (free-holds (decode r .name) emptyRecord empty-free) (and-false (not (isFree r))) in
+      and-intro _ _ (all-replicate (unlike r) emptyRecord n (ap not e)) (free-distinct emptyRecord n empty-free)
+
+  pub alone-good : wellFormed r ≡ true → (t : Table) (n : ℕ) → t .slots ≡ r ∷ replicate n emptyRecord → goodTable t ≡ true
+  unfolding goodTable
+  alone-good h t n e = rw e (and-intro _ _ (all-cons goodSlot r (replicate n emptyRecord) (well-good r h) (all-replicate goodSlot emptyRecord n empty-slot)) (alone-distinct n))
+
+pub held-first : (name : List ℕ) (r : Record) (l : List Record) → holds name r ≡ true → slotFor (r ∷ l) name ≡ Held 0
+unfolding firstAt
+held-first name r l e = sym (held-found (r ∷ l) name 0 (rw e) (omega arith))
+
+-- a slot that holds a channel holds its name
+pub encoded-holds : (name : List ℕ) (c : Channel) → Proper c → sameName (c .name) name ≡ true → holds name (encode c) ≡ true
+unfolding holds
+encoded-holds name c p e = rw (well-used (encode c) (encode-well c p), decode-encode c (proper-fits c p)) e
