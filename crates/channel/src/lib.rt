@@ -30,12 +30,14 @@ use well::vacant_from;
 use well::zero_from;
 
 // A member of a channel: its user id, held whole, and its status, voice 1 plus operator 2.
+#[repr(C)]
 pub struct Member {
     pub id: [u8; USER_ID],
     pub status: u8,
 }
 
 // A channel's record. Unused room is zero. Without k there is no key, without l no limit: 0.
+#[repr(C)]
 pub struct Record {
     pub name: [u8; Record::NAME],
     pub name_len: usize,
@@ -89,6 +91,7 @@ impl Record {
 }
 
 // The number of a refusal, or ACCEPTED, and the merged record, or the first one as given.
+#[repr(C)]
 pub struct Merged {
     pub number: u8,
     pub result: Record,

@@ -14,6 +14,7 @@ use refusal::TEXT_TOO_LONG;
 pub const TEXT_LIMIT: usize = 512;
 
 // The number of a refusal, or ACCEPTED, and whether the mask matches the text: a refused match is no.
+#[repr(C)]
 pub struct Match {
     pub number: u8,
     pub yes: bool,

@@ -16,6 +16,7 @@ use refusal::NO_ROOM;
 pub const HEAD: usize = 5;
 
 // The number of a refusal, or ACCEPTED, and the size of the record.
+#[repr(C)]
 pub struct Logged {
     pub number: u8,
     pub size: usize,

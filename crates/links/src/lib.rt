@@ -6,6 +6,7 @@ ghost use Rattle.octets.specs.Bits.{hasBit};
 ghost use Rattle.links.specs.Links.{linkCount, noLinks, withLink, withoutLink, lessLink, relaySet, linksIn};
 
 // The registered links.
+#[repr(C)]
 pub struct Links {
     pub set: u32,
 }

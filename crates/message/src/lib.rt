@@ -39,6 +39,7 @@ pub const LINE_LIMIT: usize = 512;
 pub const PARAM_LIMIT: usize = 15;
 
 // A part of a line: the bytes from start up to, not including, end.
+#[repr(C)]
 pub struct Span {
     pub start: usize,
     pub end: usize,
@@ -46,6 +47,7 @@ pub struct Span {
 
 // A message as parts of a text: of a line that was read, or of one that is to be written. The spans past `count`, and that of the
 // prefix where there is none, are no parts.
+#[repr(C)]
 pub struct Message {
     pub has_prefix: bool,
     pub prefix: Span,

@@ -38,6 +38,7 @@ struct Change {
 
 // The number of a refusal, or ACCEPTED; the table after, or as given; the links that the line goes to, and how many they are; and how many bytes
 // were written.
+#[repr(C)]
 pub struct Taken {
     pub number: u8,
     pub table: Table,

@@ -19,6 +19,7 @@ use slots::is_good;
 use slots::lowest_free;
 
 // Sixteen channel slots, a free one being the empty record, and the links.
+#[repr(C)]
 pub struct Table {
     pub slots: [Record; Record::SLOTS],
     pub links: Links,
@@ -32,6 +33,7 @@ pub enum Slot {
 }
 
 // The number of a refusal, or ACCEPTED, and the table after, or as given.
+#[repr(C)]
 pub struct Registered {
     pub number: u8,
     pub table: Table,

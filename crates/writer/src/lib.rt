@@ -24,6 +24,7 @@ use refusal::OUTPUT_TOO_SHORT;
 use refusal::UNWRITABLE;
 
 // The number of a refusal, or ACCEPTED, and how many bytes were written.
+#[repr(C)]
 pub struct Written {
     pub number: u8,
     pub len: usize,

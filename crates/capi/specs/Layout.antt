@@ -1,0 +1,116 @@
+-- How C lays out the structs of the interface on x86-64: a field stands at the first place after the one before it that its alignment divides, and a
+-- struct's size is rounded up to its widest alignment.
+use Prim.Native.Nat.{ℕ, _+_, _-_, _*_, _/_}
+use mathlib.Core.List.{List, [], _∷_, _++_}
+use lib.ListN.{length}
+use Rattle.names.specs.Names.{nameLimit, userIdLength}
+use Rattle.message.specs.Grammar.{paramLimit}
+use Rattle.channel.specs.Limits.{memberLimit, keyLimit, slotCount}
+
+-- a type: its size and its alignment in bytes
+pub record Kind : Type 0 where
+  pub size : ℕ
+  pub align : ℕ
+
+abbrev pub plain : ℕ → Kind
+plain n = record { size = n; align = n }
+
+-- u8 and bool, u16, u32, usize
+abbrev pub byte : Kind
+byte = plain 1
+
+abbrev pub half : Kind
+half = plain 2
+
+abbrev pub word : Kind
+word = plain 4
+
+abbrev pub long : Kind
+long = plain 8
+
+abbrev pub array : ℕ → Kind → Kind
+array n k = record { size = n * k .size; align = k .align }
+
+-- the first place from n on that a divides
+unfoldable pub upTo : ℕ → ℕ → ℕ
+upTo n a = (n + (a - 1)) / a * a
+
+-- the widest alignment of some fields: a difference below 0 is 0
+unfoldable pub widest : List Kind → ℕ
+widest [] = 1
+widest (k ∷ ks) = (k .align - widest ks) + widest ks
+
+-- where some fields end, of which the first may stand at n
+unfoldable pub ended : ℕ → List Kind → ℕ
+ended n [] = n
+ended n (k ∷ ks) = ended (upTo n (k .align) + k .size) ks
+
+-- a struct as the type of a field
+abbrev pub struct : List Kind → Kind
+struct ks = record { size = upTo (ended 0 ks) (widest ks); align = widest ks }
+
+-- the place and the size of each of some fields, of which the first may stand at n
+unfoldable pub placed : ℕ → List Kind → List ℕ
+placed n [] = []
+placed n (k ∷ ks) = upTo n (k .align) ∷ k .size ∷ placed (upTo n (k .align) + k .size) ks
+
+-- those of a struct's fields, and its size
+unfoldable pub numbersOf : List Kind → List ℕ
+numbersOf ks = placed 0 ks ++ (struct ks .size ∷ [])
+
+-- ---- the fields of each struct, in their order
+abbrev pub span : List Kind
+span = long ∷ long ∷ []
+
+abbrev pub message : List Kind
+message = byte ∷ struct span ∷ struct span ∷ long ∷ array paramLimit (struct span) ∷ []
+
+abbrev pub member : List Kind
+member = array userIdLength byte ∷ byte ∷ []
+
+abbrev pub channel : List Kind
+channel =
+    array nameLimit byte
+    ∷ long
+    ∷ word
+    ∷ byte
+    ∷ array keyLimit byte
+    ∷ long
+    ∷ half
+    ∷ array memberLimit (struct member)
+    ∷ long
+    ∷ []
+
+abbrev pub links : List Kind
+links = word ∷ []
+
+abbrev pub table : List Kind
+table = array slotCount (struct channel) ∷ struct links ∷ []
+
+-- a number, then what an answer tells: of LineRead, Written, Logged a count of things or bytes, of Match a yes, of Merged a record, of Registered a table
+abbrev pub numbered : Kind → List Kind
+numbered k = byte ∷ k ∷ []
+
+abbrev pub taken : List Kind
+taken = byte ∷ struct table ∷ word ∷ word ∷ long ∷ []
+
+-- ---- all numbers, and how many they are first
+unfoldable pub numbers : List ℕ
+unfolding numbersOf
+numbers =
+    numbersOf span
+    ++ numbersOf message
+    ++ numbersOf (numbered long)
+    ++ numbersOf (numbered long)
+    ++ numbersOf (numbered byte)
+    ++ numbersOf member
+    ++ numbersOf channel
+    ++ numbersOf (numbered (struct channel))
+    ++ numbersOf links
+    ++ numbersOf table
+    ++ numbersOf (numbered (struct table))
+    ++ numbersOf taken
+    ++ numbersOf (numbered long)
+
+unfoldable pub layout : List ℕ
+layout = length numbers ∷ numbers

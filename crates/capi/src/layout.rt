@@ -1,0 +1,110 @@
+// The layout of the structs that cross the C interface. The language can't ask for a struct's size or a field's place, so the numbers stand here,
+// and the contract says that they are what C's rules give for the fields' types; the tests of the interface see that these are the structs' own.
+ghost use mathlib.Core.Path.{_≡_};
+ghost use lib.ListN.{getD};
+ghost use Rattle.capi.specs.Layout.{layout};
+
+// How many numbers there are, this one counted.
+const COUNT: usize = 90;
+
+// The number k, or 0 past the last: how many there are after it, then of each struct the place and the size of each field, and its own size.
+pub fn number(k: usize) -> usize
+    ensures { λ r. ⌜ r ≡ getD layout k 0 ⌝ }
+{
+    if COUNT <= k {
+        return 0;
+    }
+    let numbers = [
+        89usize,
+        0, // Span.start
+        8,
+        8, // Span.end
+        8,
+        16, // Span
+        0, // Message.has_prefix
+        1,
+        8, // Message.prefix
+        16,
+        24, // Message.command
+        16,
+        40, // Message.count
+        8,
+        48, // Message.params
+        240,
+        288, // Message
+        0, // LineRead.number
+        1,
+        8, // LineRead.count
+        8,
+        16, // LineRead
+        0, // Written.number
+        1,
+        8, // Written.len
+        8,
+        16, // Written
+        0, // Match.number
+        1,
+        1, // Match.yes
+        1,
+        2, // Match
+        0, // Member.id
+        9,
+        9, // Member.status
+        1,
+        10, // Member
+        0, // Record.name
+        50,
+        56, // Record.name_len
+        8,
+        64, // Record.time
+        4,
+        68, // Record.modes
+        1,
+        69, // Record.key
+        23,
+        96, // Record.key_len
+        8,
+        104, // Record.limit
+        2,
+        106, // Record.members
+        640,
+        752, // Record.count
+        8,
+        760, // Record
+        0, // Merged.number
+        1,
+        8, // Merged.result
+        760,
+        768, // Merged
+        0, // Links.set
+        4,
+        4, // Links
+        0, // Table.slots
+        12160,
+        12160, // Table.links
+        4,
+        12168, // Table
+        0, // Registered.number
+        1,
+        8, // Registered.table
+        12168,
+        12176, // Registered
+        0, // Taken.number
+        1,
+        8, // Taken.table
+        12168,
+        12176, // Taken.set
+        4,
+        12180, // Taken.count
+        4,
+        12184, // Taken.len
+        8,
+        12192, // Taken
+        0, // Logged.number
+        1,
+        8, // Logged.size
+        8,
+        16, // Logged
+    ];
+    numbers[k]
+}

@@ -1,0 +1,165 @@
+// The relay for programs in C and Rust: each public function under a C name, its answer and its promise passed on as they are. The header
+// include/relay.h declares these functions and says what a caller must know. Structs go in and come back by value. An exported function can't return a
+// reference, so the header makes the parts of a line from `relay_parts`, and hands back the greater of two keys by `relay_key_less`.
+mod layout;
+
+ghost use mathlib.Core.Path.{_≡_};
+ghost use lib.ListN.{length, getD};
+ghost use Rattle.refusal.specs.Rules.{emitted};
+ghost use Rattle.octets.specs.Room.{front};
+ghost use Rattle.octets.specs.Order.{compare as compareOf};
+ghost use Rattle.octets.specs.Ascending.{isLess};
+ghost use Rattle.message.specs.Reading.{countOf, messageOf};
+ghost use Rattle.writer.specs.Form.{written, contentBy};
+ghost use Rattle.writer.specs.Writing.{writeRules, answerFor as writeAnswer};
+ghost use Rattle.names.specs.Fold.{sameName};
+ghost use Rattle.glob.specs.Mask.{answerFor as matchAnswer};
+ghost use Rattle.channel.specs.Merging.{mergeAnswer};
+ghost use Rattle.table.specs.Table.{emptyTable, registerAnswer, unregisterAnswer};
+ghost use Rattle.relay.specs.Relay.{processAnswer, sent};
+ghost use Rattle.journal.specs.Journal.{logRules, recordOf, answerFor as logAnswer};
+ghost use Rattle.capi.specs.Reading.{readAnswer};
+ghost use Rattle.capi.specs.Layout.{layout as layoutOf};
+use channel::Merged;
+use channel::Record;
+use glob::Match;
+use journal::Logged;
+use message::Message;
+use message::Reading;
+use octets::Order;
+use relay::Taken;
+use table::Registered;
+use table::Table;
+use writer::Written;
+
+// The reader's answer for a caller that has no enums: the number of a refusal, or ACCEPTED, and the count of parameters, 0 with a refusal.
+#[repr(C)]
+pub struct LineRead {
+    pub number: u8,
+    pub count: usize,
+}
+
+// The count of parameters that a reading tells: 0 of a refusal.
+fn count(reading: Reading) -> usize
+    ensures { λ r. ⌜ r ≡ countOf reading ⌝ }
+{
+    match reading {
+        Reading::Line(n) => n,
+        Reading::Refused(_) => 0,
+    }
+}
+
+// What the line reads as.
+#[no_mangle]
+pub extern "C" fn relay_read(line: &[u8]) -> LineRead
+    ensures { λ r. ⌜ r ≡ readAnswer (now (line .entry)) ⌝ }
+{
+    let reading = message::read(line);
+    LineRead {
+        number: reading.number(),
+        count: count(reading),
+    }
+}
+
+// The parts of the line, by their places.
+#[no_mangle]
+pub extern "C" fn relay_parts(line: &[u8]) -> Message
+    ensures { λ r. ⌜ r ≡ messageOf (now (line .entry)) ⌝ }
+{
+    message::parts(line)
+}
+
+// Writes a message to the front of the output.
+#[no_mangle]
+pub extern "C" fn relay_write(text: &[u8], m: Message, out: &mut [u8]) -> Written
+    ensures answer { λ r. ⌜ r ≡ writeAnswer (writeRules (now (text .entry)) m (now (out .entry))) (written (contentBy (now (text .entry)) m)) ⌝ }
+    ensures output { λ _. ⌜ now (out .exit) ≡ front (emitted (writeRules (now (text .entry)) m (now (out .entry))) (written (contentBy (now (text .entry)) m))) (now (out .entry)) ⌝ }
+{
+    writer::write(text, m, out)
+}
+
+// Whether two names are equal.
+#[no_mangle]
+pub extern "C" fn relay_same_name(a: &[u8], b: &[u8]) -> bool
+    ensures { λ r. ⌜ r ≡ sameName (now (a .entry)) (now (b .entry)) ⌝ }
+{
+    names::equal(a, b)
+}
+
+// Whether a mask matches a text.
+#[no_mangle]
+pub extern "C" fn relay_match(mask: &[u8], text: &[u8]) -> Match
+    ensures { λ r. ⌜ r ≡ matchAnswer (now (mask .entry)) (now (text .entry)) ⌝ }
+{
+    glob::matches(mask, text)
+}
+
+// Whether the second of two keys is the greater one.
+#[no_mangle]
+pub extern "C" fn relay_key_less(a: &[u8], b: &[u8]) -> bool
+    ensures { λ r. ⌜ r ≡ isLess (compareOf (now (a .entry)) (now (b .entry))) ⌝ }
+{
+    match octets::compare(a, b) {
+        Order::Less => true,
+        Order::Same => false,
+        Order::More => false,
+    }
+}
+
+// Two records of one channel merged.
+#[no_mangle]
+pub extern "C" fn relay_merge(a: Record, b: Record) -> Merged
+    ensures { λ r. ⌜ r ≡ mergeAnswer a b ⌝ }
+{
+    channel::merge(a, b)
+}
+
+// Every slot free, no link registered.
+#[no_mangle]
+pub extern "C" fn relay_empty_table() -> Table
+    ensures { λ r. ⌜ r ≡ emptyTable ⌝ }
+{
+    Table::empty()
+}
+
+// The table with a link registered.
+#[no_mangle]
+pub extern "C" fn relay_register(t: Table, link: u32) -> Registered
+    ensures { λ r. ⌜ r ≡ registerAnswer t link ⌝ }
+{
+    table::register(t, link)
+}
+
+// The table with a link dropped.
+#[no_mangle]
+pub extern "C" fn relay_unregister(t: Table, link: u32) -> Registered
+    ensures { λ r. ⌜ r ≡ unregisterAnswer t link ⌝ }
+{
+    table::unregister(t, link)
+}
+
+// Takes a line that came from a link: the table after, and the line that goes out at the front of the output.
+#[no_mangle]
+pub extern "C" fn relay_process(t: Table, link: u32, line: &[u8], out: &mut [u8]) -> Taken
+    ensures answer { λ r. ⌜ r ≡ processAnswer t link (now (line .entry)) (length (now (out .entry))) ⌝ }
+    ensures output { λ _. ⌜ now (out .exit) ≡ front (sent t link (now (line .entry)) (length (now (out .entry)))) (now (out .entry)) ⌝ }
+{
+    relay::process(t, link, line, out)
+}
+
+// Writes the day-log record of a line to the front of the log.
+#[no_mangle]
+pub extern "C" fn relay_log(link: u32, line: &[u8], log: &mut [u8]) -> Logged
+    ensures answer { λ r. ⌜ r ≡ logAnswer link (now (line .entry)) (now (log .entry)) ⌝ }
+    ensures log { λ _. ⌜ now (log .exit) ≡ front (emitted (logRules link (now (line .entry)) (now (log .entry))) (recordOf link (now (line .entry)))) (now (log .entry)) ⌝ }
+{
+    journal::write_record(link, line, log)
+}
+
+// How many numbers tell the layout of the structs above (k is 0), or one of them; 0 past the last.
+#[no_mangle]
+pub extern "C" fn relay_layout(k: usize) -> usize
+    ensures { λ r. ⌜ r ≡ getD layoutOf k 0 ⌝ }
+{
+    layout::number(k)
+}

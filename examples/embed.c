@@ -1,0 +1,151 @@
+/*
+ * A relay in a program of its own: three links, a few lines, and what comes of them.
+ * `examples/embed.sh` builds it, runs it and compares what it prints with examples/embed.txt.
+ */
+#include "relay.h"
+
+#include <inttypes.h>
+#include <stdio.h>
+#include <string.h>
+
+/* The bytes of a C string. */
+static relay_bytes text(const char *s)
+{
+    return relay_bytes_of(s, strlen(s));
+}
+
+static void print(relay_bytes bytes)
+{
+    fwrite(bytes.ptr, 1, bytes.len, stdout);
+}
+
+/* Prints the links of a set, a comma between them. */
+static void print_links(uint32_t set)
+{
+    const char *before = "";
+    for (uint32_t link = 0; link < RELAY_LINKS; link++)
+        if (set >> link & 1) {
+            printf("%s%" PRIu32, before, link);
+            before = ",";
+        }
+}
+
+/* Hands a line to the relay and prints what is to be sent, and where. A real program would send it. */
+static void take(relay_table *table, uint32_t link, const char *line)
+{
+    uint8_t out[RELAY_LINE];
+    relay_answer answer = relay_table_take(table, link, text(line), relay_room_of(out, sizeof out));
+    if (answer.number != RELAY_ACCEPTED) {
+        printf("refused by %d: %s", answer.number, line);
+        return;
+    }
+    printf("to %" PRIu32 " links, ", answer.count);
+    print_links(answer.set);
+    printf(": ");
+    print(relay_bytes_of(out, answer.len));
+}
+
+static void print_channel(const relay_record *r)
+{
+    print(relay_bytes_of(r->name, r->name_len));
+    printf(" time %" PRIu32 " modes %d key \"", r->time, r->modes);
+    print(relay_bytes_of(r->key, r->key_len));
+    printf("\" limit %d:", r->limit);
+    for (size_t k = 0; k < r->count; k++) {
+        printf(" ");
+        print(relay_bytes_of(r->members[k].id, RELAY_USER_ID));
+        printf("=%d", r->members[k].status);
+    }
+    printf("\n");
+}
+
+static void print_channels(const relay_table *table)
+{
+    for (size_t k = 0; k < RELAY_SLOTS; k++)
+        if (table->slots[k].count != 0)
+            print_channel(&table->slots[k]);
+}
+
+/* A morning on the water: the channel is there, a boat comes up with it at a later time, users leave. */
+static relay_table morning(void)
+{
+    relay_table table = relay_empty_table();
+    printf("links: %d", relay_table_register(&table, 0));
+    printf(" %d", relay_table_register(&table, 3));
+    printf(" %d", relay_table_register(&table, 5));
+    printf(" and above 31: %d\n", relay_table_register(&table, RELAY_LINKS));
+
+    take(&table, 5, ":2CD SJOIN 1000 #Race +k buoy @2CDAAAAAA\r\n");
+    take(&table, 3, ":1AB SJOIN 1200 #race +nt :@1ABAAAAAA 1ABAAAAAB\r\n");
+    print_channels(&table);
+    take(&table, 3, ":1ABAAAAAA part #RACE :gone home\r\n");
+    take(&table, 3, ":1ABAAAAAA PART #race\r\n");
+    take(&table, 4, ":1ABAAAAAB QUIT\r\n");
+    take(&table, 3, ":1ABAAAAAB QUIT\r\n");
+    print_channels(&table);
+    return table;
+}
+
+/* Two relays that were apart: what one of them knows of the channel is merged into what the other knows. */
+static void merge(const relay_table *table)
+{
+    relay_table apart = relay_empty_table();
+    relay_table_register(&apart, 0);
+    take(&apart, 0, ":3EF SJOIN 1000 #race +kl buoys 20 :+2CDAAAAAA @3EFAAAAAA\r\n");
+    relay_record both = table->slots[0];
+    printf("merged: %d\n", relay_record_merge(&both, &apart.slots[0]));
+    print_channel(&both);
+    printf("with an empty slot: %d\n", relay_record_merge(&both, &apart.slots[1]));
+}
+
+/* The parts of a line, and the line written again in the one fixed form. */
+static void parts(void)
+{
+    relay_bytes line = text(":a  X b :\r\n");
+    relay_message message = relay_parts(line);
+    uint8_t out[RELAY_LINE];
+    relay_written written = relay_write(line, message, relay_room_of(out, sizeof out));
+    printf("prefix \"");
+    print(relay_part(line, message.prefix));
+    printf("\" command \"");
+    print(relay_command(line));
+    printf("\" parameters %zu, the second of %zu bytes: ", message.count, relay_param(line, 1).len);
+    print(relay_bytes_of(out, written.len));
+    printf("not a line: %d, an empty one: %d\n", relay_read(text("X")).number, relay_read(text("\r\n")).number);
+}
+
+static void names_masks_keys(void)
+{
+    printf("names: %d %d\n", relay_same_name(text("#A["), text("#a{")), relay_same_name(text("#~"), text("#^")));
+    printf("masks: %d %d\n", relay_match(text("a*b*c"), text("abxbc")).yes, relay_match(text("?"), text("")).yes);
+    printf("greater key: ");
+    print(relay_greater_key(text("buoy"), text("buoys")));
+    printf("\n");
+}
+
+static void day_log(void)
+{
+    relay_bytes line = text(":1ABAAAAAB QUIT\r\n");
+    uint8_t log[100];
+    relay_logged logged = relay_log(3, line, relay_room_of(log, sizeof log));
+    printf("day log: %zu bytes,", logged.size);
+    for (size_t k = 0; k < RELAY_LOG_HEAD; k++)
+        printf(" %d", log[k]);
+    printf(", then ");
+    print(relay_bytes_of(log + RELAY_LOG_HEAD, logged.size - RELAY_LOG_HEAD));
+    printf("without room: %d\n", relay_log(3, line, relay_room_of(NULL, 0)).number);
+}
+
+int main(void)
+{
+    if (!relay_layout_matches()) {
+        fprintf(stderr, "relay.h and libcapi.a are of different versions\n");
+        return 1;
+    }
+    relay_table table = morning();
+    merge(&table);
+    parts();
+    names_masks_keys();
+    day_log();
+    return 0;
+}

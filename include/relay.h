@@ -1,0 +1,447 @@
+/*
+ * The relay core, for programs in C and C++ on x86-64 Linux.
+ *
+ * Build:  rt staticlib capi                   proves the core and writes target/staticlib/libcapi.a
+ *         cc -Iinclude yours.c target/staticlib/libcapi.a
+ *
+ * What it is. The relay holds one table: sixteen channels and the registered links, numbered 0 to 31. You hand it each line that comes
+ * in by a link; it folds the line into the table and answers the line to send on, and to which links. It reads and writes no socket and
+ * no file, has no heap, no globals and no threads: every answer depends on the arguments alone, so calls may run side by side as long
+ * as nothing that one of them writes is read or written by another. Allow 128 KB of stack for a call; the benchmark in rust/ prints how
+ * much each takes.
+ *
+ *     relay_table table = relay_empty_table();
+ *     uint8_t out[RELAY_LINE];
+ *     if (!relay_layout_matches()) abort();            -- once, before the first call
+ *     relay_table_register(&table, 3);
+ *     relay_answer answer = relay_table_take(&table, 3, relay_bytes_of(line, length), relay_room_of(out, sizeof out));
+ *     if (answer.number == RELAY_ACCEPTED)
+ *         for (uint32_t link = 0; link < RELAY_LINKS; link++)
+ *             if (answer.set >> link & 1) send_to(link, out, answer.len);
+ *
+ * What it promises. Any bytes, on any link, with any table, get one answer. Bad input is refused by one of the numbers below, the lowest
+ * that applies; then nothing is changed: the table is as before, every lent buffer too, and sets, counts and lengths are 0. What is
+ * accepted puts its output at the front of the lent room and leaves the rest of the room as it was. These promises are proved of the
+ * library; this header is not part of the proof, so `relay_layout_matches` compares the two.
+ *
+ * What you owe it.
+ *  - A pointer is never NULL, not even with the length 0 (`relay_bytes_of` and `relay_room_of` see to that), and as many bytes as the
+ *    length says can be read there; of a relay_room they can be written too.
+ *  - The room that a call writes doesn't overlap the bytes that it reads, and nothing else writes either during the call.
+ *  - A bool is 0 or 1, as C's own are. Everything else may hold any value: tables from disk and lengths that are too large are refused
+ *    by a number.
+ *
+ * The words. A link is a connection to another relay. A line is what came in, CR LF included. SPACE is the byte 32.
+ */
+#ifndef RELAY_H
+#define RELAY_H
+
+#include <stdbool.h>
+#include <stddef.h>
+#include <stdint.h>
+
+#ifdef __cplusplus
+extern "C" {
+#endif
+
+/* ---- limits ---- */
+
+enum {
+    RELAY_LINE = 512,    /* the most bytes of a line, CR LF counted; the least room for one to be written */
+    RELAY_PARAMS = 15,   /* the most parameters of a line */
+    RELAY_TEXT = 512,    /* the most bytes of a mask, and of a text that it is tried on */
+    RELAY_NAME = 50,     /* the most bytes of a channel name, '#' counted */
+    RELAY_KEY = 23,      /* the most bytes of a channel's key */
+    RELAY_USER_ID = 9,   /* the bytes of a user id */
+    RELAY_MEMBERS = 64,  /* the most members of a channel */
+    RELAY_SLOTS = 16,    /* the channels of a table */
+    RELAY_LINKS = 32,    /* links are numbered from 0 to one below this */
+    RELAY_LOG_HEAD = 5   /* a day-log record is this much longer than its line */
+};
+
+/* ---- the numbers of refusals ---- */
+
+enum {
+    RELAY_ACCEPTED = 0,
+    RELAY_NOT_WELL_FORMED = 1,     /* table or record not well formed */
+    RELAY_OUTPUT_TOO_SHORT = 2,    /* lent output under 512 bytes */
+    RELAY_BAD_LINK = 3,            /* link above 31, or, of a line that is taken, not registered */
+    RELAY_LINE_TOO_LONG = 4,       /* line over 512 bytes */
+    RELAY_NO_LINE_END = 5,         /* no CR LF at the end */
+    RELAY_FORBIDDEN_BYTE = 6,      /* NUL, CR or LF before it */
+    RELAY_EMPTY_LINE = 7,          /* only CR LF */
+    RELAY_EMPTY_PREFIX = 8,        /* prefix empty */
+    RELAY_BAD_COMMAND = 9,         /* command malformed or missing */
+    RELAY_TOO_MANY_PARAMS = 10,    /* a sixteenth parameter */
+    RELAY_UNKNOWN_COMMAND = 11,    /* command not SJOIN, PART or QUIT */
+    RELAY_WRONG_PARAM_COUNT = 12,  /* parameters not 4 to 6 (SJOIN), 1 to 2 (PART), 0 to 1 (QUIT) */
+    RELAY_BAD_SOURCE = 13,         /* prefix missing or not a server id (SJOIN), user id (PART, QUIT) */
+    RELAY_BAD_TIME = 14,           /* time malformed or over 4294967295 */
+    RELAY_ZERO_TIME = 15,          /* time is 0 */
+    RELAY_BAD_NAME = 16,           /* bad channel name; names of two records that are merged differ */
+    RELAY_BAD_MODES = 17,          /* bad modes, key, limit, or their number */
+    RELAY_BAD_MEMBERS = 18,        /* bad member list */
+    RELAY_NO_SUCH_CHANNEL = 19,    /* channel not in the table (PART) */
+    RELAY_NOT_ON_CHANNEL = 20,     /* user not in it (PART) */
+    RELAY_NO_FREE_SLOT = 21,       /* new channel, and all sixteen slots used */
+    RELAY_TOO_MANY_MEMBERS = 22,   /* more than 64 members would result */
+    RELAY_TEXT_TOO_LONG = 23,      /* mask or text over 512 bytes */
+    RELAY_UNWRITABLE = 24,         /* message that would not read back as it was, or with parts outside the lent bytes */
+    RELAY_NO_ROOM = 25             /* written line over 512 bytes; log buffer shorter than the line and 5 */
+};
+
+/* ---- lent bytes ---- */
+
+/* Bytes that a call reads. */
+typedef struct relay_bytes {
+    const uint8_t *ptr;
+    size_t len;
+} relay_bytes;
+
+/* Bytes that a call may write. */
+typedef struct relay_room {
+    uint8_t *ptr;
+    size_t len;
+} relay_room;
+
+/* ---- lines ---- */
+
+/* A part of some bytes: from start up to, not including, end. */
+typedef struct relay_span {
+    size_t start;
+    size_t end;
+} relay_span;
+
+/*
+ * A message as parts of some bytes. The params from `count` on, and the prefix where has_prefix is false, are no parts; the reader
+ * makes them the empty span at the end of the line, and the writer doesn't look at them.
+ */
+typedef struct relay_message {
+    bool has_prefix;
+    relay_span prefix;   /* without its ':' */
+    relay_span command;
+    size_t count;
+    relay_span params[RELAY_PARAMS];
+} relay_message;
+
+/* The count of parameters of a line, or the number of its refusal. */
+typedef struct relay_line_read {
+    uint8_t number;
+    size_t count;
+} relay_line_read;
+
+/* How many bytes stand at the front of the lent output, or the number of a refusal. */
+typedef struct relay_written {
+    uint8_t number;
+    size_t len;
+} relay_written;
+
+/* Whether a mask matches; no where it is refused. */
+typedef struct relay_matched {
+    uint8_t number;
+    bool yes;
+} relay_matched;
+
+/* Reads a line by RFC 1459's grammar. Numbers 4 to 10. */
+relay_line_read relay_read(relay_bytes line);
+
+/* The parts of a line, by their places. Of a line that isn't read each is the empty span at its end, and the count is 0. */
+relay_message relay_parts(relay_bytes line);
+
+/*
+ * Writes the message whose parts are spans of `text`: one SPACE between parts, ':' before the last parameter exactly if it is empty,
+ * starts with ':' or holds a SPACE, CR LF at the end. The command is written as it is spelled. Numbers 2, 24, 25.
+ */
+relay_written relay_write(relay_bytes text, relay_message message, relay_room out);
+
+/* ---- names, masks and keys: any bytes ---- */
+
+/* Whether two names are equal, without regard to case; '[', ']' and '\' are the capitals of '{', '}' and '|'. */
+bool relay_same_name(relay_bytes a, relay_bytes b);
+
+/* Whether a mask matches a text: '?' matches one byte, '*' any run, the empty one too, every other byte as in names. Number 23. */
+relay_matched relay_match(relay_bytes mask, relay_bytes text);
+
+/* Whether the second key is the greater one: by the first byte that differs, unsigned; a proper beginning is smaller. */
+bool relay_key_less(relay_bytes a, relay_bytes b);
+
+/* ---- channels ---- */
+
+/* The bits of relay_record.modes and relay_member.status. */
+enum {
+    RELAY_MODE_I = 1,
+    RELAY_MODE_M = 2,
+    RELAY_MODE_N = 4,
+    RELAY_MODE_P = 8,
+    RELAY_MODE_S = 16,
+    RELAY_MODE_T = 32,
+    RELAY_MODE_K = 64,   /* there is a key */
+    RELAY_MODE_L = 128,  /* there is a limit */
+
+    RELAY_VOICE = 1,
+    RELAY_OPERATOR = 2
+};
+
+/* A user in a channel. */
+typedef struct relay_member {
+    uint8_t id[RELAY_USER_ID];
+    uint8_t status;
+} relay_member;
+
+/*
+ * A channel. It is well formed if: the time is not 0; the name is '#' and 1 to 49 bytes other than SPACE, BELL, NUL, CR, LF and comma;
+ * with mode k there is a key of 1 to 23 bytes from 33 to 126, no comma, not starting with ':', without it key_len is 0; with mode l the
+ * limit is not 0, without it it is; there are 1 to 64 members, ids strictly ascending, each a digit, two of A to Z or 0 to 9, one of
+ * A to Z, five of A to Z or 0 to 9, each status at most 3; and all unused room is zero.
+ */
+typedef struct relay_record {
+    uint8_t name[RELAY_NAME];
+    size_t name_len;
+    uint32_t time;
+    uint8_t modes;
+    uint8_t key[RELAY_KEY];
+    size_t key_len;
+    uint16_t limit;
+    relay_member members[RELAY_MEMBERS];
+    size_t count;
+} relay_record;
+
+/* The merged record; the first one as given where it is refused. */
+typedef struct relay_merged {
+    uint8_t number;
+    relay_record result;
+} relay_merged;
+
+/*
+ * Merges two records of one channel, the first one's spelling kept. At the earlier of the two times: that record's modes, key, limit
+ * and statuses, everyone of both; at equal times they are united, the greater key and the larger limit winning. Numbers 1, 16, 22.
+ */
+relay_merged relay_merge(relay_record first, relay_record second);
+
+/* ---- the table ---- */
+
+/* The registered links, link n as the bit n. */
+typedef struct relay_links {
+    uint32_t set;
+} relay_links;
+
+/*
+ * All that the relay holds. It is well formed if each slot is all zero (free) or holds a well-formed record (count is not 0), and no
+ * two of those have equal names. Every set of links is well formed. The empty table is all zero.
+ */
+typedef struct relay_table {
+    relay_record slots[RELAY_SLOTS];
+    relay_links links;
+} relay_table;
+
+/* The table after, or as given where it is refused. */
+typedef struct relay_registered {
+    uint8_t number;
+    relay_table table;
+} relay_registered;
+
+/* The answer to a line: the table after, the links that the line goes to and how many they are, and the length of the line to send. */
+typedef struct relay_taken {
+    uint8_t number;
+    relay_table table;
+    uint32_t set;
+    uint32_t count;
+    size_t len;
+} relay_taken;
+
+/* Every slot free, no link registered. */
+relay_table relay_empty_table(void);
+
+/* Registers or drops a link; the channels stay, and doing so twice changes nothing more. Numbers 1, 3. */
+relay_registered relay_register(relay_table table, uint32_t link);
+relay_registered relay_unregister(relay_table table, uint32_t link);
+
+/*
+ * Takes a line that came in by a link:
+ *     :sid SJOIN time name modes [key] [limit] list     the users join, and times decide whose modes and statuses stand
+ *     :uid PART name [reason]                           the user leaves the channel
+ *     :uid QUIT [reason]                                the user leaves every channel
+ * and writes the line to send on to the front of `out`. It goes to every registered link but the one it came by. Numbers 1 to 22.
+ */
+relay_taken relay_process(relay_table table, uint32_t link, relay_bytes line, relay_room out);
+
+/* ---- the day log ---- */
+
+/* The size of the record at the front of the log buffer, or the number of a refusal. */
+typedef struct relay_logged {
+    uint8_t number;
+    size_t size;
+} relay_logged;
+
+/*
+ * Writes a day-log record of a line as it was received: the bytes 73 and 82, the link, the length as two bytes, high one first, and the
+ * line. Any bytes are taken, and any link from 0 to 31. Numbers 3, 4, 25.
+ */
+relay_logged relay_log(uint32_t link, relay_bytes line, relay_room log);
+
+/* ---- the layout of the structs ---- */
+
+/*
+ * The library's own view of the structs above: number 0 is how many follow; then, for each struct in the order of the list in
+ * `relay_layout_matches`, the place and the size of each field, and the struct's own size; 0 past the last.
+ */
+size_t relay_layout(size_t k);
+
+/* ---- inline: lent bytes ---- */
+
+/* Bytes to read. NULL is fine with the length 0. */
+static inline relay_bytes relay_bytes_of(const void *ptr, size_t len)
+{
+    static const uint8_t none = 0;
+    relay_bytes bytes;
+    bytes.ptr = ptr != NULL ? (const uint8_t *)ptr : &none;
+    bytes.len = len;
+    return bytes;
+}
+
+/* Room to write. NULL is fine with the length 0. */
+static inline relay_room relay_room_of(void *ptr, size_t len)
+{
+    static uint8_t none;
+    relay_room room;
+    room.ptr = ptr != NULL ? (uint8_t *)ptr : &none;
+    room.len = len;
+    return room;
+}
+
+/* ---- inline: parts of a line ---- */
+
+/* A part of some bytes; the span must lie in them, as those of `relay_parts` lie in its line. */
+static inline relay_bytes relay_part(relay_bytes bytes, relay_span span)
+{
+    return relay_bytes_of(bytes.ptr + span.start, span.end - span.start);
+}
+
+/*
+ * The prefix, the command, the parameter k (counted from 0) of a line. One that is missing, and any of a line that isn't read, is the
+ * empty part at the line's end; `relay_parts` tells it from an empty parameter. Each call reads the line: for several parts of one line
+ * call `relay_parts` once.
+ */
+static inline relay_bytes relay_prefix(relay_bytes line)
+{
+    return relay_part(line, relay_parts(line).prefix);
+}
+
+static inline relay_bytes relay_command(relay_bytes line)
+{
+    return relay_part(line, relay_parts(line).command);
+}
+
+static inline relay_bytes relay_param(relay_bytes line, size_t k)
+{
+    if (k >= RELAY_PARAMS)
+        return relay_bytes_of(line.ptr + line.len, 0);
+    return relay_part(line, relay_parts(line).params[k]);
+}
+
+/* ---- inline: the greater of two keys ---- */
+
+/* The very bytes that were lent, not a copy; the first key where they are equal. */
+static inline relay_bytes relay_greater_key(relay_bytes a, relay_bytes b)
+{
+    return relay_key_less(a, b) ? b : a;
+}
+
+/* ---- inline: a table by its pointer ---- */
+
+/* What `relay_process` answers beside the table. */
+typedef struct relay_answer {
+    uint8_t number;
+    uint32_t set;
+    uint32_t count;
+    size_t len;
+} relay_answer;
+
+/* As `relay_register`; answers the number. */
+static inline uint8_t relay_table_register(relay_table *table, uint32_t link)
+{
+    relay_registered done = relay_register(*table, link);
+    if (done.number == RELAY_ACCEPTED)
+        *table = done.table;
+    return done.number;
+}
+
+/* As `relay_unregister`; answers the number. */
+static inline uint8_t relay_table_unregister(relay_table *table, uint32_t link)
+{
+    relay_registered done = relay_unregister(*table, link);
+    if (done.number == RELAY_ACCEPTED)
+        *table = done.table;
+    return done.number;
+}
+
+/* As `relay_process`. */
+static inline relay_answer relay_table_take(relay_table *table, uint32_t link, relay_bytes line, relay_room out)
+{
+    relay_taken taken = relay_process(*table, link, line, out);
+    relay_answer answer;
+    if (taken.number == RELAY_ACCEPTED)
+        *table = taken.table;
+    answer.number = taken.number;
+    answer.set = taken.set;
+    answer.count = taken.count;
+    answer.len = taken.len;
+    return answer;
+}
+
+/* As `relay_merge`, into the first record; answers the number. */
+static inline uint8_t relay_record_merge(relay_record *first, const relay_record *second)
+{
+    relay_merged merged = relay_merge(*first, *second);
+    if (merged.number == RELAY_ACCEPTED)
+        *first = merged.result;
+    return merged.number;
+}
+
+/* ---- inline: is this the header of that library? ---- */
+
+/* The place and the size of a field. */
+#define RELAY_FIELD(type, field) offsetof(type, field), sizeof(((type *)0)->field)
+
+/*
+ * Whether the library lays out every struct as this header does. Call it once before anything else and stop where it says no: header
+ * and library are then of different versions.
+ */
+static inline bool relay_layout_matches(void)
+{
+    static const size_t numbers[] = {
+        RELAY_FIELD(relay_span, start), RELAY_FIELD(relay_span, end), sizeof(relay_span),
+        RELAY_FIELD(relay_message, has_prefix), RELAY_FIELD(relay_message, prefix), RELAY_FIELD(relay_message, command),
+        RELAY_FIELD(relay_message, count), RELAY_FIELD(relay_message, params), sizeof(relay_message),
+        RELAY_FIELD(relay_line_read, number), RELAY_FIELD(relay_line_read, count), sizeof(relay_line_read),
+        RELAY_FIELD(relay_written, number), RELAY_FIELD(relay_written, len), sizeof(relay_written),
+        RELAY_FIELD(relay_matched, number), RELAY_FIELD(relay_matched, yes), sizeof(relay_matched),
+        RELAY_FIELD(relay_member, id), RELAY_FIELD(relay_member, status), sizeof(relay_member),
+        RELAY_FIELD(relay_record, name), RELAY_FIELD(relay_record, name_len), RELAY_FIELD(relay_record, time),
+        RELAY_FIELD(relay_record, modes), RELAY_FIELD(relay_record, key), RELAY_FIELD(relay_record, key_len),
+        RELAY_FIELD(relay_record, limit), RELAY_FIELD(relay_record, members), RELAY_FIELD(relay_record, count), sizeof(relay_record),
+        RELAY_FIELD(relay_merged, number), RELAY_FIELD(relay_merged, result), sizeof(relay_merged),
+        RELAY_FIELD(relay_links, set), sizeof(relay_links),
+        RELAY_FIELD(relay_table, slots), RELAY_FIELD(relay_table, links), sizeof(relay_table),
+        RELAY_FIELD(relay_registered, number), RELAY_FIELD(relay_registered, table), sizeof(relay_registered),
+        RELAY_FIELD(relay_taken, number), RELAY_FIELD(relay_taken, table), RELAY_FIELD(relay_taken, set),
+        RELAY_FIELD(relay_taken, count), RELAY_FIELD(relay_taken, len), sizeof(relay_taken),
+        RELAY_FIELD(relay_logged, number), RELAY_FIELD(relay_logged, size), sizeof(relay_logged)
+    };
+    const size_t count = sizeof numbers / sizeof numbers[0];
+    size_t k;
+    if (relay_layout(0) != count)
+        return false;
+    for (k = 0; k < count; k++)
+        if (relay_layout(k + 1) != numbers[k])
+            return false;
+    return true;
+}
+
+#undef RELAY_FIELD
+
+#ifdef __cplusplus
+}
+#endif
+
+#endif

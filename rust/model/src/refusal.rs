@@ -1,0 +1,73 @@
+//! The numbers a caller may get.
+
+/// A refusal, in the paper's words and by its number.
+#[derive(Clone, Copy, Debug, PartialEq, Eq)]
+#[repr(u8)]
+pub enum Refusal {
+    /// table or record not well formed
+    IllFormed = 1,
+    /// lent output under 512 bytes (line writer, commands)
+    ShortOutput = 2,
+    /// link above 31 (commands, registering, dropping, log), or (commands) not registered
+    BadLink = 3,
+    /// line over 512 bytes (reader, log)
+    LongLine = 4,
+    /// no CR LF at the end
+    NoLineEnd = 5,
+    /// NUL, CR or LF before it
+    ForbiddenByte = 6,
+    /// only CR LF
+    EmptyLine = 7,
+    /// prefix empty
+    EmptyPrefix = 8,
+    /// command malformed or missing
+    BadCommand = 9,
+    /// a sixteenth parameter
+    ManyParams = 10,
+    /// command not one of the three
+    UnknownCommand = 11,
+    /// parameters not 4 to 6 (SJOIN), 1 to 2 (PART), 0 to 1 (QUIT)
+    ParamCount = 12,
+    /// prefix missing or not a server id (SJOIN), user id (others)
+    BadSource = 13,
+    /// time malformed or too large
+    BadTime = 14,
+    /// time is `0`
+    ZeroTime = 15,
+    /// bad channel name; two records' names differ
+    BadName = 16,
+    /// bad modes, key, limit, or their number
+    BadModes = 17,
+    /// bad member list
+    BadList = 18,
+    /// channel not in the table (PART)
+    NoChannel = 19,
+    /// user not in it (PART)
+    NoMember = 20,
+    /// new name, all 16 slots used
+    NoSlot = 21,
+    /// more than 64 distinct members would result
+    ManyMembers = 22,
+    /// mask or text over 512 bytes
+    LongText = 23,
+    /// message whose written form, length apart, would not read back as it, or whose parts lie
+    /// outside the lent bytes
+    Unwritable = 24,
+    /// written line over 512 bytes; log buffer shorter than the line and 5
+    NoRoom = 25,
+}
+
+impl Refusal {
+    /// The paper's number.
+    pub fn number(self) -> u8 {
+        self as u8
+    }
+}
+
+/// The number of an answer: 0 where it was not refused.
+pub fn number_of<T>(answer: &Result<T, Refusal>) -> u8 {
+    match answer {
+        Ok(_) => 0,
+        Err(refusal) => refusal.number(),
+    }
+}

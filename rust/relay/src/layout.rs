@@ -1,0 +1,60 @@
+//! The layout of the structs, here and in the library.
+
+use std::mem::{offset_of, size_of};
+
+use crate::ffi;
+use crate::types::{
+    LineRead, Links, Logged, Matched, Member, Merged, Message, Record, Registered, Span, Table,
+    Taken, Written,
+};
+
+/// The place and the size of each of a struct's fields, then its own size.
+macro_rules! numbers {
+    ($kind:ty: $($field:ident)+) => {
+        [
+            $(offset_of!($kind, $field), size_of_field(|value: &$kind| &value.$field),)+
+            size_of::<$kind>(),
+        ]
+        .as_slice()
+    };
+}
+
+/// The size of the field that the function picks.
+fn size_of_field<S, F>(_field: fn(&S) -> &F) -> usize {
+    size_of::<F>()
+}
+
+/// Whether the library lays out every struct as this crate does.
+pub fn layout_matches() -> bool {
+    let ours = [
+        numbers!(Span: start end),
+        numbers!(Message: has_prefix prefix command count params),
+        numbers!(LineRead: number count),
+        numbers!(Written: number len),
+        numbers!(Matched: number yes),
+        numbers!(Member: id status),
+        numbers!(Record: name name_len time modes key key_len limit members count),
+        numbers!(Merged: number result),
+        numbers!(Links: set),
+        numbers!(Table: slots links),
+        numbers!(Registered: number table),
+        numbers!(Taken: number table set count len),
+        numbers!(Logged: number size),
+    ]
+    .concat();
+    // SAFETY: only numbers go in and come back.
+    let library = |k| unsafe { ffi::relay_layout(k) };
+    library(0) == ours.len() && (0..ours.len()).all(|k| library(k + 1) == ours[k])
+}
+
+#[cfg(test)]
+mod tests {
+    use super::*;
+
+    #[test]
+    fn the_library_has_our_layout() {
+        assert!(layout_matches());
+        // SAFETY: only numbers go in and come back.
+        assert_eq!(unsafe { (ffi::relay_layout(90), ffi::relay_layout(usize::MAX)) }, (0, 0));
+    }
+}

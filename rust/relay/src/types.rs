@@ -1,0 +1,176 @@
+//! The structs of `include/relay.h`, field by field.
+
+/// A part of some bytes: from start up to, not including, end.
+#[repr(C)]
+#[derive(Clone, Copy, Debug, Default, PartialEq, Eq)]
+pub struct Span {
+    /// The place of its first byte.
+    pub start: usize,
+    /// The place after its last byte.
+    pub end: usize,
+}
+
+/// A message as parts of some bytes. The params from `count` on, and the prefix without
+/// `has_prefix`, are no parts.
+#[repr(C)]
+#[derive(Clone, Copy, Debug, Default, PartialEq, Eq)]
+pub struct Message {
+    /// Whether there is a prefix.
+    pub has_prefix: bool,
+    /// The prefix, without its ':'.
+    pub prefix: Span,
+    /// The command.
+    pub command: Span,
+    /// The number of parameters.
+    pub count: usize,
+    /// The parameters.
+    pub params: [Span; 15],
+}
+
+/// The count of parameters of a line, or the number of its refusal.
+#[repr(C)]
+#[derive(Clone, Copy, Debug, PartialEq, Eq)]
+pub struct LineRead {
+    /// The number of a refusal, or 0.
+    pub number: u8,
+    /// The count of parameters.
+    pub count: usize,
+}
+
+/// How much was written, or the number of a refusal.
+#[repr(C)]
+#[derive(Clone, Copy, Debug, PartialEq, Eq)]
+pub struct Written {
+    /// The number of a refusal, or 0.
+    pub number: u8,
+    /// The length of the line at the front of the output.
+    pub len: usize,
+}
+
+/// Whether a mask matches, or the number of a refusal.
+#[repr(C)]
+#[derive(Clone, Copy, Debug, PartialEq, Eq)]
+pub struct Matched {
+    /// The number of a refusal, or 0.
+    pub number: u8,
+    /// Whether it matches.
+    pub yes: bool,
+}
+
+/// A user in a channel.
+#[repr(C)]
+#[derive(Clone, Copy, Debug, PartialEq, Eq)]
+pub struct Member {
+    /// The user's id.
+    pub id: [u8; 9],
+    /// Voice 1 plus operator 2.
+    pub status: u8,
+}
+
+/// A channel.
+#[repr(C)]
+#[derive(Clone, Copy, Debug, PartialEq, Eq)]
+pub struct Record {
+    /// The name, then zeros.
+    pub name: [u8; 50],
+    /// The length of the name.
+    pub name_len: usize,
+    /// The channel's time.
+    pub time: u32,
+    /// A bit for each mode: i 1, m 2, n 4, p 8, s 16, t 32, k 64, l 128.
+    pub modes: u8,
+    /// The key, then zeros.
+    pub key: [u8; 23],
+    /// The length of the key.
+    pub key_len: usize,
+    /// The limit, 0 where there is none.
+    pub limit: u16,
+    /// The members, ids ascending, then zeros.
+    pub members: [Member; 64],
+    /// The number of members; 0 in a free slot.
+    pub count: usize,
+}
+
+/// The merged record, or the first as given and the number of a refusal.
+#[repr(C)]
+#[derive(Clone, Copy, Debug, PartialEq, Eq)]
+pub struct Merged {
+    /// The number of a refusal, or 0.
+    pub number: u8,
+    /// The record.
+    pub result: Record,
+}
+
+/// The registered links.
+#[repr(C)]
+#[derive(Clone, Copy, Debug, PartialEq, Eq)]
+pub struct Links {
+    /// Link n as the bit n.
+    pub set: u32,
+}
+
+/// All that the relay holds.
+#[repr(C)]
+#[derive(Clone, Copy, Debug, PartialEq, Eq)]
+pub struct Table {
+    /// The channels; a free slot is all zero.
+    pub slots: [Record; 16],
+    /// The registered links.
+    pub links: Links,
+}
+
+/// The table after, or as given and the number of a refusal.
+#[repr(C)]
+#[derive(Clone, Copy, Debug, PartialEq, Eq)]
+pub struct Registered {
+    /// The number of a refusal, or 0.
+    pub number: u8,
+    /// The table.
+    pub table: Table,
+}
+
+/// The answer to a line.
+#[repr(C)]
+#[derive(Clone, Copy, Debug, PartialEq, Eq)]
+pub struct Taken {
+    /// The number of a refusal, or 0.
+    pub number: u8,
+    /// The table after, or as given.
+    pub table: Table,
+    /// The links that the line goes to.
+    pub set: u32,
+    /// The number of those links.
+    pub count: u32,
+    /// The length of the line at the front of the output.
+    pub len: usize,
+}
+
+/// The answer to a line, the table apart.
+#[derive(Clone, Copy, Debug, PartialEq, Eq)]
+pub struct Answer {
+    /// The number of a refusal, or 0.
+    pub number: u8,
+    /// The links that the line goes to.
+    pub set: u32,
+    /// The number of those links.
+    pub count: u32,
+    /// The length of the line at the front of the output.
+    pub len: usize,
+}
+
+/// The size of a day-log record, or the number of a refusal.
+#[repr(C)]
+#[derive(Clone, Copy, Debug, PartialEq, Eq)]
+pub struct Logged {
+    /// The number of a refusal, or 0.
+    pub number: u8,
+    /// The size of the record at the front of the log.
+    pub size: usize,
+}
+
+impl Span {
+    /// The bytes of the span, which must lie in those given.
+    pub fn of(self, bytes: &[u8]) -> &[u8] {
+        &bytes[self.start..self.end]
+    }
+}

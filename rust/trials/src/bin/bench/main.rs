@@ -1,0 +1,142 @@
+//! The core's time beside the model's, and the stack that a call takes, as tables in Markdown.
+//!
+//!     cargo run --release --bin bench -- [RUNS]
+//!
+//! A figure is the best of RUNS runs (101 unless told), in which core and model take turns, in
+//! microseconds a call. Both take the line with a table of their own by its pointer, as an embedding
+//! program does, and both test the whole table. A copy of the table that the line is taken with is
+//! in each figure, since most lines change it.
+
+mod cases;
+mod clock;
+mod stack;
+
+use std::hint::black_box;
+
+use model::refusal::number_of;
+use trials::convert::{core_record, core_table};
+
+use cases::{Case, LINK};
+use clock::{Clock, Times};
+
+fn main() {
+    assert!(relay::layout_matches(), "the library's structs are not laid out as this program's");
+    let runs = std::env::args().nth(1).and_then(|arg| arg.parse().ok()).unwrap_or(101);
+    let clock = Clock { runs };
+    lines(&clock);
+    by_channels(&clock);
+    by_members(&clock);
+    masks(&clock);
+    others(&clock);
+    stacks();
+}
+
+/// Takes a case's line with core and model.
+fn take(clock: &Clock, case: &Case) -> Times {
+    let core_start = core_table(&case.table);
+    let mut core = core_start;
+    let mut model = case.table;
+    let (mut core_out, mut model_out) = ([0; 512], [0; 512]);
+    clock.time(
+        || {
+            core = *black_box(&core_start);
+            core.take(LINK, &case.line, &mut core_out).number
+        },
+        || {
+            model = *black_box(&case.table);
+            number_of(&model::relay::take(&mut model, LINK, &case.line, &mut model_out))
+        },
+    )
+}
+
+fn lines(clock: &Clock) {
+    heading(
+        "Taking a line, µs",
+        &["1 channel: core", "model", "ratio", "16 full: core", "model", "ratio"],
+    );
+    for (one, full) in cases::small().iter().zip(cases::full()) {
+        let (few, many) = (take(clock, one), take(clock, &full));
+        println!("| {} | {} | {} |", one.name, few.columns(), many.columns());
+    }
+}
+
+fn by_channels(clock: &Clock) {
+    heading("SJOIN of one member, by the full channels beside, µs", &["core", "model", "ratio"]);
+    for case in cases::by_channels() {
+        println!("| {} | {} |", case.name, take(clock, &case).columns());
+    }
+}
+
+fn by_members(clock: &Clock) {
+    heading("SJOIN with one channel, by its members, µs", &["core", "model", "ratio"]);
+    for case in cases::by_members() {
+        println!("| {} | {} |", case.name, take(clock, &case).columns());
+    }
+}
+
+fn masks(clock: &Clock) {
+    heading("Mask on a text of 512 bytes, µs", &["core", "model", "ratio"]);
+    let text = [b'a'; 512];
+    for (name, mask) in cases::masks() {
+        let times = clock.time(
+            || u8::from(relay::matches(&mask, &text).yes),
+            || u8::from(model::mask::matches(&mask, &text) == Ok(true)),
+        );
+        println!("| {name} | {} |", times.columns());
+    }
+}
+
+/// The functions that take no command.
+fn others(clock: &Clock) {
+    heading("Other functions, µs", &["core", "model", "ratio"]);
+    let row = |name: &str, times: Times| println!("| {name} | {} |", times.columns());
+
+    let mut table = cases::full()[0].table;
+    let core = core_table(&table);
+    let times = clock.time(|| relay::register(&core, 9).number, || number_of(&table.register(9)));
+    row("registering a link, 16 full channels", times);
+
+    let (first, second) = (cases::record(b"#a", 0..47), cases::record(b"#A", 17..64));
+    let (core_first, core_second) = (core_record(&first), core_record(&second));
+    let times = clock.time(
+        || relay::merge(&core_first, &core_second).number,
+        || number_of(&model::channel::merge(&first, &second)),
+    );
+    row("merging 47 members with 47", times);
+
+    let line = cases::long_line();
+    let times = clock.time(|| relay::read(&line).number, || number_of(&model::line::read(&line)));
+    row("reading a line of 47 members", times);
+
+    let (mut core_log, mut log) = ([0; 517], [0; 517]);
+    let times = clock.time(
+        || relay::log(LINK, &line, &mut core_log).number,
+        || number_of(&model::journal::write_record(LINK, &line, &mut log)),
+    );
+    row("its day-log record", times);
+}
+
+/// The stack of each call, with its arguments and its answer.
+fn stacks() {
+    heading("Stack of one call, bytes", &["core"]);
+    let row = |name: &str, bytes: usize| println!("| {name} | {bytes} |");
+    let table = core_table(&cases::full()[0].table);
+    let record = &table.slots[0];
+    let line = cases::long_line();
+    let parts = relay::parts(&line);
+    let mut out = [0; 517];
+    row("taking a line", stack::taken(|| relay::process(&table, LINK, &line, &mut out)));
+    row("registering a link", stack::taken(|| relay::register(&table, 9)));
+    row("merging two records", stack::taken(|| relay::merge(record, record)));
+    row("reading a line", stack::taken(|| relay::read(&line)));
+    row("its parts", stack::taken(|| relay::parts(&line)));
+    row("writing a line", stack::taken(|| relay::write(&line, &parts, &mut out)));
+    row("its day-log record", stack::taken(|| relay::log(LINK, &line, &mut out)));
+    row("matching a mask", stack::taken(|| relay::matches(b"*a*b", &line)));
+}
+
+/// The first two lines of a table.
+fn heading(first: &str, columns: &[&str]) {
+    println!("\n| {first} | {} |", columns.join(" | "));
+    println!("|---|{}", "---|".repeat(columns.len()));
+}

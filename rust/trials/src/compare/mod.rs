@@ -1,0 +1,7 @@
+//! Core and model on the same inputs.
+
+pub mod lines;
+pub mod log;
+pub mod tables;
+pub mod taking;
+pub mod texts;

@@ -1,0 +1,62 @@
+//! Taking a line.
+
+use model::refusal::number_of;
+use model::relay::{take as model_take, Relayed};
+use model::Table;
+
+use crate::convert::core_table;
+use crate::inputs::{lines, tables};
+use crate::lent::{output_length, Lent};
+use crate::rng::Rng;
+use crate::tally::Tally;
+
+/// Takes one line with any table, some of them damaged.
+pub fn take(rng: &mut Rng, tally: &mut Tally) {
+    let mut table = tables::table(rng);
+    let line = lines::line(rng, &table);
+    if rng.one_in(12) {
+        tables::damage_table(rng, &mut table);
+    }
+    let link = tables::link(rng, table.links);
+    let length = output_length(rng);
+    let out = Lent::new(rng, length);
+    compare_take(&mut table, link, &line, out, tally);
+}
+
+/// Takes a day's lines one after the other, from an empty table on.
+pub fn take_many(rng: &mut Rng, tally: &mut Tally) {
+    let mut table = Table { links: tables::links(rng), ..Table::EMPTY };
+    for _ in 0..200 {
+        let line = lines::line(rng, &table);
+        let link = tables::link(rng, table.links);
+        let length = output_length(rng);
+        let out = Lent::new(rng, length);
+        compare_take(&mut table, link, &line, out, tally);
+        if rng.one_in(10) {
+            table.links ^= 1 << rng.below(32);
+        }
+    }
+}
+
+/// Takes a given line with core and model, and keeps the table after it.
+pub fn compare_take(table: &mut Table, link: u32, line: &[u8], out: Lent, tally: &mut Tally) {
+    let told = || format!("link {link} \"{}\"", line.escape_ascii());
+    let before = *table;
+    let lent_line = line.to_vec();
+    let mut core_out = out.clone();
+    let answer = relay::process(&core_table(table), link, &lent_line, core_out.room());
+    let mut model_out = out.clone();
+    let expected = model_take(table, link, line, model_out.room());
+
+    assert_eq!(answer.number, number_of(&expected), "{}\n{before:?}", told());
+    let relayed = expected.unwrap_or(Relayed { set: 0, count: 0, len: 0 });
+    let answered = Relayed { set: answer.set, count: answer.count, len: answer.len };
+    assert_eq!(answered, relayed, "{}\n{before:?}", told());
+    assert!(answer.table == core_table(table), "{}\n{before:?}\n{:?}", told(), answer.table);
+    assert_eq!(core_out, model_out, "{}\n{before:?}", told());
+    assert_eq!(lent_line, line);
+    if answer.number != relay::ACCEPTED {
+        assert!(answer.table == core_table(&before) && core_out == out, "{}", told());
+    }
+    tally.count(answer.number);
+}

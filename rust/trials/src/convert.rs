@@ -1,0 +1,38 @@
+//! The same value in the core's types and in the model's.
+
+use model::line;
+
+/// A record of the model in the core's type.
+pub fn core_record(r: &model::Record) -> relay::Record {
+    relay::Record {
+        name: r.name,
+        name_len: r.name_len,
+        time: r.time,
+        modes: r.modes,
+        key: r.key,
+        key_len: r.key_len,
+        limit: r.limit,
+        members: r.members.map(|m| relay::Member { id: m.id, status: m.status }),
+        count: r.count,
+    }
+}
+
+/// A table of the model in the core's type.
+pub fn core_table(t: &model::Table) -> relay::Table {
+    relay::Table {
+        slots: std::array::from_fn(|k| core_record(&t.slots[k])),
+        links: relay::Links { set: t.links },
+    }
+}
+
+/// The parts of a message of the model in the core's type.
+pub fn core_message(parts: &line::Parts) -> relay::Message {
+    let span = |s: line::Span| relay::Span { start: s.start, end: s.end };
+    relay::Message {
+        has_prefix: parts.has_prefix,
+        prefix: span(parts.prefix),
+        command: span(parts.command),
+        count: parts.count,
+        params: parts.params.map(span),
+    }
+}

@@ -1,0 +1,84 @@
+//! Every short input there is over the bytes that mean something.
+
+use model::{line, mask, names};
+use trials::convert::core_message;
+
+/// Calls `f` with each text of that many of the given bytes.
+fn each_text(bytes: &[u8], length: usize, f: &mut dyn FnMut(&[u8])) {
+    let mut text = vec![0; length];
+    for number in 0..bytes.len().pow(length as u32) {
+        let mut digits = number;
+        for byte in &mut text {
+            *byte = bytes[digits % bytes.len()];
+            digits /= bytes.len();
+        }
+        f(&text);
+    }
+}
+
+fn compare_read(line: &[u8]) {
+    let answer = relay::read(line);
+    let expected = line::read(line);
+    let told = line.escape_ascii();
+    assert_eq!(answer.number, model::refusal::number_of(&expected), "{told}");
+    assert_eq!(answer.count, expected.map_or(0, |m| m.params.len()), "{told}");
+    assert_eq!(relay::parts(line), core_message(&line::parts(line)), "{told}");
+}
+
+#[test]
+fn lines() {
+    for length in 0..7 {
+        each_text(b" :a1", length, &mut |text| compare_read(&[text, b"\r\n"].concat()));
+    }
+    for length in 0..6 {
+        each_text(b" :a\0\r\n", length, &mut compare_read);
+    }
+}
+
+#[test]
+fn each_byte_in_each_place_of_a_line() {
+    let line = b":1AB SJOIN 1 #a + :@1ABAAAAAA +1ABAAAAAB\r\n";
+    for place in 0..line.len() {
+        for byte in 0..=255 {
+            let mut changed = line.to_vec();
+            changed[place] = byte;
+            compare_read(&changed);
+        }
+    }
+}
+
+#[test]
+fn names_of_one_byte() {
+    for (a, b) in (0..=255).flat_map(|a| (0..=255).map(move |b| (a, b))) {
+        assert_eq!(relay::same_name(&[a], &[b]), names::equal(&[a], &[b]), "{a} {b}");
+    }
+}
+
+#[test]
+fn keys_of_two_bytes() {
+    let bytes = [0, 33, 127, 128, 255];
+    for length in 0..3 {
+        each_text(&bytes, length, &mut |a| {
+            for other in 0..3 {
+                each_text(&bytes, other, &mut |b| {
+                    let expected = if a < b { b } else { a };
+                    assert_eq!(relay::greater_key(a, b).as_ptr(), expected.as_ptr(), "{a:?} {b:?}");
+                });
+            }
+        });
+    }
+}
+
+#[test]
+fn masks() {
+    for length in 0..6 {
+        each_text(b"Ab?*", length, &mut |mask| {
+            for text_length in 0..6 {
+                each_text(b"aB", text_length, &mut |text| {
+                    let answer = relay::matches(mask, text);
+                    assert_eq!((answer.number, Ok(answer.yes)), (0, mask::matches(mask, text)));
+                });
+            }
+        });
+    }
+}
