@@ -1,5 +1,5 @@
 -- The plain record of lines (document 01, 'Many joins, for demand 3'), of which there is one or more: each line is the channel that it tells of. It is
--- told of the lines alone and not by merging.
+-- told of the lines alone, all at once, and not by merging one after the other.
 use Prim.Native.Nat.{ℕ, min, max}
 use mathlib.Core.Bool.{Bool, cond}
 use mathlib.Core.List.{List, [], _∷_, _++_, map}
@@ -30,7 +30,7 @@ unfoldable pub entries : List Channel → List Member
 entries [] = []
 entries (c ∷ s) = c .members ++ entries s
 
--- every user id that any line names, once, ascending
+-- every user id that any line names, once, ascending; the statuses here are of no matter
 unfoldable pub everyone : List Channel → List Member
 everyone s = unite byId [] (entries s)
 

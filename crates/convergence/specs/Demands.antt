@@ -52,9 +52,9 @@ abbrev pub One : {A : Type 0} → (A → Type 0) → Type 0
 One {A} P = (a : A) × P a × ((b : A) → P b → b ≡ a)
 
 -- "Any bytes, on any link, with any table, get one answer. Bad input is refused by a number from a fixed list; the table and every lent buffer are then as
--- before."
+-- before." The line is lent too, but shared, and no call can write it. What the other functions refuse stands in their contracts.
 pub record Demand1 (taking : Taking) : Type 0 where
-  -- a taking is a function: each input has one answer
+  -- each input has one answer: by construction, since a taking is a function
   pub one : (t : Table) (link : ℕ) (line out : List ℕ) → One (λ answer. taking t link line out ≡ answer)
   -- where the rules give a number: that number, the table as before, relay set 0, count 0, length 0, the output as before
   pub refuses : (t : Table) (link : ℕ) (line out : List ℕ) → (ruled t link line out ≡ accepted → ⊥) → taking t link line out ≡ (refused t (ruled t link line out), out)
@@ -79,7 +79,8 @@ pub record Accepts (t : Table) (link : ℕ) (line out : List ℕ) (answer : Take
   pub message : contentOf (take (answer .len) after) ≡ messageAfter (commandIn line) (t .slots) (contentOf line)
 
 -- "Lines are read by RFC 1459's grammar and written back in one fixed form that reads as the same message. Channel joins, parts and quits change the table as
--- TS6 and the plan say, and go to every registered link except the source." Every line by the rules is accepted.
+-- TS6 and the plan say, and go to every registered link except the source." Every line by the rules is accepted. That any line is read by the grammar and any
+-- message written in the fixed form, which reads back, are the contracts of `message::read` and `writer::write`. `Witnesses` of proofs/ has lines that are accepted.
 abbrev pub Demand2 : Taking → Type 0
 Demand2 taking =
     (t : Table) (link : ℕ) (line out : List ℕ) → ruled t link line out ≡ accepted → Accepts t link line out (taking t link line out .0) (taking t link line out .1)
