@@ -2,12 +2,14 @@
 use mathlib.Core.Path.{_≡_, refl, sym, ap, _∙_}
 use mathlib.Core.Bool.{Bool, true, false, not, _&&_, Bool·beq, and-assoc}
 use mathlib.Core.List.{List, _∷_}
-use Prim.Native.Nat.{ℕ, _+_, _≤_, _<_, min}
+use Prim.Native.Nat.{ℕ, _+_, _*_, _%_, _^_, _≤_, _<_, min}
+use native.Mathlib.Nat.{zero-mul}
 use native.Mathlib.Omega.{arith}
 use lib.ListN.{length, take, drop, getD}
 use lib.Seq.{take-all, length-take-le, getD-take}
 use lib.Bits.{bitOr, or-add-and, and-le-l, and-le-r}
 use lib.Dec.{leb}
+use lib.Pow.{shl-exact, shl-shr, shr-le}
 use borrow.Author.Tests.{eq-eqb, ne-eqb, eqb-true, eqb-false, leb-true, leb-false}
 use Rattle.octets.specs.Lists.{all}
 use Rattle.octets.proofs.Lists.{drop-step}
@@ -43,6 +45,14 @@ or-zero a b = go (isZero a) refl (isZero b) refl
     go true e true f = rw (e, f) (eq-eqb (bitOr a b) 0 (omega (arith, or-add-and a b, eqb-true a 0 e, eqb-true b 0 f)))
     go true e false f = rw (e, f) (ne-eqb (bitOr a b) 0 (λ z. eqb-false b 0 f (omega (arith, or-add-and a b, and-le-l a b))))
     go false e u f = rw e (ne-eqb (bitOr a b) 0 (λ z. eqb-false a 0 e (omega (arith, or-add-and a b, and-le-r a b))))
+
+-- a byte shifted within 64 bits is zero exactly if it was
+pub shifted-zero : (b k : ℕ) → b < 256 → k ≤ 56 → isZero (b * 2 ^ k % 2 ^ 64) ≡ isZero b
+shifted-zero b k small h = rw (shl-exact 8 k 64 small (omega arith)) (go (isZero b) refl)
+  where
+    go : (t : Bool) → isZero b ≡ t → isZero (b * 2 ^ k) ≡ isZero b
+    go true e = rw (eqb-true b 0 e, zero-mul)
+    go false e = rw e (ne-eqb (b * 2 ^ k) 0 (λ z. eqb-false b 0 e (omega (arith, shl-shr b k, shr-le (b * 2 ^ k) k, z))))
 
 -- a place further on in the gathering
 pub or-step : {A : Type 0} (p : A → Bool) (l : List A) (i bits b : ℕ) (d : A) → i < length l → isZero b ≡ p (getD l i d)

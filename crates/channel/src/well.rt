@@ -1,12 +1,13 @@
 // The tests of a well-formed record, each of the part that it judges.
 ghost use mathlib.Core.Path.{_≡_};
-ghost use mathlib.Core.Bool.{_&&_};
+ghost use mathlib.Core.Bool.{_&&_, cond};
 ghost use Prim.Native.Nat.{_≤_};
 ghost use lib.ListN.{take, drop};
 ghost use lib.Dec.{leb};
+ghost use Rattle.octets.specs.Bytes.{within, isIdByte};
 ghost use Rattle.octets.specs.Lists.{all};
 ghost use Rattle.octets.specs.Ascending.{ascends};
-ghost use Rattle.names.specs.Names.{nameLimit};
+ghost use Rattle.names.specs.Names.{nameLimit, isUserId};
 ghost use Rattle.channel.specs.Limits.{memberLimit, keyLimit};
 ghost use Rattle.channel.specs.Channel.{byId};
 ghost use Rattle.channel.specs.WellFormed.{isZero, isVacant, goodKey, goodLimit, goodMember};
@@ -17,7 +18,8 @@ use crate::members::is_below;
 use crate::modes::KEY_MODE;
 use crate::modes::LIMIT_MODE;
 use crate::modes::has_mode;
-use names::is_user_id;
+use names::SERVER_ID;
+use names::USER_ID;
 
 // The statuses that there are: voice 1 plus operator 2.
 const BOTH: u8 = 3;
@@ -55,19 +57,39 @@ pub(crate) fn zero_from(s: &[u8], from: usize) -> bool
     gathered(s, from) == 0
 }
 
+// The byte's bits in a place of a wide number that belongs to i: none exactly if the byte is zero.
+fn placed(b: u8, i: usize) -> u64
+    ensures { λ r. ⌜ isZero r ≡ isZero b ⌝ }
+{
+    (b as u64) << (8 * (i % 8))
+}
+
+// The bits of an id's bytes, each byte's in a place of its own, so that eight are read at once: none exactly if they are zero.
+fn id_bits(id: [u8; USER_ID]) -> u64
+    ensures { λ r. ⌜ isZero r ≡ all isZero id ⌝ }
+{
+    let mut bits = 0u64;
+    let mut i = 0;
+    while i < USER_ID {
+        bits = bits | placed(id[i], i);
+        i += 1;
+    }
+    bits
+}
+
 // The bits of a member's bytes, joined by or: none exactly if its place is unused.
-fn member_bits(m: Member) -> u8
+fn member_bits(m: Member) -> u64
     ensures { λ r. ⌜ isZero r ≡ isVacant m ⌝ }
 {
     let id = m.id;
-    gathered(&id, 0) | m.status
+    id_bits(id) | (m.status as u64)
 }
 
 // Whether every place from one on is unused: an or over the bytes of all, and one test.
 pub(crate) fn vacant_from(members: [Member; Record::MEMBERS], from: usize) -> bool
     ensures { λ r. ⌜ r ≡ all isVacant (drop from members) ⌝ }
 {
-    let mut bits = 0u8;
+    let mut bits = 0u64;
     let mut i = from;
     while i < Record::MEMBERS {
         let m = members[i];
@@ -100,12 +122,66 @@ pub(crate) fn good_limit(modes: u8, limit: u16) -> bool
     has_mode(modes, LIMIT_MODE)
 }
 
+// None for a byte within a range, one for another.
+fn outside(b: u8, lo: u8, hi: u8) -> u8
+    ensures { λ r. ⌜ r ≡ cond (within lo b hi) 0 1 ⌝ }
+{
+    if b < lo {
+        return 1;
+    }
+    if hi < b {
+        return 1;
+    }
+    0
+}
+
+// None for a byte that may stand in an id, one for another: both ranges are looked at, without a branch.
+fn odd(b: u8) -> u8
+    ensures { λ r. ⌜ isZero r ≡ isIdByte b ⌝ }
+{
+    outside(b, b'A', b'Z') & outside(b, b'0', b'9')
+}
+
+// None if every byte behind the first may stand in an id: one test serves all of them.
+fn odd_bytes(id: [u8; USER_ID]) -> u8
+    ensures { λ r. ⌜ isZero r ≡ all isIdByte (drop 1 id) ⌝ }
+{
+    let mut bits = 0u8;
+    let mut i = 1;
+    while i < USER_ID {
+        bits = bits | odd(id[i]);
+        i += 1;
+    }
+    bits
+}
+
+// Whether it is a user id.
+fn is_id(id: [u8; USER_ID]) -> bool
+    ensures { λ r. ⌜ r ≡ isUserId id ⌝ }
+{
+    if odd_bytes(id) != 0 {
+        return false;
+    }
+    let digit = id[0];
+    if digit < b'0' {
+        return false;
+    }
+    if b'9' < digit {
+        return false;
+    }
+    let letter = id[SERVER_ID];
+    if letter < b'A' {
+        return false;
+    }
+    letter <= b'Z'
+}
+
 // Whether it is a user id with a status that there is.
 fn good_member(m: Member) -> bool
     ensures { λ r. ⌜ r ≡ goodMember m ⌝ }
 {
     let id = m.id;
-    if !is_user_id(&id) {
+    if !is_id(id) {
         return false;
     }
     m.status <= BOTH

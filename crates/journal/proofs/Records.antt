@@ -58,7 +58,7 @@ module _ (link : ℕ) (line log : List ℕ) where
           answers-refused noRoom (simp (lt-ltb link linkCount known, le-ltb lineLimit (length line) small, lt-ltb (length log) (length line + headLength) h)) (λ q. omega arith)
 
       module _ (room : length line + headLength ≤ length log) where
-        accepts : firstOf (logRules link line log) ≡ accepted
+        pub accepts : firstOf (logRules link line log) ≡ accepted
         unfolding logRules firstOf
         accepts = simp (lt-ltb link linkCount known, le-ltb lineLimit (length line) small, le-ltb (length log) (length line + headLength) room)
 

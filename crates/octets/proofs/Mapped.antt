@@ -4,7 +4,7 @@ use mathlib.Core.List.{List, [], _∷_, _++_, map, append-nil}
 use Prim.Native.Nat.{ℕ, _+_, _≤_, _<_}
 use native.Mathlib.Numerals.{add-one}
 use native.Mathlib.Omega.{arith}
-use lib.ListN.{length, take, drop, getD, set, length-map, length-append, length-take, length-drop, drop-of-length-le}
+use lib.ListN.{length, take, drop, getD, set, length-map, drop-of-length-le}
 use lib.Seq.{set-at, take-suc, take-all, append-snoc, getD-at, length-take-le}
 use Rattle.octets.proofs.Lists.{drop-step}
 
@@ -19,10 +19,6 @@ module _ {A : Type 0} (f : A → A) where
   pub mapped-all : (l : List A) (i : ℕ) → length l ≤ i → mapped l i ≡ map f l
   unfolding mapped
   mapped-all l i h = rw (take-all i l h, drop-of-length-le l {i = i} h) (append-nil (map f l))
-
-  pub length-mapped : (l : List A) (i : ℕ) → length (mapped l i) ≡ length l
-  unfolding mapped
-  length-mapped l i = omega (arith, length-append (map f (take i l)) (drop i l), length-map (take i l) f, length-take i l, length-drop i l)
 
   map-snoc : (l : List A) (x : A) → map f (l ++ (x ∷ [])) ≡ map f l ++ (f x ∷ [])
   map-snoc [] x = refl

@@ -1,4 +1,4 @@
--- Tests of lists that several crates' definitions cite.
+-- Tests of lists that several crates' definitions cite, padding, and texts with a mark between them.
 use Prim.Native.Nat.{ℕ}
 use mathlib.Core.Bool.{Bool, true, false, _&&_}
 use mathlib.Core.List.{List, [], _∷_, _++_}
@@ -34,3 +34,14 @@ same = sameBy eqb
 unfoldable pub startsWith : ℕ → List ℕ → Bool
 startsWith b [] = false
 startsWith b (x ∷ s) = eqb x b
+
+-- ---- texts one behind the other
+-- a mark before each
+unfoldable pub prefixed : ℕ → List (List ℕ) → List ℕ
+prefixed mark [] = []
+prefixed mark (s ∷ l) = mark ∷ (s ++ prefixed mark l)
+
+-- a mark between each two
+unfoldable pub separated : ℕ → List (List ℕ) → List ℕ
+separated mark [] = []
+separated mark (s ∷ l) = s ++ prefixed mark l

@@ -1,17 +1,21 @@
 -- The answer to a line, and what is written, by whether a rule refuses it. Assumes nothing.
-use mathlib.Core.Path.{_≡_, ap, _∙_}
-use mathlib.Core.Bool.{true}
+use mathlib.Core.Path.{_≡_, refl, sym, ap, _∙_}
+use mathlib.Core.Bool.{Bool, true, false, cond, _&&_}
 use mathlib.Core.List.{List, []}
 use Prim.Native.Nat.{ℕ, _≤_}
 use native.Mathlib.Omega.{arith}
 use lib.ListN.{length}
-use borrow.Author.Tests.{ne-eqb, not-false, ltb-false}
+use lib.Dec.{eqb}
+use borrow.Author.Tests.{ne-eqb, eqb-true, not-false, ltb-false}
 use Rattle.refusal.specs.Numbers.{accepted}
 use Rattle.refusal.specs.Rules.{firstOf, emitted}
 use Rattle.refusal.proofs.Rules.{first-none, emitted-none, emitted-all}
+use Rattle.octets.specs.Bits.{hasBit}
+use Rattle.octets.proofs.Bools.{and-left}
 use Rattle.message.specs.Grammar.{lineLimit}
 use Rattle.message.specs.Reading.{contentOf}
-use Rattle.links.specs.Links.{relaySet, linksIn}
+use Rattle.message.proofs.Readings.{read-small}
+use Rattle.links.specs.Links.{isLink, relaySet, linksIn}
 use Rattle.table.specs.declared.Table.{Table}
 use Rattle.table.specs.Table.{goodTable}
 use Rattle.table.proofs.WellFormed.{slots-good}
@@ -19,9 +23,19 @@ use Rattle.relay.specs.declared.Change.{Change}
 use Rattle.relay.specs.declared.Taken.{Taken}
 use Rattle.relay.specs.Relay.{commandIn, takenRules, processRules, relayed, withSlots, refused, taken, processAnswer, sent}
 use Rattle.relay.specs.Private.{Changes, slotsWith, sendRules, sendLine}
+use Rattle.relay.proofs.Relayed.{rules-none}
 use Rattle.relay.proofs.Enacted.{enacted-slots, enacted-line, enacted-rules}
 
 module _ (t : Table) (link : ℕ) (line : List ℕ) (n : ℕ) where
+  -- ---- the number answered is the first that applies
+  pub answer-number : processAnswer t link line n .number ≡ firstOf (processRules t link line n)
+  unfolding processAnswer
+  answer-number = go (eqb (firstOf (processRules t link line n)) accepted) refl
+    where
+      go : (b : Bool) → eqb (firstOf (processRules t link line n)) accepted ≡ b → cond b (taken t link line) (refused t (firstOf (processRules t link line n))) .number ≡ firstOf (processRules t link line n)
+      go true e = sym (eqb-true (firstOf (processRules t link line n)) accepted e)
+      go false e = refl
+
   -- ---- a rule refuses it
   module _ (k : ℕ) (e : firstOf (processRules t link line n) ≡ k) (ne : k ≡ accepted → ⊥) where
     pub answer-refused : refused t k ≡ processAnswer t link line n
@@ -34,13 +48,20 @@ module _ (t : Table) (link : ℕ) (line : List ℕ) (n : ℕ) where
 
   -- ---- no rule does
   module _ (none : firstOf (processRules t link line n) ≡ accepted) where
-    pub passed : (goodTable t ≡ true) × (lineLimit ≤ n) × (firstOf (takenRules (t .slots) line) ≡ accepted)
+    tests : (goodTable t ≡ true) × (lineLimit ≤ n) × (isLink link && hasBit (t .links .set) link ≡ true) × (firstOf (takenRules (t .slots) line) ≡ accepted)
     unfolding processRules
-    passed =
+    tests =
         let a = first-none _ _ (λ z. omega arith) none in
         let b = first-none _ _ (λ z. omega arith) (a .1) in
         let c = first-none _ _ (λ z. omega arith) (b .1) in
-        (not-false _ (a .0), ltb-false n lineLimit (b .0), c .1)
+        (not-false _ (a .0), ltb-false n lineLimit (b .0), not-false _ (c .0), c .1)
+
+    pub passed : (goodTable t ≡ true) × (lineLimit ≤ n) × (firstOf (takenRules (t .slots) line) ≡ accepted)
+    passed = (tests .0, tests .1, tests .3)
+
+    -- an accepted line came from one of the links, and is no longer than a line can be
+    pub accepted-line : (isLink link ≡ true) × (length line ≤ lineLimit)
+    accepted-line = (and-left (isLink link) (hasBit (t .links .set) link) (tests .2), read-small line (rules-none (t .slots) line (tests .3) .0))
 
     pub answer-accepted : processAnswer t link line n ≡ taken t link line
     unfolding processAnswer

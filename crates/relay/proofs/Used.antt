@@ -53,9 +53,6 @@ module _ (slots : List Record) (c : Channel) (p : Proper c) where
     first : IsFirst (holds (c .name)) slots emptyRecord k
     first = slot-held slots (c .name) emptyRecord k e
 
-    pub held-inside : k < length slots
-    held-inside = first .inside
-
     pub held-result : resulting slots c ≡ merge (decode there) c
     unfolding resulting
     held-result = rw e

@@ -8,7 +8,7 @@ ghost use Prim.Native.Nat.{_<_};
 ghost use Rattle.refusal.specs.Numbers.{accepted};
 ghost use Rattle.octets.specs.Bytes.{capital as capitalOf};
 ghost use Rattle.octets.specs.Lists.{same};
-ghost use Rattle.message.specs.Reading.{isRead, contentOf};
+ghost use Rattle.message.specs.Reading.{isRead, contentOf, messageOf};
 ghost use Rattle.channel.specs.Limits.{slotCount};
 ghost use Rattle.channel.specs.Record.{decode};
 ghost use Rattle.channel.specs.Merging.{bare as bareOf, mergeAnswer};
@@ -19,6 +19,9 @@ ghost use Rattle.relay.specs.Relay.{outgoing as outgoingOf, commandRules
 ghost use Rattle.relay.specs.Private.{unchanged, Joins, JoinsHeld, PartsHeld, QuitJudged, Judged};
 use crate::Change;
 use crate::Command;
+use crate::spans::command_at;
+use crate::spans::name_at;
+use crate::spans::prefix_at;
 use channel::Member;
 use channel::Record;
 use channel::members::has_member;
@@ -26,10 +29,9 @@ use channel::members::without;
 use channel::merge;
 use links::has_link;
 use message::LINE_LIMIT;
+use message::Message;
 use message::Reading;
-use message::command;
-use message::param;
-use message::prefix;
+use message::parts;
 use message::read;
 use names::USER_ID;
 use names::is_channel;
@@ -211,9 +213,9 @@ fn parts_held(k: usize, held: Record, user: [u8; USER_ID]) -> Change
     }
 }
 
-// PART, with its count of parameters.
-fn judge_part(t: Table, line: &[u8], count: usize) -> Change
-    requires { ⌜ count ≡ length (contentOf (now line) .params) ⌝ }
+// PART, with its parts and its count of parameters.
+fn judge_part(t: Table, line: &[u8], m: Message, count: usize) -> Change
+    requires { ⌜ (m ≡ messageOf (now line)) × (count ≡ length (contentOf (now line) .params)) ⌝ }
     ensures { λ r. ⌜ Judged (commandRules Part (t .slots) (contentOf (now (line .entry)))) Part (t .slots) (contentOf (now (line .entry))) r ⌝ }
 {
     if count < 1 {
@@ -222,11 +224,11 @@ fn judge_part(t: Table, line: &[u8], count: usize) -> Change
     if 2 < count {
         return refusal(WRONG_PARAM_COUNT);
     }
-    let source = prefix(line);
+    let source = prefix_at(line, m);
     if !is_user_id(source) {
         return refusal(BAD_SOURCE);
     }
-    let name = param(line, 0);
+    let name = name_at(line, m);
     if !is_channel(name) {
         return refusal(BAD_NAME);
     }
@@ -240,15 +242,15 @@ fn judge_part(t: Table, line: &[u8], count: usize) -> Change
     }
 }
 
-// QUIT, with its count of parameters.
-fn judge_quit(line: &[u8], count: usize) -> Change
-    requires { ⌜ count ≡ length (contentOf (now line) .params) ⌝ }
+// QUIT, with its parts and its count of parameters.
+fn judge_quit(line: &[u8], m: Message, count: usize) -> Change
+    requires { ⌜ (m ≡ messageOf (now line)) × (count ≡ length (contentOf (now line) .params)) ⌝ }
     ensures { λ r. ⌜ QuitJudged (contentOf (now (line .entry))) r ⌝ }
 {
     if 1 < count {
         return refusal(WRONG_PARAM_COUNT);
     }
-    let source = prefix(line);
+    let source = prefix_at(line, m);
     if !is_user_id(source) {
         return refusal(BAD_SOURCE);
     }
@@ -281,10 +283,11 @@ pub(crate) fn judge(t: Table, link: u32, line: &[u8], n: usize) -> Change
     let Reading::Line(count) = reading else {
         return refusal(reading.number());
     };
-    match command_of(command(line)) {
+    let m = parts(line);
+    match command_of(command_at(line, m)) {
         Command::Sjoin => judge_join(t, line),
-        Command::Part => judge_part(t, line, count),
-        Command::Quit => judge_quit(line, count),
+        Command::Part => judge_part(t, line, m, count),
+        Command::Quit => judge_quit(line, m, count),
         Command::Unknown => refusal(UNKNOWN_COMMAND),
     }
 }

@@ -2,6 +2,7 @@
 // any table and any lent output, get one answer.
 mod acting;
 mod judging;
+mod spans;
 
 ghost use mathlib.Core.Path.{_≡_};
 ghost use lib.ListN.{length};

@@ -12,6 +12,7 @@ pub mod Spaced
 pub mod Lettered
 pub mod Back
 pub mod Pieces
+pub mod Described
 pub mod Tellings
 pub mod Writable
 pub mod Shorter

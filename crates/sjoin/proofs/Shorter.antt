@@ -194,6 +194,14 @@ entry-length m = go (hasMode (m .status) 1) (hasMode (m .status) 0)
     go false true = omega arith
     go false false = omega arith
 
+marks-few : (t : Bool) → marks t ≤ 1
+unfolding marks
+marks-few true = omega arith
+marks-few false = omega arith
+
+pub entry-few : (m : Member) → length (entryOf m) ≤ 2 + length (m .id)
+entry-few m = omega (arith, entry-length m, marks-few (hasMode (m .status) 1), marks-few (hasMode (m .status) 0))
+
 marks-either : (t u : Bool) → marks (t || u) ≤ marks t + marks u
 unfolding marks
 marks-either true u = omega arith

@@ -1,5 +1,5 @@
--- The parameters of an SJOIN that tells of a channel: modes in the order i m n p s t k l, key before limit, entries ascending. What it tells reads back as the
--- channel.
+-- The parameters of an SJOIN that tells of a channel: modes in the order i m n p s t k l, key before limit, entries ascending. What it tells of a well-formed channel, from
+-- a server, reads back as it.
 use Prim.Native.Nat.{ℕ, suc}
 use mathlib.Core.Bool.{cond}
 use mathlib.Core.List.{List, [], _∷_, _++_}
@@ -9,7 +9,10 @@ use lib.Dec.{ltb}
 use Rattle.refusal.specs.Numbers.{outputTooShort, noRoom}
 use Rattle.refusal.specs.Rules.{Rule, _when_}
 use Rattle.octets.specs.Bytes.{space}
+use Rattle.octets.specs.Lists.{separated}
+use Rattle.octets.specs.Bits.{hasBit}
 use Rattle.octets.specs.Decimals.{digitsOf}
+use Rattle.octets.specs.Room.{fits}
 use Rattle.channel.specs.declared.Member.{Member}
 use Rattle.channel.specs.Modes.{letters, keyMode, limitMode, hasMode}
 use Rattle.channel.specs.Channel.{Channel}
@@ -29,7 +32,7 @@ modesText modes = plus ∷ lettersFrom 0 letters modes
 
 -- '@' for an operator, '+' for voice, then the id
 unfoldable pub entryOf : Member → List ℕ
-entryOf m = cond (hasMode (m .status) 1) (at ∷ []) [] ++ cond (hasMode (m .status) 0) (plus ∷ []) [] ++ m .id
+entryOf m = cond (hasBit (m .status) 1) (at ∷ []) [] ++ cond (hasBit (m .status) 0) (plus ∷ []) [] ++ m .id
 
 -- a SPACE before each entry
 unfoldable pub following : List Member → List ℕ
@@ -48,6 +51,18 @@ paramsOf c =
     ++ cond (hasMode (c .modes) keyMode) (c .key ∷ []) []
     ++ cond (hasMode (c .modes) limitMode) (digitsOf (c .limit) ∷ []) []
     ++ (listText (c .members) ∷ [])
+
+-- and the same as a text of its own, one SPACE between parameters
+unfoldable pub described : Channel → List ℕ
+described c = separated space (paramsOf c)
+
+-- the most bytes that it has of a record: a time of 10, a name of 50, '+' and 8 letters, a key of 23, a limit of 5, 64 entries of 11, and the SPACEs between
+abbrev pub descriptionLimit : ℕ
+descriptionLimit = 869
+
+-- what is put into lent room of it: all or nothing
+unfoldable pub describedIn : List ℕ → Channel → List ℕ
+describedIn out c = cond (fits out 0 (described c)) (described c) []
 
 -- SJOIN
 abbrev pub sjoin : List ℕ

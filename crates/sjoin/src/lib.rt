@@ -1,5 +1,5 @@
 // What an SJOIN line says (document 01, 'SJOIN'): its time, name, modes with key and limit, and members, judged by the numbers 12 to 18 and put into a
-// record of their own; and the line that tells of a record.
+// record of their own; the line that tells of a record; and what is told as a text of its own.
 mod arguments;
 mod entries;
 mod letters;
@@ -23,7 +23,7 @@ ghost use Rattle.message.specs.Reading.{contentOf, messageOf};
 ghost use Rattle.writer.specs.Form.{written};
 ghost use Rattle.writer.specs.Writing.{answerFor};
 ghost use Rattle.sjoin.specs.Join.{timeIn, goodTime, joinRules, channelIn, refusedBy, toldBy};
-ghost use Rattle.sjoin.specs.Telling.{joinMessage, tellRules};
+ghost use Rattle.sjoin.specs.Telling.{described, descriptionLimit, describedIn, joinMessage, tellRules};
 ghost use Rattle.sjoin.specs.Scan.{Parted};
 use arguments::MODES_AT;
 use arguments::argument;
@@ -44,6 +44,7 @@ use names::is_channel;
 use names::is_server_id;
 use octets::Decimal;
 use octets::decimals::decimal;
+use octets::part;
 use octets::put;
 use refusal::ACCEPTED;
 use refusal::BAD_MEMBERS;
@@ -57,6 +58,7 @@ use refusal::WRONG_PARAM_COUNT;
 use refusal::ZERO_TIME;
 use spans::param_at;
 use spans::prefix_at;
+use telling::put_description;
 use telling::put_join;
 use writer::Written;
 
@@ -71,6 +73,12 @@ const TIME_AT: usize = 0;
 
 // The place of the name among the parameters.
 const NAME_AT: usize = 1;
+
+// The most bytes that are told of a record.
+pub const DESCRIPTION_LIMIT: usize = 869;
+
+// Room for them, and for a SPACE before them.
+const SCRATCH: usize = DESCRIPTION_LIMIT + 1;
 
 // The number of a refusal, or ACCEPTED, and the record that the line tells of, or the empty one.
 pub struct Told {
@@ -226,4 +234,21 @@ pub fn write_join(source: &[u8], r: Record, out: &mut [u8]) -> Written
         number: ACCEPTED,
         len,
     }
+}
+
+// Puts what an SJOIN tells of a record, its parameters with one SPACE between them and no ':', at the front of the output and answers how many bytes they
+// are; 0 where there is no room for all of them. They may be longer than a line; room for DESCRIPTION_LIMIT bytes is enough.
+pub fn describe(r: Record, out: &mut [u8]) -> usize
+    ensures answer { λ n. ⌜ n ≡ length (describedIn (now (out .entry)) (decode r)) ⌝ }
+    ensures output { λ _. ⌜ now (out .exit) ≡ front (describedIn (now (out .entry)) (decode r)) (now (out .entry)) ⌝ }
+    ensures limit { λ _. do ⌜ (length (described (decode r)) ≤ descriptionLimit) × ((← ⟦DESCRIPTION_LIMIT⟧ .entry) ≡ descriptionLimit) ⌝ }
+{
+    let mut text = [0u8; SCRATCH];
+    let end = put_description(r, &mut text);
+    let len = end - 1;
+    if out.len() < len {
+        return 0;
+    }
+    put(out, 0, part(&text, 1, end));
+    len
 }

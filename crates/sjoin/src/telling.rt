@@ -12,7 +12,7 @@ ghost use Rattle.channel.specs.Modes.{keyMode, limitMode, hasMode};
 ghost use Rattle.channel.specs.Record.{decode};
 ghost use Rattle.message.specs.Grammar.{lineLimit};
 ghost use Rattle.writer.specs.Form.{writtenParam, written};
-ghost use Rattle.sjoin.specs.Telling.{modesText, entryOf, listText, joinMessage};
+ghost use Rattle.sjoin.specs.Telling.{modesText, entryOf, listText, described, joinMessage};
 ghost use Rattle.sjoin.specs.Pieces.{listPlace, settingsText};
 use channel::Member;
 use channel::Record;
@@ -184,4 +184,14 @@ pub(crate) fn put_join(source: &[u8], r: Record, line: &mut [u8]) -> usize
     let settled = put_settings(line, commanded, r);
     let listed = put_list(line, settled, r);
     put(line, listed, b"\r\n")
+}
+
+// Puts a SPACE and what is told of a record, one SPACE between parameters.
+pub(crate) fn put_description(r: Record, text: &mut [u8]) -> usize
+    ensures { λ n. ⌜ Adds (now (text .entry)) 0 (now (text .exit)) n (space ∷ described (decode r)) ⌝ }
+{
+    let members = r.members;
+    let settled = put_settings(text, 0, r);
+    let next = put(text, settled, b" ");
+    put_entries(text, next, members, r.count)
 }

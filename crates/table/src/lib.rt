@@ -14,7 +14,7 @@ use octets::part;
 use refusal::ACCEPTED;
 use refusal::BAD_LINK;
 use refusal::NOT_WELL_FORMED;
-use slots::are_distinct;
+use slots::alike;
 use slots::is_good;
 use slots::lowest_free;
 
@@ -52,7 +52,8 @@ impl Table {
     }
 }
 
-// Whether used slots hold well-formed records, no two with equal names, and free ones are zero.
+// Whether used slots hold well-formed records, no two with equal names, and free ones are zero. Every pair of slots is looked at, i being below j. One
+// function, so that the table is handed to no other; a free slot's row of pairs is passed over.
 pub fn is_well_formed(t: Table) -> bool
     ensures { λ r. ⌜ r ≡ goodTable t ⌝ }
 {
@@ -62,7 +63,26 @@ pub fn is_well_formed(t: Table) -> bool
             return false;
         }
     }
-    are_distinct(t)
+    let mut i = 0;
+    let mut j = 1;
+    while i + 1 < Record::SLOTS {
+        if j == Record::SLOTS {
+            i += 1;
+            j = i + 1;
+            continue;
+        }
+        if t.slots[i].count == 0 {
+            j = Record::SLOTS;
+            continue;
+        }
+        let r = t.slots[i];
+        let s = t.slots[j];
+        if alike(r, s) {
+            return false;
+        }
+        j += 1;
+    }
+    true
 }
 
 // The table with other links, unless it isn't well formed or the link is none.

@@ -1,6 +1,6 @@
 // The slots of a table, each judged as the record that it holds, and two by their names.
 ghost use mathlib.Core.Path.{_≡_};
-ghost use Rattle.table.specs.Table.{goodSlot, holds as holdsOf, alike as alikeOf, distinct};
+ghost use Rattle.table.specs.Table.{goodSlot, holds as holdsOf, alike as alikeOf};
 ghost use Rattle.table.specs.Slots.{freeSlot};
 use crate::Slot;
 use crate::Table;
@@ -32,7 +32,7 @@ fn holds(r: Record, name: &[u8]) -> bool
 }
 
 // Whether two slots are used and hold equal names.
-fn alike(r: Record, s: Record) -> bool
+pub(crate) fn alike(r: Record, s: Record) -> bool
     ensures { λ t. ⌜ t ≡ alikeOf r s ⌝ }
 {
     if r.count == 0 {
@@ -40,28 +40,6 @@ fn alike(r: Record, s: Record) -> bool
     }
     let room = r.name;
     holds(s, part(&room, 0, r.name_len))
-}
-
-// Whether no two slots are alike: every pair is looked at, i being below j. One loop, so that the table is handed to no function for each slot.
-pub(crate) fn are_distinct(t: Table) -> bool
-    ensures { λ r. ⌜ r ≡ distinct (t .slots) ⌝ }
-{
-    let mut i = 0;
-    let mut j = 1;
-    while i + 1 < Record::SLOTS {
-        if j == Record::SLOTS {
-            i += 1;
-            j = i + 1;
-            continue;
-        }
-        let r = t.slots[i];
-        let s = t.slots[j];
-        if alike(r, s) {
-            return false;
-        }
-        j += 1;
-    }
-    true
 }
 
 // The lowest free slot.

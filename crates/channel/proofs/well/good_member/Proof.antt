@@ -6,19 +6,16 @@ use Rattle.channel.specs.WellFormed.{goodMember}
 use Rattle.channel.proofs.well.good_member.Statement.{statement}
 use Rattle.channel.proofs.well.good_member.Tie as tie
 
-slice-aggregate-is-user-id : tie.Need-slice-aggregate-is-user-id
-slice-aggregate-is-user-id c = search needs
-
-is-user-id-requires : tie.Need-is-user-id-requires
-is-user-id-requires c κs = search needs
+is-id-requires : tie.Need-is-id-requires
+is-id-requires c κs = search needs
 
 returns : tie.Need-returns
 unfolding goodMember
-returns c = rw (sym (c .before .is-user-id .ensures) ∙ not-true _ (c .if1 .taken))
+returns c = rw (sym (c .before .is-id .ensures) ∙ not-true _ (c .if1 .taken))
 
 returns-2 : tie.Need-returns-2
 unfolding goodMember
-returns-2 c = rw (sym (c .before .before .is-user-id .ensures) ∙ not-false _ (c .before .if1 .left))
+returns-2 c = rw (sym (c .before .before .is-id .ensures) ∙ not-false _ (c .before .if1 .left))
 
 pub good-member-spec : {M : Type 1} → statement M
-good-member-spec = tie.close (tie.spec slice-aggregate-is-user-id is-user-id-requires returns returns-2)
+good-member-spec = tie.close (tie.spec is-id-requires returns returns-2)

@@ -7,16 +7,16 @@ use Rattle.channel.proofs.Tests.{or-zero}
 use Rattle.channel.proofs.well.member_bits.Statement.{statement}
 use Rattle.channel.proofs.well.member_bits.Tie as tie
 
-slice-aggregate-gathered : tie.Need-slice-aggregate-gathered
-slice-aggregate-gathered c = search needs
+id-bits-requires : tie.Need-id-bits-requires
+id-bits-requires c κs = search needs
 
-gathered-requires : tie.Need-gathered-requires
-gathered-requires c κs = search needs
+cast-result : tie.Need-cast-result
+cast-result c = search needs
 
 returns : tie.Need-returns
 returns c =
-    let m = c .before .before .before .before .args .m in
-    or-zero (c .before .gathered .result) (m .status) ∙ ap (λ (t : Bool). t && isZero (m .status)) (c .before .gathered .ensures)
+    let m = c .before .before .before .args .m in
+    or-zero (c .before .id-bits .result) (m .status) ∙ ap (λ (t : Bool). t && isZero (m .status)) (c .before .id-bits .ensures)
 
 pub member-bits-spec : {M : Type 1} → statement M
-member-bits-spec = tie.close (tie.spec slice-aggregate-gathered gathered-requires returns)
+member-bits-spec = tie.close (tie.spec id-bits-requires cast-result returns)

@@ -52,17 +52,17 @@ read c = reading-line (line (c .before .before .before .before .before .before .
 counted : (c : tie.After-known-told) → c .before .reading .given .0 .0 ≡ length (contentOf (line (c .before .before .before .before .before .before .before .before .before .before .before)) .params)
 counted c = ap countOf (sym (c .before .reading .given .1)) ∙ c .before .before .before .read .ensures .1 .1
 
-command : (c : tie.After-command-of) → c .command-of .result ≡ commandIn (line (c .before .before .before .before .before .before .before .before .before .before .before .before .before))
-command c = c .command-of .ensures ∙ ap commandOf (c .before .command .ensures .0)
+command : (c : tie.After-command-of) → c .command-of .result ≡ commandIn (line (c .before .before .before .before .before .before .before .before .before .before .before .before .before .before))
+command c = c .command-of .ensures ∙ ap commandOf (c .before .command-at .ensures)
 
 -- the judgement of its command
 judged : (c : tie.After-command-of) (k : Command) → c .command-of .result ≡ k → (j : Change)
-    → Judged (commandRules k (c .before .before .before .before .before .before .before .before .before .before .before .before .before .args .t .slots) (contentOf (line (c .before .before .before .before .before .before .before .before .before .before .before .before .before)))) k (c .before .before .before .before .before .before .before .before .before .before .before .before .before .args .t .slots) (contentOf (line (c .before .before .before .before .before .before .before .before .before .before .before .before .before))) j
-    → Judged (processRules (c .before .before .before .before .before .before .before .before .before .before .before .before .before .args .t) (c .before .before .before .before .before .before .before .before .before .before .before .before .before .args .link) (line (c .before .before .before .before .before .before .before .before .before .before .before .before .before)) (c .before .before .before .before .before .before .before .before .before .before .before .before .before .args .n)) (commandIn (line (c .before .before .before .before .before .before .before .before .before .before .before .before .before))) (c .before .before .before .before .before .before .before .before .before .before .before .before .before .args .t .slots) (contentOf (line (c .before .before .before .before .before .before .before .before .before .before .before .before .before))) j
+    → Judged (commandRules k (c .before .before .before .before .before .before .before .before .before .before .before .before .before .before .args .t .slots) (contentOf (line (c .before .before .before .before .before .before .before .before .before .before .before .before .before .before)))) k (c .before .before .before .before .before .before .before .before .before .before .before .before .before .before .args .t .slots) (contentOf (line (c .before .before .before .before .before .before .before .before .before .before .before .before .before .before))) j
+    → Judged (processRules (c .before .before .before .before .before .before .before .before .before .before .before .before .before .before .args .t) (c .before .before .before .before .before .before .before .before .before .before .before .before .before .before .args .link) (line (c .before .before .before .before .before .before .before .before .before .before .before .before .before .before)) (c .before .before .before .before .before .before .before .before .before .before .before .before .before .before .args .n)) (commandIn (line (c .before .before .before .before .before .before .before .before .before .before .before .before .before .before))) (c .before .before .before .before .before .before .before .before .before .before .before .before .before .before .args .t .slots) (contentOf (line (c .before .before .before .before .before .before .before .before .before .before .before .before .before .before))) j
 judged c k e j q =
-    let s = c .before .before .before .before .before .before .before .before .before .before .before .before .before in
-    let three = c .before .before .before .before .before .before in
-    enters-judged (s .args .t) (s .args .link) (line s) (s .args .n) (good (three .before .before .before .before)) (room (three .before .before .before)) (small s) (linked three) (read (c .before .before)) k (sym (command c) ∙ e) j q
+    let s = c .before .before .before .before .before .before .before .before .before .before .before .before .before .before in
+    let three = c .before .before .before .before .before .before .before in
+    enters-judged (s .args .t) (s .args .link) (line s) (s .args .n) (good (three .before .before .before .before)) (room (three .before .before .before)) (small s) (linked three) (read (c .before .before .before)) k (sym (command c) ∙ e) j q
 
 -- ---- the needs
 
@@ -125,8 +125,11 @@ returns-4 c =
     refused-judged _ _ (s .args .t .slots) (contentOf (line s)) _ (c .refusal4 .result) (c .refusal4 .ensures) (λ z. refused-number (line s) unread (sym number ∙ z))
     (enters-unread (s .args .t) (s .args .link) (line s) (s .args .n) (good (three .before .before .before .before)) (room (three .before .before .before)) (small s) (linked three) unread ∙ sym number)
 
-command-requires : tie.Need-command-requires
-command-requires c κs = search needs
+parts-requires : tie.Need-parts-requires
+parts-requires c κs = search needs
+
+command-at-requires : tie.Need-command-at-requires
+command-at-requires c κs = search needs
 
 command-of-requires : tie.Need-command-of-requires
 command-of-requires c κs = search needs
@@ -135,19 +138,19 @@ enum-told-2 : tie.Need-enum-told-2
 enum-told-2 c = search needs
 
 judge-join-requires : tie.Need-judge-join-requires
-judge-join-requires c κs = (good (c .before .before .before .before .before .before .before .before .before .before .before .before), read (c .before .before .before .before))
+judge-join-requires c κs = (good (c .before .before .before .before .before .before .before .before .before .before .before .before .before), read (c .before .before .before .before .before))
 
 enum-told-3 : tie.Need-enum-told-3
 enum-told-3 c = search needs
 
 judge-part-requires : tie.Need-judge-part-requires
-judge-part-requires c κs = counted (c .before .before .before .before)
+judge-part-requires c κs = (c .before .before .before .before .parts .ensures, counted (c .before .before .before .before .before))
 
 enum-told-4 : tie.Need-enum-told-4
 enum-told-4 c = search needs
 
 judge-quit-requires : tie.Need-judge-quit-requires
-judge-quit-requires c κs = counted (c .before .before .before .before)
+judge-quit-requires c κs = (c .before .before .before .before .parts .ensures, counted (c .before .before .before .before .before))
 
 enum-told-5 : tie.Need-enum-told-5
 enum-told-5 c = search needs
@@ -188,7 +191,8 @@ judge-spec =
     number-requires
     refusal-requires-4
     returns-4
-    command-requires
+    parts-requires
+    command-at-requires
     command-of-requires
     enum-told-2
     judge-join-requires

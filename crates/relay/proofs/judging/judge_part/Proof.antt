@@ -31,25 +31,25 @@ slots c = c .args .t1 .slots
 
 -- ---- what is known after each test
 some : (c : tie.Else1) → 1 ≤ length (content (c .before .before) .params)
-some c = omega (arith, c .if1 .left, c .before .before .pre)
+some c = omega (arith, c .if1 .left, c .before .before .pre .1)
 
 few : (c : tie.Else2) → length (content (c .before .before .before) .params) ≤ 2
-few c = omega (arith, c .if2 .left, c .before .before .before .pre)
+few c = omega (arith, c .if2 .left, c .before .before .before .pre .1)
 
 sourced : (c : tie.After-is-user-id) (t : Bool) → c .is-user-id .result ≡ t → isUser (content (c .before .before .before .before .before) .prefix) ≡ t
-sourced c t e = user-told (content (c .before .before .before .before .before)) (c .before .prefix .result .now) (c .before .prefix .ensures .0) _ t (c .is-user-id .ensures) e
+sourced c t e = user-told (content (c .before .before .before .before .before)) (c .before .prefix-at .result .now) (c .before .prefix-at .ensures) _ t (c .is-user-id .ensures) e
 
 user : (c : tie.Else3) → isUser (content (c .before .before .before .before .before .before) .prefix) ≡ true
 user c = sourced (c .before) true (not-false _ (c .if3 .left))
 
 channel : (c : tie.After-is-channel) (t : Bool) → c .is-channel .result ≡ t → isChannel (partedIn (content (c .before .before .before .before .before .before .before .before))) ≡ t
-channel c t e = ap isChannel (sym (c .before .param .ensures .0)) ∙ sym (c .is-channel .ensures) ∙ e
+channel c t e = ap isChannel (sym (c .before .name-at .ensures)) ∙ sym (c .is-channel .ensures) ∙ e
 
 named : (c : tie.Else4) → isChannel (partedIn (content (c .before .before .before .before .before .before .before .before .before))) ≡ true
 named c = channel (c .before) true (not-false _ (c .if4 .left))
 
 found : (c : tie.After-find) → c .find .result ≡ slotFor (slots (c .before .before .before .before .before .before .before .before .before .before)) (partedIn (content (c .before .before .before .before .before .before .before .before .before .before)))
-found c = c .find .ensures .0 ∙ ap (slotFor (slots (c .before .before .before .before .before .before .before .before .before .before))) (c .before .before .before .param .ensures .0)
+found c = c .find .ensures .0 ∙ ap (slotFor (slots (c .before .before .before .before .before .before .before .before .before .before))) (c .before .before .before .name-at .ensures)
 
 -- ---- slot k holds the name
 held : (c : tie.After-k) → slotFor (slots (c .before .before .before .before .before .before .before .before .before .before .before .before)) (partedIn (content (c .before .before .before .before .before .before .before .before .before .before .before .before))) ≡ Held (c .k .given .0 .0)
@@ -69,7 +69,7 @@ refusal-requires c κs = search needs
 returns : tie.Need-returns
 returns c =
     let s = c .before .before .before in
-    refused-judged _ _ (slots s) (content s) _ (c .refusal .result) (c .refusal .ensures) (λ z. omega (arith, z)) (part-few (slots s) (content s) (omega (arith, c .before .if1 .taken, s .pre)))
+    refused-judged _ _ (slots s) (content s) _ (c .refusal .result) (c .refusal .ensures) (λ z. omega (arith, z)) (part-few (slots s) (content s) (omega (arith, c .before .if1 .taken, s .pre .1)))
 
 refusal-requires-2 : tie.Need-refusal-requires-2
 refusal-requires-2 c κs = search needs
@@ -77,10 +77,10 @@ refusal-requires-2 c κs = search needs
 returns-2 : tie.Need-returns-2
 returns-2 c =
     let s = c .before .before .before .before in
-    refused-judged _ _ (slots s) (content s) _ (c .refusal2 .result) (c .refusal2 .ensures) (λ z. omega (arith, z)) (part-many (slots s) (content s) (some (c .before .before)) (omega (arith, c .before .if2 .taken, s .pre)))
+    refused-judged _ _ (slots s) (content s) _ (c .refusal2 .result) (c .refusal2 .ensures) (λ z. omega (arith, z)) (part-many (slots s) (content s) (some (c .before .before)) (omega (arith, c .before .if2 .taken, s .pre .1)))
 
-prefix-requires : tie.Need-prefix-requires
-prefix-requires c κs = search needs
+prefix-at-requires : tie.Need-prefix-at-requires
+prefix-at-requires c κs = search needs
 
 is-user-id-requires : tie.Need-is-user-id-requires
 is-user-id-requires c κs = search needs
@@ -95,8 +95,8 @@ returns-3 c =
     refused-judged _ _ (slots s) (content s) _ (c .refusal3 .result) (c .refusal3 .ensures) (λ z. omega (arith, z))
     (part-unsourced (slots s) (content s) (some (two .before)) (few two) (sourced (c .before .before) false (not-true _ (c .before .if3 .taken))))
 
-param-requires : tie.Need-param-requires
-param-requires c κs = search needs
+name-at-requires : tie.Need-name-at-requires
+name-at-requires c κs = search needs
 
 is-channel-requires : tie.Need-is-channel-requires
 is-channel-requires c κs = search needs
@@ -150,7 +150,7 @@ returns-5 c =
     let three = four .before .before .before in
     let two = three .before .before .before in
     part-judged (slots s) (content s) (some (two .before)) (few two) (user three) (named four) (k .k .given .0 .0) (held k) _ (getD-any (slots s) (k .k .given .0 .0) _ emptyRecord (omega (arith, sixteen s, inside k)))
-    (c .before .user-id .result) (user-held (content s) (three .before .before .prefix .result .now) (three .before .before .prefix .ensures .0) (user three) _ (c .before .user-id .ensures)) (c .parts-held .result) (c .parts-held .ensures)
+    (c .before .user-id .result) (user-held (content s) (three .before .before .prefix-at .result .now) (three .before .before .prefix-at .ensures) (user three) _ (c .before .user-id .ensures)) (c .parts-held .result) (c .parts-held .ensures)
 
 returns-6 : tie.Need-returns-6
 returns-6 c =
@@ -178,11 +178,11 @@ judge-part-spec =
     returns
     refusal-requires-2
     returns-2
-    prefix-requires
+    prefix-at-requires
     is-user-id-requires
     refusal-requires-3
     returns-3
-    param-requires
+    name-at-requires
     is-channel-requires
     refusal-requires-4
     returns-4

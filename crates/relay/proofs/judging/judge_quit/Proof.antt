@@ -17,10 +17,10 @@ refusal-requires c κs = search needs
 returns : tie.Need-returns
 returns c =
     let s = c .before .before .before in
-    refused-quit (contentOf (s .args .line .now)) _ (c .refusal .result) (c .refusal .ensures) (λ z. omega (arith, z)) (quit-many _ (omega (arith, c .before .if1 .taken, s .pre)))
+    refused-quit (contentOf (s .args .line .now)) _ (c .refusal .result) (c .refusal .ensures) (λ z. omega (arith, z)) (quit-many _ (omega (arith, c .before .if1 .taken, s .pre .1)))
 
-prefix-requires : tie.Need-prefix-requires
-prefix-requires c κs = search needs
+prefix-at-requires : tie.Need-prefix-at-requires
+prefix-at-requires c κs = search needs
 
 is-user-id-requires : tie.Need-is-user-id-requires
 is-user-id-requires c κs = search needs
@@ -33,7 +33,7 @@ returns-2 c =
     let s = c .before .before .before .before .before .before in
     let u = c .before .before in
     refused-quit (contentOf (s .args .line .now)) _ (c .refusal2 .result) (c .refusal2 .ensures) (λ z. omega (arith, z))
-    (quit-unsourced _ (omega (arith, u .before .before .if1 .left, s .pre)) (user-told (contentOf (s .args .line .now)) (u .before .prefix .result .now) (u .before .prefix .ensures .0) _ _ (u .is-user-id .ensures) (not-true _ (c .before .if2 .taken))))
+    (quit-unsourced _ (omega (arith, u .before .before .if1 .left, s .pre .1)) (user-told (contentOf (s .args .line .now)) (u .before .prefix-at .result .now) (u .before .prefix-at .ensures) _ _ (u .is-user-id .ensures) (not-true _ (c .before .if2 .taken))))
 
 empty-requires : tie.Need-empty-requires
 empty-requires c κs = search needs
@@ -46,11 +46,11 @@ returns-3 c =
     let s = c .before .before .before .before .before .before .before in
     let d = contentOf (s .args .line .now) in
     let u = c .before .before .before in
-    let bytes = u .before .prefix .result .now in
-    let is = u .before .prefix .ensures .0 in
+    let bytes = u .before .prefix-at .result .now in
+    let is = u .before .prefix-at .ensures in
     let user : isUser (d .prefix) ≡ true = user-told d bytes is _ _ (u .is-user-id .ensures) (not-false _ (c .before .before .if2 .left)) in
     record {
-      number = sym (quit-passes d (omega (arith, u .before .before .if1 .left, s .pre)) user);
+      number = sym (quit-passes d (omega (arith, u .before .before .if1 .left, s .pre .1)) user);
       inside = omega arith;
       change = λ _. record { command = refl; leaves = user-held d bytes is user (c .user-id .result) (c .user-id .ensures) };
     }
@@ -61,7 +61,7 @@ judge-quit-spec =
     (tie.spec
     refusal-requires
     returns
-    prefix-requires
+    prefix-at-requires
     is-user-id-requires
     refusal-requires-2
     returns-2

@@ -1,0 +1,68 @@
+-- Requests and answers as computed from their definitions, and an instance that meets the premise of `kept-line`. Assumes nothing.
+use Prim.Native.Nat.{ℕ}
+use mathlib.Core.Path.{_≡_, refl}
+use mathlib.Core.List.{List as ListOf, [], _∷_, map}
+use Rattle.octets.specs.Bytes.{cr, lf, space, isDigit, within}
+use Rattle.octets.specs.Bits.{hasBit}
+use Rattle.octets.specs.Lists.{all, startsWith, prefixed, separated}
+use Rattle.octets.specs.Decimals.{leadsWithZero, isDecimal, valueFrom, valueUpTo, decimalUpTo, digitsUpTo, digitsOf}
+use Rattle.links.specs.Links.{linksFrom}
+use Rattle.message.specs.Grammar.{word}
+use Rattle.console.specs.declared.requests.Request.the-variants.{Register, Unregister, Take, List, Unknown}
+use Rattle.console.specs.Lines.{kept, firstLine}
+use Rattle.console.specs.Requests.{ended, takingIn, requestIn, lineFrom}
+use Rattle.console.specs.Answers.{numberedText, linksText, relayedText}
+use Rattle.console.proofs.Keeping.{kept-line}
+
+-- ---- requests
+-- `31 X`, with CR LF
+line : ListOf ℕ
+line = 51 ∷ 49 ∷ space ∷ 88 ∷ cr ∷ lf ∷ []
+
+-- `+31`; `+31` with CR LF; `+01`; `-0` unfinished; `-1` with CR and no LF; `?` with CR LF; `??`; `31 X`; ` 31`; `31`; nothing but LF
+asked : map requestIn (
+    (43 ∷ 51 ∷ 49 ∷ lf ∷ [])
+    ∷ (43 ∷ 51 ∷ 49 ∷ cr ∷ lf ∷ [])
+    ∷ (43 ∷ 48 ∷ 49 ∷ lf ∷ [])
+    ∷ (45 ∷ 48 ∷ [])
+    ∷ (45 ∷ 49 ∷ cr ∷ [])
+    ∷ (63 ∷ cr ∷ lf ∷ [])
+    ∷ (63 ∷ 63 ∷ lf ∷ [])
+    ∷ line
+    ∷ (space ∷ 51 ∷ 49 ∷ lf ∷ [])
+    ∷ (51 ∷ 49 ∷ lf ∷ [])
+    ∷ (lf ∷ [])
+    ∷ [])
+    ≡ Register 31 ∷ Register 31 ∷ Unknown ∷ Unregister 0 ∷ Unknown ∷ List ∷ Unknown ∷ Take 31 3 ∷ Unknown ∷ Unknown ∷ Unknown ∷ []
+unfolding line requestIn ended takingIn word decimalUpTo isDecimal all isDigit within leadsWithZero startsWith valueUpTo valueFrom
+asked = refl
+
+-- the link's line is what stands behind the SPACE, in what is kept too
+taken : lineFrom 3 line ≡ 88 ∷ cr ∷ lf ∷ []
+unfolding line lineFrom
+taken = refl
+
+still : lineFrom 3 (kept line) ≡ lineFrom 3 line
+unfolding line requestIn ended takingIn word decimalUpTo isDecimal all isDigit within leadsWithZero startsWith valueUpTo valueFrom
+still = kept-line line 31 3 refl
+
+-- ---- lines: the first ends with its LF
+first : firstLine (65 ∷ lf ∷ 66 ∷ lf ∷ []) ≡ 65 ∷ lf ∷ []
+unfolding firstLine
+first = refl
+
+-- ---- answers
+-- `! 20`
+numbered : numberedText 33 20 ≡ 33 ∷ space ∷ 50 ∷ 48 ∷ lf ∷ []
+unfolding numberedText digitsOf digitsUpTo
+numbered = refl
+
+-- links 0, 5 and 31
+several : linksText 2147483681 ≡ 48 ∷ 44 ∷ 53 ∷ 44 ∷ 51 ∷ 49 ∷ []
+unfolding linksText linksFrom hasBit separated prefixed digitsOf digitsUpTo
+several = refl
+
+-- no link: `- X`
+alone : relayedText 0 (88 ∷ cr ∷ lf ∷ []) ≡ 45 ∷ space ∷ 88 ∷ cr ∷ lf ∷ []
+unfolding relayedText linksText linksFrom hasBit
+alone = refl

@@ -1,0 +1,154 @@
+-- However a line comes in pieces, what is kept of it is its first bytes, and these ask for what the whole line asks for: a number has nine digits at most, so
+-- what is left off belongs to no request, or to a link's line behind what is taken of it. Assumes nothing.
+use Prim.Native.Nat.{ℕ, zero, suc, _+_, _-_, _≤_, _<_}
+use mathlib.Core.Path.{_≡_, refl, sym, ap, _∙_}
+use mathlib.Core.Bool.{Bool, true, false, cond}
+use mathlib.Core.List.{List as ListOf, [], _∷_, _++_, append-nil, append-assoc}
+use native.Mathlib.Omega.{arith}
+use lib.ListN.{length, take, drop, getD, length-take}
+use lib.Seq.{take-all, take-append-le, take-take, take-nil}
+use lib.Dec.{eqb, leb, ltb}
+use borrow.Author.Tests.{ne-eqb, lt-ltb, le-ltb, ltb-true, ltb-false, leb-true, leb-false}
+use Rattle.octets.specs.declared.Decimal.{Decimal}
+use Rattle.octets.specs.declared.Decimal.the-variants.{Value, Malformed}
+use Rattle.octets.specs.Bytes.{cr, space}
+use Rattle.octets.specs.Joins.{total}
+use Rattle.octets.specs.Lists.{isNil}
+use Rattle.octets.proofs.Digits.{digits-within, decimal-read}
+use Rattle.octets.proofs.Lists.{nil-length}
+use Rattle.message.specs.Grammar.{word}
+use Rattle.console.specs.declared.requests.Request.{Request}
+use Rattle.console.specs.declared.requests.Request.the-variants.{Register, Unregister, Take, List, Unknown}
+use Rattle.console.specs.Lines.{inputLimit, kept, keptAfter, endsLine}
+use Rattle.console.specs.Requests.{ended, linkIn, takingIn, requestIn, lineFrom}
+
+-- ---- pieces
+kept-behind : (a b : ListOf ℕ) → kept (kept a ++ b) ≡ kept (a ++ b)
+kept-behind a b = go (leb (length a) inputLimit) refl
+  where
+    go : (t : Bool) → leb (length a) inputLimit ≡ t → kept (kept a ++ b) ≡ kept (a ++ b)
+    go true e = ap (λ (l : ListOf ℕ). kept (l ++ b)) (take-all inputLimit a (leb-true (length a) inputLimit e))
+    go false e =
+        let h = leb-false (length a) inputLimit e in
+        take-append-le inputLimit (kept a) b (omega (arith, length-take inputLimit a)) ∙ take-take inputLimit inputLimit a (omega arith) ∙ sym (take-append-le inputLimit a b (omega (arith, h)))
+
+abbrev joined : ListOf (ListOf ℕ) → ListOf ℕ
+joined pieces = total _++_ [] (λ piece. piece) pieces
+
+pieces-behind : (a : ListOf ℕ) (pieces : ListOf (ListOf ℕ)) → keptAfter (kept a) pieces ≡ kept (a ++ joined pieces)
+unfolding keptAfter
+pieces-behind a [] = ap kept (sym (append-nil a))
+pieces-behind a (piece ∷ pieces) = ap (λ (l : ListOf ℕ). keptAfter l pieces) (kept-behind a piece) ∙ pieces-behind (a ++ piece) pieces ∙ ap kept (append-assoc a piece (joined pieces))
+
+pub pieces-kept : (pieces : ListOf (ListOf ℕ)) → keptAfter [] pieces ≡ kept (joined pieces)
+pieces-kept pieces = pieces-behind [] pieces
+
+-- ---- what is longer than a number
+long-none : (s : ListOf ℕ) → 9 < length s → linkIn s ≡ Malformed
+long-none s h = go (linkIn s) refl
+  where
+    go : (d : Decimal) → linkIn s ≡ d → linkIn s ≡ Malformed
+    go (Value n) e =
+        let r = decimal-read 999999999 n s e in
+        absurd (omega (arith, h, ap (λ (l : ListOf ℕ). length l) (r .1), digits-within n 8 (omega (arith, r .0))))
+    go Malformed e = e
+
+ended-long : (s : ListOf ℕ) → length s ≤ 2 + length (ended s)
+unfolding ended
+ended-long s = go (endsLine s) (eqb (getD s (length s - 2) 0) cr)
+  where
+    go : (t u : Bool) → length s ≤ 2 + length (cond t (cond u (take (length s - 2) s) (take (length s - 1) s)) s)
+    go true true = omega (arith, length-take (length s - 2) s)
+    go true false = omega (arith, length-take (length s - 1) s)
+    go false u = omega arith
+
+take-word : (n : ℕ) (s : ListOf ℕ) → word (take n s) ≡ take n (word s)
+unfolding word
+take-word zero s = refl
+take-word (suc n) [] = refl
+take-word (suc n) (b ∷ s) = go (eqb b space) (take-word n s)
+  where
+    go : (t : Bool) → word (take n s) ≡ take n (word s) → cond t [] (b ∷ word (take n s)) ≡ take (suc n) (cond t [] (b ∷ word s))
+    go true e = refl
+    go false e = ap (_∷_ b) e
+
+-- ---- a longer line than is kept
+either : (t : Bool) → Unknown ≡ cond t Unknown Unknown
+either true = refl
+either false = refl
+
+module _ (s : ListOf ℕ) (long : inputLimit < length s) where
+  kept-length : length (kept s) ≡ inputLimit
+  kept-length = omega (arith, length-take inputLimit s)
+
+  kept-taking : takingIn (kept s) ≡ takingIn s
+  unfolding takingIn
+  kept-taking = go (ltb (length (word s)) inputLimit) refl
+    where
+      go : (t : Bool) → ltb (length (word s)) inputLimit ≡ t → takingIn (kept s) ≡ takingIn s
+      go true e =
+          let h = ltb-true (length (word s)) inputLimit e in
+          let w : word (kept s) ≡ word s = take-word inputLimit s ∙ take-all inputLimit (word s) (omega (arith, h)) in
+          rw (w, lt-ltb (length (word s)) (length (kept s)) (omega (arith, h, kept-length)), lt-ltb (length (word s)) (length s) (omega (arith, h)))
+      go false e =
+          let h = ltb-false (length (word s)) inputLimit e in
+          let w = ap (λ (l : ListOf ℕ). length l) (take-word inputLimit s) in
+          rw (le-ltb (length (word (kept s))) (length (kept s)) (omega (arith, h, w, length-take inputLimit (word s), kept-length)), long-none (word s) (omega (arith, h))) (either (ltb (length (word s)) (length s)))
+
+long-asks : (s : ListOf ℕ) → inputLimit < length s → requestIn (kept s) ≡ requestIn s
+unfolding requestIn
+long-asks [] = λ long. absurd (omega arith)
+long-asks (b ∷ s) = λ long.
+    let k : ListOf ℕ = take 522 s in
+    let few : length k ≡ 522 = omega (arith, length-take 522 s) in
+    let kl : linkIn (ended k) ≡ Malformed = long-none (ended k) (omega (arith, ended-long k)) in
+    let sl : linkIn (ended s) ≡ Malformed = long-none (ended s) (omega (arith, ended-long s)) in
+    let kn : isNil (ended k) ≡ false = nil-length (ended k) ∙ ne-eqb (length (ended k)) 0 (λ e. omega (arith, ended-long k)) in
+    let sn : isNil (ended s) ≡ false = nil-length (ended s) ∙ ne-eqb (length (ended s)) 0 (λ e. omega (arith, ended-long s)) in
+    rw (kl, sl, kn, sn) (ap (λ (r : Request). cond (eqb b 43) Unknown (cond (eqb b 45) Unknown (cond (eqb b 63) Unknown r))) (kept-taking (b ∷ s) long))
+
+pub kept-asks : (s : ListOf ℕ) → requestIn (kept s) ≡ requestIn s
+kept-asks s = go (leb (length s) inputLimit) refl
+  where
+    go : (t : Bool) → leb (length s) inputLimit ≡ t → requestIn (kept s) ≡ requestIn s
+    go true e = ap requestIn (take-all inputLimit s (leb-true (length s) inputLimit e))
+    go false e = long-asks s (leb-false (length s) inputLimit e)
+
+-- ---- where a link's line begins
+take-start : (s : ListOf ℕ) (link start : ℕ) → takingIn s ≡ Take link start → start ≤ 10
+unfolding takingIn
+take-start s link start e = go (ltb (length (word s)) (length s)) refl (linkIn (word s)) refl
+  where
+    go : (t : Bool) → ltb (length (word s)) (length s) ≡ t → (d : Decimal) → linkIn (word s) ≡ d → start ≤ 10
+    go true f (Value n) g =
+        let q : takingIn s ≡ Take n (length (word s) + 1) = rw (f, g) in
+        let z : length (word s) + 1 ≡ start = cc in
+        let r = decimal-read 999999999 n (word s) g in
+        omega (arith, ap (λ (l : ListOf ℕ). length l) (r .1), digits-within n 8 (omega (arith, r .0)))
+    go true f Malformed g = let q : takingIn s ≡ Unknown = rw (f, g) in let z : _≡_ {A = ℕ} 0 1 = cc in absurd (omega arith)
+    go false f d g = let q : takingIn s ≡ Unknown = rw f in let z : _≡_ {A = ℕ} 0 1 = cc in absurd (omega arith)
+
+request-start : (s : ListOf ℕ) (link start : ℕ) → requestIn s ≡ Take link start → start ≤ 10
+unfolding requestIn
+request-start [] link start e = let z : _≡_ {A = ℕ} 0 1 = cc in absurd (omega arith)
+request-start (b ∷ s) link start e = go (eqb b 43) refl (eqb b 45) refl (eqb b 63) refl (linkIn (ended s)) refl (isNil (ended s)) refl
+  where
+    go : (t : Bool) → eqb b 43 ≡ t → (u : Bool) → eqb b 45 ≡ u → (v : Bool) → eqb b 63 ≡ v → (d : Decimal) → linkIn (ended s) ≡ d → (w : Bool) → isNil (ended s) ≡ w → start ≤ 10
+    go true f u g v h (Value n) k w l = let q : requestIn (b ∷ s) ≡ Register n = rw (f, k) in let z : _≡_ {A = ℕ} 0 1 = cc in absurd (omega arith)
+    go true f u g v h Malformed k w l = let q : requestIn (b ∷ s) ≡ Unknown = rw (f, k) in let z : _≡_ {A = ℕ} 0 1 = cc in absurd (omega arith)
+    go false f true g v h (Value n) k w l = let q : requestIn (b ∷ s) ≡ Unregister n = rw (f, g, k) in let z : _≡_ {A = ℕ} 0 1 = cc in absurd (omega arith)
+    go false f true g v h Malformed k w l = let q : requestIn (b ∷ s) ≡ Unknown = rw (f, g, k) in let z : _≡_ {A = ℕ} 0 1 = cc in absurd (omega arith)
+    go false f false g true h d k true l = let q : requestIn (b ∷ s) ≡ List = rw (f, g, h, l) in let z : _≡_ {A = ℕ} 0 1 = cc in absurd (omega arith)
+    go false f false g true h d k false l = let q : requestIn (b ∷ s) ≡ Unknown = rw (f, g, h, l) in let z : _≡_ {A = ℕ} 0 1 = cc in absurd (omega arith)
+    go false f false g false h d k w l = let q : takingIn (b ∷ s) ≡ requestIn (b ∷ s) = rw (f, g, h) in take-start (b ∷ s) link start (q ∙ e)
+
+drop-take : (k n : ℕ) (s : ListOf ℕ) → drop k (take n s) ≡ take (n - k) (drop k s)
+drop-take zero n s = let e : n - 0 ≡ n = omega arith in rw e
+drop-take (suc k) zero s = let e : 0 - suc k ≡ 0 = omega arith in rw e
+drop-take (suc k) (suc n) [] = sym (take-nil (suc n - suc k))
+drop-take (suc k) (suc n) (b ∷ s) = let e : suc n - suc k ≡ n - k = omega arith in rw e (drop-take k n s)
+
+-- what is taken of it is kept
+pub kept-line : (s : ListOf ℕ) (link start : ℕ) → requestIn s ≡ Take link start → lineFrom start (kept s) ≡ lineFrom start s
+unfolding lineFrom
+kept-line s link start e = ap (take 513) (drop-take start inputLimit s) ∙ take-take 513 (inputLimit - start) (drop start s) (omega (arith, request-start s link start e))

@@ -1,0 +1,94 @@
+-- Laws of the input split into lines: the first line byte by byte, and the line under way with more of its bytes. Assumes nothing.
+use Prim.Native.Nat.{ℕ, suc, _+_, _-_, _≤_, _<_, min}
+use mathlib.Core.Path.{_≡_, refl, sym, ap, _∙_}
+use mathlib.Core.Bool.{Bool, true, false, cond}
+use mathlib.Core.List.{List, [], _∷_, _++_}
+use native.Mathlib.Omega.{arith}
+use lib.ListN.{length, take, drop, getD, drop-of-length-le, length-append, length-drop, length-take}
+use lib.Seq.{take-all, take-at, take-append-add}
+use lib.Dec.{eqb, leb}
+use borrow.Author.Tests.{eq-eqb, ne-eqb, eqb-true, eqb-false, leb-true, leb-false}
+use Rattle.octets.specs.Bytes.{lf}
+use Rattle.octets.specs.Room.{part, putAt}
+use Rattle.octets.proofs.Lists.{drop-step}
+use Rattle.octets.proofs.Room.{part-front, put-fits}
+use Rattle.console.specs.Lines.{inputLimit, kept, firstLine, endsLine}
+
+-- ---- the first line
+first-short : (s : List ℕ) → length (firstLine s) ≤ length s
+unfolding firstLine
+first-short [] = omega arith
+first-short (b ∷ s) = go (eqb b lf) (first-short s)
+  where
+    go : (t : Bool) → length (firstLine s) ≤ length s → length (cond t (b ∷ []) (b ∷ firstLine s)) ≤ suc (length s)
+    go true h = omega arith
+    go false h = omega arith
+
+-- at a place
+module _ (s : List ℕ) (i : ℕ) where
+  pub first-past : length s ≤ i → length (firstLine (drop i s)) ≡ 0
+  unfolding firstLine
+  first-past h = rw (drop-of-length-le s {i = i} h)
+
+  pub first-stop : i < length s → getD s i 0 ≡ lf → length (firstLine (drop i s)) ≡ 1
+  unfolding firstLine
+  first-stop h e = rw (drop-step s i 0 h, eq-eqb (getD s i 0) lf e)
+
+  pub first-go : i < length s → (getD s i 0 ≡ lf → ⊥) → length (firstLine (drop i s)) ≡ suc (length (firstLine (drop (i + 1) s)))
+  unfolding firstLine
+  first-go h ne = rw (drop-step s i 0 h, ne-eqb (getD s i 0) lf ne)
+
+  -- it has a byte, where there is one
+  pub first-some : i < length s → 0 < length (firstLine (drop i s))
+  first-some h = go (eqb (getD s i 0) lf) refl
+    where
+      go : (t : Bool) → eqb (getD s i 0) lf ≡ t → 0 < length (firstLine (drop i s))
+      go true e = omega (arith, first-stop h (eqb-true (getD s i 0) lf e))
+      go false e = omega (arith, first-go h (eqb-false (getD s i 0) lf e))
+
+  -- and none past the end
+  pub first-in : i ≤ length s → i + length (firstLine (drop i s)) ≤ length s
+  first-in h = omega (arith, first-short (drop i s), length-drop i s)
+
+-- nothing ends no line
+pub ends-nothing : (s : List ℕ) → length s ≡ 0 → false ≡ endsLine s
+ends-nothing [] h = refl
+ends-nothing (b ∷ s) h = absurd (omega arith)
+
+-- ---- the line under way
+-- the first n elements, where n is the lesser of k and all
+take-least : (k : ℕ) (l : List ℕ) → take k l ≡ take (min k (length l)) l
+take-least k l = go (leb k (length l)) refl
+  where
+    go : (t : Bool) → leb k (length l) ≡ t → take k l ≡ take (min k (length l)) l
+    go true e = let n : min k (length l) ≡ k = omega (arith, leb-true k (length l) e) in rw n
+    go false e =
+        let h = leb-false k (length l) e in
+        let n : min k (length l) ≡ length l = omega (arith, h) in
+        take-all k l (omega (arith, h)) ∙ sym (rw n (take-all (length l) l (omega arith)))
+
+take-past : (l more : List ℕ) (n : ℕ) → length l ≤ n → take n (l ++ more) ≡ l ++ take (n - length l) more
+take-past l more n h = let e : n ≡ length l + (n - length l) = omega arith in ap (λ (j : ℕ). take j (l ++ more)) e ∙ take-append-add l more (n - length l)
+
+module _ (bytes more : List ℕ) (len start n : ℕ) (room : length bytes ≡ inputLimit) (starts : start ≡ min len inputLimit) (counts : n ≡ min (length more) (inputLimit - start)) where
+  abbrev old : List ℕ
+  old = take start bytes
+
+  old-length : length old ≡ start
+  old-length = omega (arith, length-take start bytes)
+
+  old-is : take len bytes ≡ old
+  old-is = let k : min len (length bytes) ≡ start = omega arith in take-least len bytes ∙ ap (λ (j : ℕ). take j bytes) k
+
+  new-is : take n more ≡ take (inputLimit - start) more
+  new-is = let k : min (inputLimit - start) (length more) ≡ n = omega arith in sym (take-least (inputLimit - start) more ∙ ap (λ (j : ℕ). take j more) k)
+
+  pub extended-holds : take (start + n) (putAt bytes start (part more 0 n)) ≡ kept (take len bytes ++ more)
+  extended-holds =
+      let new : List ℕ = take n more in
+      let k : length new ≡ n = omega (arith, length-take n more) in
+      let added = ap (putAt bytes start) (part-front more n) ∙ put-fits bytes start new (omega (arith, k)) in
+      let left : inputLimit - length old ≡ inputLimit - start = omega (arith, old-length) in
+      ap (take (start + n)) added
+      ∙ take-at (old ++ new) (drop (start + length new) bytes) (start + n) (omega (arith, length-append old new, old-length, k))
+      ∙ sym (ap (λ (l : List ℕ). take inputLimit (l ++ more)) old-is ∙ take-past old more inputLimit (omega (arith, old-length)) ∙ ap (λ (j : ℕ). old ++ take j more) left ∙ ap (_++_ old) (sym new-is))

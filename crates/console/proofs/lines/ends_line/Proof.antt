@@ -1,0 +1,20 @@
+-- `ends_line` meets its contract: nothing ends no line, and else the last byte decides. Assumes nothing.
+use borrow.Author.Needs.{needs}
+use Rattle.console.proofs.Splitting.{ends-nothing}
+use Rattle.console.proofs.lines.ends_line.Statement.{statement}
+use Rattle.console.proofs.lines.ends_line.Tie as tie
+
+returns : tie.Need-returns
+returns c = ends-nothing (c .before .args .bytes .now) (c .if1 .taken)
+
+sub-result : tie.Need-sub-result
+sub-result c = search needs
+
+shared-slice-read-result : tie.Need-shared-slice-read-result
+shared-slice-read-result c = search needs
+
+returns-2 : tie.Need-returns-2
+returns-2 c = search needs
+
+pub ends-line-spec : {M : Type 1} → statement M
+ends-line-spec = tie.close (tie.spec returns sub-result shared-slice-read-result returns-2)

@@ -1,0 +1,4 @@
+pub mod Lines
+pub mod Requests
+pub mod Answers
+pub mod Stands

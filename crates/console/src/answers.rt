@@ -1,0 +1,148 @@
+// Answers, each put together in a buffer and written to standard output. A function that writes says whether all of it was written.
+ghost use mathlib.Core.Path.{_≡_};
+ghost use mathlib.Core.Bool.{cond};
+ghost use mathlib.Core.List.{[], _∷_, _++_, map};
+ghost use Prim.Native.Nat.{_≤_};
+ghost use lib.ListN.{length};
+ghost use Rattle.octets.specs.Bytes.{lf, comma};
+ghost use Rattle.octets.specs.Bits.{hasBit};
+ghost use Rattle.octets.specs.Lists.{prefixed};
+ghost use Rattle.octets.specs.Decimals.{digitsOf};
+ghost use Rattle.octets.specs.Held.{Adds};
+ghost use Rattle.links.specs.Links.{linksIn};
+ghost use Rattle.channel.specs.Record.{decode};
+ghost use Rattle.message.specs.Grammar.{lineLimit};
+ghost use Rattle.sjoin.specs.Telling.{described};
+ghost use Rattle.console.specs.Answers.{numberedText, linksText, relayedText};
+ghost use Rattle.console.specs.Stands.{answerRoom, Stands};
+use channel::Record;
+use libc::STDOUT_FILENO;
+use links::Links;
+use links::count;
+use links::has_link;
+use octets::decimals::put_decimal;
+use octets::part;
+use octets::put;
+use sjoin::describe;
+use table::Table;
+
+// Room for any answer, a channel's in the table too.
+const ROOM: usize = 1024;
+
+fn print(s: &[u8]) -> bool {
+    io::write_all(STDOUT_FILENO, s)
+}
+
+// A mark, a SPACE and a number.
+fn put_numbered(mark: u8, number: u8, out: &mut [u8]) -> usize
+    requires { ⌜ length (now out) ≡ answerRoom ⌝ }
+    ensures { λ n. ⌜ Stands (now (out .exit)) n (numberedText mark number) ⌝ }
+{
+    let opening = [mark, b' '];
+    let opened = put(out, 0, &opening);
+    let numbered = put_decimal(out, opened, number as u32);
+    put(out, numbered, b"\n")
+}
+
+fn say_numbered(mark: u8, number: u8) -> bool {
+    let mut text = [0u8; ROOM];
+    let n = put_numbered(mark, number, &mut text);
+    print(part(&text, 0, n))
+}
+
+// The answer to a link registered or dropped.
+pub(crate) fn say_done(number: u8) -> bool {
+    say_numbered(b'=', number)
+}
+
+// The answer to a line that is refused.
+pub(crate) fn say_refused(number: u8) -> bool {
+    say_numbered(b'!', number)
+}
+
+// The answer to what is no request.
+pub(crate) fn say_input() -> bool {
+    print(b"! input\n")
+}
+
+// Adds a comma and the link, if it is in the set.
+fn put_link(out: &mut [u8], at: usize, set: u32, link: u32) -> usize
+    ensures { λ n. ⌜ Adds (now (out .entry)) at (now (out .exit)) n (cond (hasBit set link) (comma ∷ digitsOf link) []) ⌝ }
+{
+    if !has_link(set, link) {
+        return at;
+    }
+    let next = put(out, at, b",");
+    put_decimal(out, next, link)
+}
+
+// Adds a comma and the link for each link in the set, ascending.
+fn put_links(out: &mut [u8], at: usize, set: u32) -> usize
+    ensures { λ n. ⌜ Adds (now (out .entry)) at (now (out .exit)) n (prefixed comma (map digitsOf (linksIn set))) ⌝ }
+{
+    let mut next = at;
+    let mut link = 0u32;
+    while link < Links::COUNT {
+        next = put_link(out, next, set, link);
+        link += 1;
+    }
+    next
+}
+
+// Adds a comma and the links of the set, parted by commas, or '-' where there are none.
+fn put_set(out: &mut [u8], at: usize, set: u32) -> usize
+    ensures { λ n. ⌜ Adds (now (out .entry)) at (now (out .exit)) n (comma ∷ linksText set) ⌝ }
+{
+    if count(set) == 0 {
+        return put(out, at, b",-");
+    }
+    put_links(out, at, set)
+}
+
+// A comma, which isn't printed, the links that a line goes to, and the line.
+fn put_relayed(set: u32, line: &[u8], out: &mut [u8]) -> usize
+    requires { ⌜ (length (now line) ≤ lineLimit) × (length (now out) ≡ answerRoom) ⌝ }
+    ensures { λ n. ⌜ Stands (now (out .exit)) n (comma ∷ relayedText set (now (line .entry))) ⌝ }
+{
+    let linked = put_set(out, 0, set);
+    let spaced = put(out, linked, b" ");
+    put(out, spaced, line)
+}
+
+// The answer to a line that is accepted.
+pub(crate) fn say_relayed(set: u32, line: &[u8]) -> bool
+    requires { ⌜ length (now line) ≤ lineLimit ⌝ }
+{
+    let mut text = [0u8; ROOM];
+    let n = put_relayed(set, line, &mut text);
+    print(part(&text, 1, n))
+}
+
+// A channel's line in the table.
+fn put_channel(r: Record, out: &mut [u8]) -> usize
+    requires { ⌜ length (now out) ≡ answerRoom ⌝ }
+    ensures { λ n. ⌜ Stands (now (out .exit)) n (described (decode r) ++ (lf ∷ [])) ⌝ }
+{
+    let n = describe(r, out);
+    put(out, n, b"\n")
+}
+
+fn say_channel(r: Record) -> bool {
+    let mut text = [0u8; ROOM];
+    let n = put_channel(r, &mut text);
+    print(part(&text, 0, n))
+}
+
+// The answer to '?': the channel of each used slot, in order, and a line that says that there are no more.
+pub(crate) fn say_channels(t: Table) -> bool {
+    for k in 0..Record::SLOTS {
+        let r = t.slots[k];
+        if r.count == 0 {
+            continue;
+        }
+        if !say_channel(r) {
+            return false;
+        }
+    }
+    print(b".\n")
+}

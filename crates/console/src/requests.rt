@@ -1,0 +1,118 @@
+// What an input line asks for.
+ghost use mathlib.Core.Path.{_≡_};
+ghost use mathlib.Core.Bool.{cond};
+ghost use Rattle.octets.specs.Lists.{isNil};
+ghost use Rattle.console.specs.declared.requests.Request.the-variants.{Register, Unregister, List, Unknown};
+ghost use Rattle.console.specs.Requests.{ended as endedOf, linkIn, numbered, takingIn, requestIn, lineFrom};
+use message::next_word;
+use octets::Decimal;
+use octets::decimals::decimal;
+use octets::part;
+
+// The largest number that nine digits write.
+const LINK_LIMIT: u32 = 999999999;
+
+// The most bytes that are taken of a link's line: one more than the relay takes.
+const TAKEN: usize = 513;
+
+// What is asked, and of which link. The line that came from a link stands in the input line, from a place on.
+pub(crate) enum Request {
+    Register(u32),
+    Unregister(u32),
+    Take(u32, usize),
+    List,
+    Unknown,
+}
+
+// The bytes before LF, or before CR LF; all of them where there is no LF at the end.
+fn ended(s: &[u8]) -> &[u8]
+    ensures { λ r. ⌜ now r ≡ endedOf (now (s .entry)) ⌝ }
+{
+    let n = s.len();
+    if n == 0 {
+        return s;
+    }
+    if s[n - 1] != b'\n' {
+        return s;
+    }
+    if n == 1 {
+        return part(s, 0, 0);
+    }
+    if s[n - 2] == b'\r' {
+        return part(s, 0, n - 2);
+    }
+    part(s, 0, n - 1)
+}
+
+// A link's number in decimal, without leading zeros, at most nine digits, is that link to be registered.
+fn registering(text: &[u8]) -> Request
+    ensures { λ r. ⌜ r ≡ numbered Register (linkIn (now (text .entry))) ⌝ }
+{
+    match decimal(text, LINK_LIMIT) {
+        Decimal::Value(link) => Request::Register(link),
+        Decimal::Malformed => Request::Unknown,
+    }
+}
+
+// And here it is that link to be dropped.
+fn unregistering(text: &[u8]) -> Request
+    ensures { λ r. ⌜ r ≡ numbered Unregister (linkIn (now (text .entry))) ⌝ }
+{
+    match decimal(text, LINK_LIMIT) {
+        Decimal::Value(link) => Request::Unregister(link),
+        Decimal::Malformed => Request::Unknown,
+    }
+}
+
+// The table is asked for by '?' alone.
+fn listing(text: &[u8]) -> Request
+    ensures { λ r. ⌜ r ≡ cond (isNil (now (text .entry))) List Unknown ⌝ }
+{
+    if text.len() == 0 {
+        return Request::List;
+    }
+    Request::Unknown
+}
+
+// A link's number and a SPACE, and the link's line behind them.
+fn taking(input: &[u8]) -> Request
+    ensures { λ r. ⌜ r ≡ takingIn (now (input .entry)) ⌝ }
+{
+    let number = next_word(input, 0);
+    let end = number.end;
+    if end == input.len() {
+        return Request::Unknown;
+    }
+    match decimal(part(input, 0, end), LINK_LIMIT) {
+        Decimal::Value(link) => Request::Take(link, end + 1),
+        Decimal::Malformed => Request::Unknown,
+    }
+}
+
+// What the input line asks for.
+pub(crate) fn request_in(input: &[u8]) -> Request
+    ensures { λ r. ⌜ r ≡ requestIn (now (input .entry)) ⌝ }
+{
+    let n = input.len();
+    if n == 0 {
+        return Request::Unknown;
+    }
+    let first = input[0];
+    if first == b'+' {
+        return registering(ended(part(input, 1, n)));
+    }
+    if first == b'-' {
+        return unregistering(ended(part(input, 1, n)));
+    }
+    if first == b'?' {
+        return listing(ended(part(input, 1, n)));
+    }
+    taking(input)
+}
+
+// The line that came from a link, which stands in the input line from a place on: of a longer one the first bytes, which are one more than the relay takes.
+pub(crate) fn line_from(input: &[u8], start: usize) -> &[u8]
+    ensures { λ r. ⌜ now r ≡ lineFrom start (now (input .entry)) ⌝ }
+{
+    part(part(input, start, input.len()), 0, TAKEN)
+}

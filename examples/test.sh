@@ -1,0 +1,99 @@
+#!/bin/sh
+# Tests of the console that a single run on a file can't make: the day through bin/relay, input in small pieces, unfinished last lines, the journal, and
+# what happens where the journal or the output can't be written. Says which test fails, and ends with status 1 if one does.
+set -eu
+cd "$(dirname "$0")/.."
+room=$(mktemp -d)
+trap 'rm -rf "$room"' EXIT
+failed=0
+
+# what a test wrote, and what it should have written
+same() { # NAME GOT EXPECTED
+    if ! cmp -s "$2" "$3"; then
+        echo "examples: $1: differs: $(cmp "$2" "$3" 2>&1 || true)"
+        failed=1
+    fi
+}
+
+said() { # NAME FILE
+    if [ ! -s "$2" ]; then
+        echo "examples: $1: nothing was said on standard error"
+        failed=1
+    fi
+}
+
+# A day-log record by document 01: 73 82, the link, the length high byte first, the line.
+record() { # LINK LINE
+    n=$((${#2} + 2))
+    printf 'IR'
+    # shellcheck disable=SC2059
+    printf "\\$(printf %03o "$1")\\$(printf %03o $((n / 256)))\\$(printf %03o $((n % 256)))"
+    printf '%s\r\n' "$2"
+}
+
+# ---- the day
+bin/relay <examples/morning.txt >"$room/out"
+same "the day" "$room/out" examples/morning.out
+console=target/bin/console
+
+head -c "$(wc -c <examples/morning.txt)" crates/console/stdin >"$room/in"
+same "the crate's own input begins with the day" "$room/in" examples/morning.txt
+
+# ---- pieces
+for size in 1 7 511; do
+    dd bs=$size if=crates/console/stdin 2>"$room/err" | $console >"$room/out"
+    same "pieces of $size" "$room/out" crates/console/stdout
+done
+
+# ---- unfinished last lines, and none
+unfinished() { # INPUT OUTPUT
+    # shellcheck disable=SC2059
+    printf "$1" | $console >"$room/out"
+    # shellcheck disable=SC2059
+    printf "$2" >"$room/expected"
+    same "unfinished: $1" "$room/out" "$room/expected"
+}
+unfinished '' ''
+unfinished '+1' '= 0\n'
+unfinished '+1\r' '! input\n'
+unfinished '+1\n' '= 0\n'
+unfinished '+1\n?' '= 0\n.\n'
+unfinished '+1\n1 ' '= 0\n! 5\n'
+unfinished '+1\n1 :1CBAAAAAA QUIT' '= 0\n! 5\n'
+unfinished '+1\n1 :1CBAAAAAA QUIT\r' '= 0\n! 5\n'
+
+# ---- the journal: the accepted lines of the day, and those alone
+{
+    record 1 ':1CB SJOIN 70030 #penalty +n :@1CBAAAAAA'
+    record 1 ':1CB SJOIN 70010 #race +nk buoy :@1CBAAAAAA +1CBAAAAAB'
+    record 0 ':0PD SJOIN 70000 #Penalty +nt :@0PDAAAAAA @0PDAAAAAB'
+    record 2 ':2MK SJOIN 70020 #penalty + :@2MKAAAAAA'
+    record 2 ':2MK SJOIN 70010 #race +l 40 :+2MKAAAAAA'
+    record 1 ':1CB SJOIN 70010 #race +nk buoy :@1CBAAAAAA +1CBAAAAAB'
+    record 1 ':1CB SJOIN 70030 #penalty +n :@1CBAAAAAA'
+    record 2 ':2MKAAAAAA PART #race :weighing anchor'
+    record 2 ':2MKAAAAAA QUIT'
+} >"$room/expected"
+$console "$room/journal" <examples/morning.txt >"$room/out"
+same "the day with a journal" "$room/out" examples/morning.out
+same "a journal is made" "$room/journal" "$room/expected"
+$console "$room/journal" <examples/morning.txt >"$room/out"
+cat "$room/expected" "$room/expected" >"$room/twice"
+same "a journal is appended to" "$room/journal" "$room/twice"
+
+# ---- a journal that can't be written: no answer without its record
+printf '+1\n1 :1CBAAAAAA QUIT\r\n+2\n' >"$room/in"
+printf '= 0\n' >"$room/expected"
+$console /dev/full <"$room/in" >"$room/out" 2>"$room/err"
+same "a full journal" "$room/out" "$room/expected"
+said "a full journal" "$room/err"
+$console "$room" <"$room/in" >"$room/out" 2>"$room/err"
+same "a journal that can't be opened" "$room/out" /dev/null
+said "a journal that can't be opened" "$room/err"
+
+# ---- an output that can't be written
+$console <"$room/in" >/dev/full 2>"$room/err"
+said "a full output" "$room/err"
+
+[ "$failed" -eq 0 ] && echo "examples: all passed"
+exit "$failed"
