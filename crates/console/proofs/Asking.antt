@@ -24,7 +24,7 @@ use Rattle.message.proofs.Runs.{word-front, word-in, start-in}
 use Rattle.message.proofs.Splits.{next-found}
 use Rattle.console.specs.declared.requests.Request.{Request}
 use Rattle.console.specs.declared.requests.Request.the-variants.{Register, Unregister, Take, List, Unknown}
-use Rattle.console.specs.Requests.{ended, linkIn, numbered, takingIn, requestIn}
+use Rattle.console.specs.Requests.{plus, minus, question, ended, linkIn, numbered, takingIn, requestIn}
 
 -- ---- the end of a line passed over
 module _ (s : ListOf ℕ) where
@@ -160,24 +160,24 @@ rest s = ended (part s 1 (length s))
 
 request-is : (s : ListOf ℕ) → (length s ≡ 0 → ⊥)
     → requestIn s
-    ≡ cond (eqb (getD s 0 0) 43) (numbered Register (linkIn (rest s)))
-    (cond (eqb (getD s 0 0) 45) (numbered Unregister (linkIn (rest s)))
-    (cond (eqb (getD s 0 0) 63) (cond (isNil (rest s)) List Unknown) (takingIn s)))
+    ≡ cond (eqb (getD s 0 0) plus) (numbered Register (linkIn (rest s)))
+    (cond (eqb (getD s 0 0) minus) (numbered Unregister (linkIn (rest s)))
+    (cond (eqb (getD s 0 0) question) (cond (isNil (rest s)) List Unknown) (takingIn s)))
 unfolding requestIn
 request-is [] some = absurd (some refl)
 request-is (b ∷ s) some = rw (rest-is b s)
 
 module _ (s : ListOf ℕ) (some : length s ≡ 0 → ⊥) where
-  pub asks-register : getD s 0 0 ≡ 43 → numbered Register (linkIn (rest s)) ≡ requestIn s
+  pub asks-register : getD s 0 0 ≡ plus → numbered Register (linkIn (rest s)) ≡ requestIn s
   asks-register e = rw (request-is s some, e)
 
-  module _ (not-plus : getD s 0 0 ≡ 43 → ⊥) where
-    pub asks-unregister : getD s 0 0 ≡ 45 → numbered Unregister (linkIn (rest s)) ≡ requestIn s
+  module _ (not-plus : getD s 0 0 ≡ plus → ⊥) where
+    pub asks-unregister : getD s 0 0 ≡ minus → numbered Unregister (linkIn (rest s)) ≡ requestIn s
     asks-unregister e = rw (request-is s some, e)
 
-    module _ (not-minus : getD s 0 0 ≡ 45 → ⊥) where
-      pub asks-list : getD s 0 0 ≡ 63 → cond (isNil (rest s)) List Unknown ≡ requestIn s
+    module _ (not-minus : getD s 0 0 ≡ minus → ⊥) where
+      pub asks-list : getD s 0 0 ≡ question → cond (isNil (rest s)) List Unknown ≡ requestIn s
       asks-list e = rw (request-is s some, e)
 
-      pub asks-line : (getD s 0 0 ≡ 63 → ⊥) → takingIn s ≡ requestIn s
-      asks-line not-asking = rw (request-is s some, ne-eqb (getD s 0 0) 43 not-plus, ne-eqb (getD s 0 0) 45 not-minus, ne-eqb (getD s 0 0) 63 not-asking)
+      pub asks-line : (getD s 0 0 ≡ question → ⊥) → takingIn s ≡ requestIn s
+      asks-line not-asking = rw (request-is s some, ne-eqb (getD s 0 0) plus not-plus, ne-eqb (getD s 0 0) minus not-minus, ne-eqb (getD s 0 0) question not-asking)

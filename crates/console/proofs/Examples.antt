@@ -10,7 +10,7 @@ use Rattle.links.specs.Links.{linksFrom}
 use Rattle.message.specs.Grammar.{word}
 use Rattle.console.specs.declared.requests.Request.the-variants.{Register, Unregister, Take, List, Unknown}
 use Rattle.console.specs.Lines.{kept, firstLine}
-use Rattle.console.specs.Requests.{ended, takingIn, requestIn, lineFrom}
+use Rattle.console.specs.Requests.{plus, minus, question, ended, takingIn, requestIn, lineFrom}
 use Rattle.console.specs.Answers.{numberedText, linksText, relayedText}
 use Rattle.console.proofs.Keeping.{kept-line}
 
@@ -21,13 +21,13 @@ line = 51 ∷ 49 ∷ space ∷ 88 ∷ cr ∷ lf ∷ []
 
 -- `+31`; `+31` with CR LF; `+01`; `-0` unfinished; `-1` with CR and no LF; `?` with CR LF; `??`; `31 X`; ` 31`; `31`; nothing but LF
 asked : map requestIn (
-    (43 ∷ 51 ∷ 49 ∷ lf ∷ [])
-    ∷ (43 ∷ 51 ∷ 49 ∷ cr ∷ lf ∷ [])
-    ∷ (43 ∷ 48 ∷ 49 ∷ lf ∷ [])
-    ∷ (45 ∷ 48 ∷ [])
-    ∷ (45 ∷ 49 ∷ cr ∷ [])
-    ∷ (63 ∷ cr ∷ lf ∷ [])
-    ∷ (63 ∷ 63 ∷ lf ∷ [])
+    (plus ∷ 51 ∷ 49 ∷ lf ∷ [])
+    ∷ (plus ∷ 51 ∷ 49 ∷ cr ∷ lf ∷ [])
+    ∷ (plus ∷ 48 ∷ 49 ∷ lf ∷ [])
+    ∷ (minus ∷ 48 ∷ [])
+    ∷ (minus ∷ 49 ∷ cr ∷ [])
+    ∷ (question ∷ cr ∷ lf ∷ [])
+    ∷ (question ∷ question ∷ lf ∷ [])
     ∷ line
     ∷ (space ∷ 51 ∷ 49 ∷ lf ∷ [])
     ∷ (51 ∷ 49 ∷ lf ∷ [])

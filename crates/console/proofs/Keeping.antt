@@ -20,7 +20,7 @@ use Rattle.message.specs.Grammar.{word}
 use Rattle.console.specs.declared.requests.Request.{Request}
 use Rattle.console.specs.declared.requests.Request.the-variants.{Register, Unregister, Take, List, Unknown}
 use Rattle.console.specs.Lines.{inputLimit, kept, keptAfter, endsLine}
-use Rattle.console.specs.Requests.{ended, linkIn, takingIn, requestIn, lineFrom}
+use Rattle.console.specs.Requests.{plus, minus, question, ended, linkIn, takingIn, requestIn, lineFrom}
 
 -- ---- pieces
 kept-behind : (a b : ListOf ℕ) → kept (kept a ++ b) ≡ kept (a ++ b)
@@ -105,7 +105,7 @@ long-asks (b ∷ s) = λ long.
     let sl : linkIn (ended s) ≡ Malformed = long-none (ended s) (omega (arith, ended-long s)) in
     let kn : isNil (ended k) ≡ false = nil-length (ended k) ∙ ne-eqb (length (ended k)) 0 (λ e. omega (arith, ended-long k)) in
     let sn : isNil (ended s) ≡ false = nil-length (ended s) ∙ ne-eqb (length (ended s)) 0 (λ e. omega (arith, ended-long s)) in
-    rw (kl, sl, kn, sn) (ap (λ (r : Request). cond (eqb b 43) Unknown (cond (eqb b 45) Unknown (cond (eqb b 63) Unknown r))) (kept-taking (b ∷ s) long))
+    rw (kl, sl, kn, sn) (ap (λ (r : Request). cond (eqb b plus) Unknown (cond (eqb b minus) Unknown (cond (eqb b question) Unknown r))) (kept-taking (b ∷ s) long))
 
 pub kept-asks : (s : ListOf ℕ) → requestIn (kept s) ≡ requestIn s
 kept-asks s = go (leb (length s) inputLimit) refl
@@ -131,9 +131,9 @@ take-start s link start e = go (ltb (length (word s)) (length s)) refl (linkIn (
 request-start : (s : ListOf ℕ) (link start : ℕ) → requestIn s ≡ Take link start → start ≤ 10
 unfolding requestIn
 request-start [] link start e = let z : _≡_ {A = ℕ} 0 1 = cc in absurd (omega arith)
-request-start (b ∷ s) link start e = go (eqb b 43) refl (eqb b 45) refl (eqb b 63) refl (linkIn (ended s)) refl (isNil (ended s)) refl
+request-start (b ∷ s) link start e = go (eqb b plus) refl (eqb b minus) refl (eqb b question) refl (linkIn (ended s)) refl (isNil (ended s)) refl
   where
-    go : (t : Bool) → eqb b 43 ≡ t → (u : Bool) → eqb b 45 ≡ u → (v : Bool) → eqb b 63 ≡ v → (d : Decimal) → linkIn (ended s) ≡ d → (w : Bool) → isNil (ended s) ≡ w → start ≤ 10
+    go : (t : Bool) → eqb b plus ≡ t → (u : Bool) → eqb b minus ≡ u → (v : Bool) → eqb b question ≡ v → (d : Decimal) → linkIn (ended s) ≡ d → (w : Bool) → isNil (ended s) ≡ w → start ≤ 10
     go true f u g v h (Value n) k w l = let q : requestIn (b ∷ s) ≡ Register n = rw (f, k) in let z : _≡_ {A = ℕ} 0 1 = cc in absurd (omega arith)
     go true f u g v h Malformed k w l = let q : requestIn (b ∷ s) ≡ Unknown = rw (f, k) in let z : _≡_ {A = ℕ} 0 1 = cc in absurd (omega arith)
     go false f true g v h (Value n) k w l = let q : requestIn (b ∷ s) ≡ Unregister n = rw (f, g, k) in let z : _≡_ {A = ℕ} 0 1 = cc in absurd (omega arith)

@@ -14,7 +14,7 @@ inputLimit = 523
 abbrev pub kept : List ℕ → List ℕ
 kept s = take inputLimit s
 
--- what is kept of a line, on top of what was, after pieces of it
+-- what is kept of a line, of which some is held already, after more pieces of it
 unfoldable pub keptAfter : List ℕ → List (List ℕ) → List ℕ
 keptAfter held [] = held
 keptAfter held (piece ∷ pieces) = keptAfter (kept (held ++ piece)) pieces

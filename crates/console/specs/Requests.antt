@@ -15,11 +15,21 @@ use Rattle.console.specs.declared.requests.Request.{Request}
 use Rattle.console.specs.declared.requests.Request.the-variants.{Register, Unregister, Take, List, Unknown}
 use Rattle.console.specs.Lines.{endsLine}
 
+-- '+', '-' and '?'
+abbrev pub plus : ℕ
+plus = 43
+
+abbrev pub minus : ℕ
+minus = 45
+
+abbrev pub question : ℕ
+question = 63
+
 -- the bytes before LF, or before CR LF; all of them where there is no LF at the end
 unfoldable pub ended : ListOf ℕ → ListOf ℕ
 ended s = cond (endsLine s) (cond (eqb (getD s (length s - 2) 0) cr) (take (length s - 2) s) (take (length s - 1) s)) s
 
--- a link's number: decimal, without leading zeros, at most nine digits
+-- a link's number: decimal, without leading zeros, at most nine digits, which is up to 999,999,999
 abbrev pub linkIn : ListOf ℕ → Decimal
 linkIn s = decimalUpTo 999999999 s
 
@@ -37,9 +47,9 @@ takingIn s =
 unfoldable pub requestIn : ListOf ℕ → Request
 requestIn [] = Unknown
 requestIn (b ∷ s) =
-    cond (eqb b 43) (numbered Register (linkIn (ended s)))
-    (cond (eqb b 45) (numbered Unregister (linkIn (ended s)))
-    (cond (eqb b 63) (cond (isNil (ended s)) List Unknown)
+    cond (eqb b plus) (numbered Register (linkIn (ended s)))
+    (cond (eqb b minus) (numbered Unregister (linkIn (ended s)))
+    (cond (eqb b question) (cond (isNil (ended s)) List Unknown)
     (takingIn (b ∷ s))))
 
 -- the link's line: of a longer one the first 513 bytes

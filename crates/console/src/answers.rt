@@ -1,21 +1,18 @@
 // Answers, each put together in a buffer and written to standard output. A function that writes says whether all of it was written.
 ghost use mathlib.Core.Path.{_≡_};
 ghost use mathlib.Core.Bool.{cond};
-ghost use mathlib.Core.List.{[], _∷_, _++_, map};
+ghost use mathlib.Core.List.{[], _∷_, map};
 ghost use Prim.Native.Nat.{_≤_};
 ghost use lib.ListN.{length};
-ghost use Rattle.octets.specs.Bytes.{lf, comma};
+ghost use Rattle.octets.specs.Bytes.{comma};
 ghost use Rattle.octets.specs.Bits.{hasBit};
 ghost use Rattle.octets.specs.Lists.{prefixed};
 ghost use Rattle.octets.specs.Decimals.{digitsOf};
 ghost use Rattle.octets.specs.Held.{Adds};
 ghost use Rattle.links.specs.Links.{linksIn};
-ghost use Rattle.channel.specs.Record.{decode};
 ghost use Rattle.message.specs.Grammar.{lineLimit};
-ghost use Rattle.sjoin.specs.Telling.{described};
 ghost use Rattle.console.specs.Answers.{numberedText, linksText, relayedText};
 ghost use Rattle.console.specs.Stands.{answerRoom, Stands};
-use channel::Record;
 use libc::STDOUT_FILENO;
 use links::Links;
 use links::count;
@@ -23,13 +20,11 @@ use links::has_link;
 use octets::decimals::put_decimal;
 use octets::part;
 use octets::put;
-use sjoin::describe;
-use table::Table;
 
-// Room for any answer, a channel's in the table too.
-const ROOM: usize = 1024;
+// Room for any answer, and for any channel of the table.
+pub(crate) const ROOM: usize = 1024;
 
-fn print(s: &[u8]) -> bool {
+pub(crate) fn print(s: &[u8]) -> bool {
     io::write_all(STDOUT_FILENO, s)
 }
 
@@ -116,33 +111,4 @@ pub(crate) fn say_relayed(set: u32, line: &[u8]) -> bool
     let mut text = [0u8; ROOM];
     let n = put_relayed(set, line, &mut text);
     print(part(&text, 1, n))
-}
-
-// A channel's line in the table.
-fn put_channel(r: Record, out: &mut [u8]) -> usize
-    requires { ⌜ length (now out) ≡ answerRoom ⌝ }
-    ensures { λ n. ⌜ Stands (now (out .exit)) n (described (decode r) ++ (lf ∷ [])) ⌝ }
-{
-    let n = describe(r, out);
-    put(out, n, b"\n")
-}
-
-fn say_channel(r: Record) -> bool {
-    let mut text = [0u8; ROOM];
-    let n = put_channel(r, &mut text);
-    print(part(&text, 0, n))
-}
-
-// The answer to '?': the channel of each used slot, in order, and a line that says that there are no more.
-pub(crate) fn say_channels(t: Table) -> bool {
-    for k in 0..Record::SLOTS {
-        let r = t.slots[k];
-        if r.count == 0 {
-            continue;
-        }
-        if !say_channel(r) {
-            return false;
-        }
-    }
-    print(b".\n")
 }

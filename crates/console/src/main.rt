@@ -4,9 +4,9 @@
 mod answers;
 mod daylog;
 mod lines;
+mod listing;
 mod requests;
 
-use answers::say_channels;
 use answers::say_done;
 use answers::say_input;
 use answers::say_refused;
@@ -19,6 +19,7 @@ use lines::Pending;
 use lines::ends_line;
 use lines::extended;
 use lines::line_end;
+use listing::say_channels;
 use message::LINE_LIMIT;
 use octets::part;
 use refusal::ACCEPTED;
@@ -64,7 +65,7 @@ fn take(mut s: Session, link: u32, line: &[u8]) -> Session {
     s
 }
 
-// An input line is whole, or the last one and taken as it is.
+// Answers an input line: a whole one, or the last one, which is taken as it is.
 fn respond(mut s: Session, input: &[u8]) -> Session {
     let request = request_in(input);
     match request {

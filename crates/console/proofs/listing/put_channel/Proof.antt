@@ -10,8 +10,8 @@ use Rattle.channel.specs.Record.{decode}
 use Rattle.sjoin.specs.Telling.{described}
 use Rattle.sjoin.proofs.Described.{described-all}
 use Rattle.console.proofs.Answering.{line-stands}
-use Rattle.console.proofs.answers.put_channel.Statement.{statement}
-use Rattle.console.proofs.answers.put_channel.Tie as tie
+use Rattle.console.proofs.listing.put_channel.Statement.{statement}
+use Rattle.console.proofs.listing.put_channel.Tie as tie
 
 describe-requires : tie.Need-describe-requires
 describe-requires c κs = search needs

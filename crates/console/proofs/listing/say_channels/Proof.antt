@@ -3,8 +3,8 @@ use Prim.Native.Nat.{_-_, _≤_}
 use native.Mathlib.Omega.{arith}
 use borrow.Author.Needs.{needs}
 use Rattle.channel.specs.Limits.{slotCount}
-use Rattle.console.proofs.answers.say_channels.Statement.{statement}
-use Rattle.console.proofs.answers.say_channels.Tie as tie
+use Rattle.console.proofs.listing.say_channels.Statement.{statement}
+use Rattle.console.proofs.listing.say_channels.Tie as tie
 
 abbrev Inv-loop : tie.InvT-loop
 Inv-loop t k₀ t5 k = k ≤ slotCount
