@@ -2,17 +2,18 @@
 -- lists is total and the empty list is its least. Assumes nothing.
 use Prim.Native.Nat.{ℕ, _≤_}
 use mathlib.Core.Path.{_≡_, refl, sym}
-use mathlib.Core.Bool.{true, false, true≢false, _&&_, cond}
+use mathlib.Core.Bool.{Bool, true, false, not, true≢false, _&&_, cond}
 use mathlib.Core.List.{List, [], _∷_}
 use lib.ListN.{length}
 use lib.Dec.{leb}
-use borrow.Author.Tests.{leb-true}
+use borrow.Author.Tests.{leb-true, not-true}
 use Rattle.octets.specs.declared.Order.{Order}
 use Rattle.octets.specs.declared.Order.the-variants.{Less, Same, More}
 use Rattle.octets.specs.Order.{compare}
-use Rattle.octets.specs.Lists.{isNil}
+use Rattle.octets.specs.Bytes.{colon, isKeyByte}
+use Rattle.octets.specs.Lists.{all, isNil, startsWith}
 use Rattle.octets.specs.Ascending.{isLess}
-use Rattle.octets.proofs.Bools.{and-left, and-right}
+use Rattle.octets.proofs.Bools.{and-left, and-right, and-three}
 use Rattle.octets.proofs.Ordered.{compare-nil, Below, compare-refl, compare-same, compare-trans, below-more, more-below}
 use Rattle.octets.proofs.Joins.{Joining}
 use Rattle.channel.specs.Limits.{keyLimit}
@@ -22,6 +23,14 @@ use Rattle.channel.specs.Key.{isKey, greater}
 pub key-length : (k : List ℕ) → isKey k ≡ true → length k ≤ keyLimit
 unfolding isKey
 key-length k h = leb-true (length k) keyLimit (and-left _ _ (and-right (leb 1 (length k)) _ h))
+
+pub key-says : (k : List ℕ) → isKey k ≡ true → (1 ≤ length k) × (startsWith colon k ≡ false) × (all isKeyByte k ≡ true)
+unfolding isKey
+key-says k h =
+    let n : Bool = leb 1 (length k) in
+    let free : Bool = not (startsWith colon k) in
+    let p = and-three (leb (length k) keyLimit) free (all isKeyByte k) (and-right n _ h) in
+    (leb-true 1 (length k) (and-left n _ h), not-true (startsWith colon k) (p .1), p .2)
 
 pub key-some : (k : List ℕ) → isKey k ≡ true → isNil k ≡ false
 unfolding isKey

@@ -15,7 +15,6 @@ pub mod Gathering
 pub mod Examples
 pub mod Witnesses
 mod Tests
-mod Ids
 mod Judging
 mod Others
 mod Placing

@@ -1,13 +1,14 @@
 -- The words of a text, each with a SPACE before it, take up no more than the text and one more, since a SPACE at least stands between two; and a text
--- without SPACE is at most one word. Assumes nothing.
+-- without SPACE is at most one word. So there can't be many long words. Assumes nothing.
 use mathlib.Core.Path.{_≡_, refl}
 use mathlib.Core.Bool.{Bool, true, false}
 use mathlib.Core.List.{List, [], _∷_}
-use Prim.Native.Nat.{ℕ, suc, _+_, _≤_}
+use Prim.Native.Nat.{ℕ, suc, _+_, _*_, _≤_}
+use native.Mathlib.Nat.{mul-suc}
 use native.Mathlib.Omega.{arith}
 use lib.ListN.{length}
-use lib.Dec.{eqb}
-use borrow.Author.Tests.{not-true}
+use lib.Dec.{eqb, leb}
+use borrow.Author.Tests.{leb-true, not-true}
 use Rattle.octets.specs.Bytes.{space, isNonSpace}
 use Rattle.octets.specs.Lists.{all}
 use Rattle.octets.specs.Joins.{total}
@@ -51,6 +52,19 @@ mutual
 
 pub words-room : (s : List ℕ) → room (wordsOf s) ≤ suc (length s)
 words-room s = words-room-at s 0
+
+-- ---- words of n bytes or more take n + 1 each, but for the last one's SPACE
+module _ (n : ℕ) where
+  abbrev pub long : List ℕ → Bool
+  long w = leb n (length w)
+
+  room-long : (ws : List (List ℕ)) → all long ws ≡ true → suc n * length ws ≤ room ws
+  room-long [] h = omega arith
+  room-long (w ∷ ws) h =
+      omega (arith, leb-true n (length w) (all-head long w ws h), room-long ws (all-tail long w ws h), mul-suc (suc n) (length ws))
+
+  pub words-few : (s : List ℕ) → all long (wordsOf s) ≡ true → suc n * length (wordsOf s) ≤ suc (length s)
+  words-few s h = omega (arith, room-long (wordsOf s) h, words-room s)
 
 -- ---- a text without SPACE
 after-none : (s : List ℕ) (at : ℕ) → all isNonSpace s ≡ true → afterWord at s ≡ []

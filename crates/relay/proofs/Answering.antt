@@ -1,12 +1,11 @@
 -- The answer to a line, and what is written, by whether a rule refuses it. Assumes nothing.
-use mathlib.Core.Path.{_≡_, refl, sym, ap, _∙_}
-use mathlib.Core.Bool.{Bool, true, false, cond, _&&_}
+use mathlib.Core.Path.{_≡_, ap, _∙_}
+use mathlib.Core.Bool.{true, _&&_}
 use mathlib.Core.List.{List, []}
 use Prim.Native.Nat.{ℕ, _≤_}
 use native.Mathlib.Omega.{arith}
 use lib.ListN.{length}
-use lib.Dec.{eqb}
-use borrow.Author.Tests.{ne-eqb, eqb-true, not-false, ltb-false}
+use borrow.Author.Tests.{ne-eqb, not-false, ltb-false}
 use Rattle.refusal.specs.Numbers.{accepted}
 use Rattle.refusal.specs.Rules.{firstOf, emitted}
 use Rattle.refusal.proofs.Rules.{first-none, emitted-none, emitted-all}
@@ -27,15 +26,6 @@ use Rattle.relay.proofs.Relayed.{rules-none}
 use Rattle.relay.proofs.Enacted.{enacted-slots, enacted-line, enacted-rules}
 
 module _ (t : Table) (link : ℕ) (line : List ℕ) (n : ℕ) where
-  -- ---- the number answered is the first that applies
-  pub answer-number : processAnswer t link line n .number ≡ firstOf (processRules t link line n)
-  unfolding processAnswer
-  answer-number = go (eqb (firstOf (processRules t link line n)) accepted) refl
-    where
-      go : (b : Bool) → eqb (firstOf (processRules t link line n)) accepted ≡ b → cond b (taken t link line) (refused t (firstOf (processRules t link line n))) .number ≡ firstOf (processRules t link line n)
-      go true e = sym (eqb-true (firstOf (processRules t link line n)) accepted e)
-      go false e = refl
-
   -- ---- a rule refuses it
   module _ (k : ℕ) (e : firstOf (processRules t link line n) ≡ k) (ne : k ≡ accepted → ⊥) where
     pub answer-refused : refused t k ≡ processAnswer t link line n

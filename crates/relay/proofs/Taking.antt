@@ -199,7 +199,8 @@ abbrev pub slotsThen : List Record → List ℕ → List Record
 slotsThen slots line = cond (eqb (firstOf (takenRules slots line)) accepted) (slotsBy slots line) slots
 
 module _ (t : Table) (link : ℕ) (line : List ℕ) (n : ℕ) where
-  answer-number : processAnswer t link line n .number ≡ firstOf (processRules t link line n)
+  -- the number answered is the first that applies
+  pub answer-number : processAnswer t link line n .number ≡ firstOf (processRules t link line n)
   unfolding processAnswer
   answer-number = go (eqb (firstOf (processRules t link line n)) accepted) refl
     where

@@ -18,7 +18,7 @@ use names::USER_ID;
 use refusal::ACCEPTED;
 use table::Table;
 
-// The commands that the relay takes.
+// The commands that the relay takes, and any other.
 enum Command {
     Sjoin,
     Part,
@@ -61,7 +61,7 @@ fn refused(t: Table, number: u8) -> Taken
     }
 }
 
-// Takes a line that came from a link: judges it, changes the table, and writes the line that goes out to the front of the output.
+// Takes a line that came from a link: judges it, and unless it is refused changes the table and writes the line that goes out to the front of the output.
 pub fn process(t: Table, link: u32, line: &[u8], out: &mut [u8]) -> Taken
     ensures answer { λ r. ⌜ r ≡ processAnswer t link (now (line .entry)) (length (now (out .entry))) ⌝ }
     ensures output { λ _. ⌜ now (out .exit) ≡ front (sent t link (now (line .entry)) (length (now (out .entry)))) (now (out .entry)) ⌝ }

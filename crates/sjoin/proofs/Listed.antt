@@ -4,7 +4,7 @@ use mathlib.Core.Path.{_≡_, refl}
 use mathlib.Core.Bool.{Bool, true, false, not}
 use mathlib.Core.List.{List}
 use native.Mathlib.Omega.{arith}
-use lib.ListN.{length, length-map, length-drop}
+use lib.ListN.{length, length-drop}
 use borrow.Author.Tests.{le-leb}
 use Rattle.octets.specs.Lists.{all, isNil, startsWith}
 use Rattle.octets.proofs.Bools.{and-right}
@@ -12,9 +12,9 @@ use Rattle.octets.proofs.Lists.{all-imp}
 use Rattle.names.specs.Names.{userIdLength}
 use Rattle.names.proofs.Ids.{user-length}
 use Rattle.channel.specs.Limits.{memberLimit}
-use Rattle.message.specs.Grammar.{Part, lineLimit}
-use Rattle.message.specs.Words.{wordsAt, wordsOf}
-use Rattle.message.proofs.Words.{long, words-few}
+use Rattle.message.specs.Grammar.{lineLimit}
+use Rattle.message.specs.Words.{wordsOf}
+use Rattle.message.proofs.Sizes.{long, words-few}
 use Rattle.sjoin.specs.Modes.{plus}
 use Rattle.sjoin.specs.Entries.{at, past, idOf, isEntry, goodEntries}
 
@@ -42,5 +42,5 @@ list-entries list h = and-right (not (isNil (wordsOf list))) (all isEntry (words
 
 pub list-room : (list : List ℕ) → goodEntries list ≡ true → length list ≤ lineLimit → length (wordsOf list) ≤ memberLimit
 list-room list h k =
-    let n = words-few userIdLength list 0 (all-imp isEntry (long userIdLength) entry-takes (wordsOf list) (list-entries list h)) in
-    omega (arith, n, length-map (wordsAt 0 list) (λ (p : Part). p .bytes))
+    let n = words-few userIdLength list (all-imp isEntry (long userIdLength) entry-takes (wordsOf list) (list-entries list h)) in
+    omega (arith, n)

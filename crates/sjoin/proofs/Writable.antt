@@ -7,23 +7,24 @@ use mathlib.Core.List.{List, [], _∷_, _++_}
 use native.Mathlib.Omega.{arith}
 use lib.ListN.{length}
 use lib.Dec.{eqb, leb}
-use borrow.Author.Tests.{eqb-true, leb-true, not-true}
 use Rattle.octets.specs.Bytes.{colon, within, isPlain, isNonSpace, isLetter, isDigit, isIdByte, isNameByte, isKeyByte}
+use Rattle.octets.specs.Bits.{hasBit}
 use Rattle.octets.specs.Lists.{all, isNil, startsWith}
 use Rattle.octets.specs.Decimals.{digitsOf}
 use Rattle.octets.proofs.Bools.{and-left, and-right, and-intro}
 use Rattle.octets.proofs.Lists.{all-head, all-tail, all-cons, all-append, all-imp}
 use Rattle.octets.proofs.Clean.{digit-id, id-clean, id-colon, name-clean, key-clean}
 use Rattle.octets.proofs.Digits.{all-digits, digits-some}
-use Rattle.names.specs.Names.{hash, nameLimit, userIdLength, isChannel, isServerId, isUserId}
-use Rattle.names.proofs.Ids.{server-bytes, user-bytes}
+use Rattle.names.specs.Names.{isChannel, isServerId, isUserId}
+use Rattle.names.proofs.Channels.{no-channel, channel-says}
+use Rattle.names.proofs.Ids.{no-server-id, server-bytes, user-length, user-bytes}
 use Rattle.channel.specs.declared.Member.{Member}
-use Rattle.channel.specs.Limits.{keyLimit}
 use Rattle.channel.specs.Modes.{letters, keyMode, limitMode, hasMode}
 use Rattle.channel.specs.Key.{isKey}
 use Rattle.channel.specs.Channel.{Channel}
-use Rattle.channel.specs.WellFormed.{bothStatuses, goodMember}
-use Rattle.channel.proofs.Proper.{Proper}
+use Rattle.channel.specs.WellFormed.{goodMember}
+use Rattle.channel.proofs.Keys.{key-says}
+use Rattle.channel.proofs.Proper.{Proper, member-says}
 use Rattle.message.specs.Grammar.{paramLimit, isCommand, isMiddle}
 use Rattle.writer.specs.Fit.{goodPrefix, goodSource, goodParam, goodParams, good}
 use Rattle.sjoin.specs.Modes.{plus}
@@ -65,15 +66,13 @@ digits-middle n =
 
 -- ---- a name
 name-middle : (n : List ℕ) → isChannel n ≡ true → Middle n
-unfolding isChannel startsWith isPlain
-name-middle [] h = absurd (true≢false (sym h))
+unfolding startsWith isPlain
+name-middle [] h = absurd (true≢false (sym h ∙ no-channel))
 name-middle (b ∷ s) h =
-    let long : Bool = leb (length (b ∷ s)) nameLimit in
-    let e : b ≡ hash = eqb-true b hash (and-left (eqb b hash) (leb 1 (length s) && (long && all isNameByte s)) h) in
-    let k = and-right (leb 1 (length s)) (long && all isNameByte s) (and-right (eqb b hash) (leb 1 (length s) && (long && all isNameByte s)) h) in
-    let c : eqb b colon ≡ false = rw e in
-    let f : neat b ≡ true = rw e in
-    neat-middle (b ∷ s) (omega arith) c (all-cons neat b s f (all-neat isNameByte name-clean s (and-right long (all isNameByte s) k)))
+    let p = channel-says b s h in
+    let c : eqb b colon ≡ false = rw (p .0) in
+    let f : neat b ≡ true = rw (p .0) in
+    neat-middle (b ∷ s) (omega arith) c (all-cons neat b s f (all-neat isNameByte name-clean s (p .1)))
 
 -- ---- modes
 letters-pass : (p : ℕ → Bool) (k : ℕ) (s : List ℕ) (modes : ℕ) → all p s ≡ true → all p (lettersFrom k s modes) ≡ true
@@ -91,28 +90,22 @@ modes-middle modes = neat-middle (modesText modes) (omega arith) refl (all-cons 
 
 -- ---- a key
 key-middle : (k : List ℕ) → isKey k ≡ true → Middle k
-unfolding isKey
-key-middle k h =
-    let long : Bool = leb (length k) keyLimit in
-    let free : Bool = not (startsWith colon k) in
-    let n = leb-true 1 (length k) (and-left (leb 1 (length k)) (long && (free && all isKeyByte k)) h) in
-    let a = and-right long (free && all isKeyByte k) (and-right (leb 1 (length k)) (long && (free && all isKeyByte k)) h) in
-    neat-middle k n (not-true (startsWith colon k) (and-left free (all isKeyByte k) a)) (all-neat isKeyByte key-clean k (and-right free (all isKeyByte k) a))
+key-middle k h = let p = key-says k h in neat-middle k (p .0) (p .1) (all-neat isKeyByte key-clean k (p .2))
 
 -- ---- the list
 marked-middle : (id : List ℕ) → isUserId id ≡ true → (o v : Bool) → Middle (cond o (at ∷ []) [] ++ cond v (plus ∷ []) [] ++ id)
-unfolding startsWith isPlain isUserId
+unfolding startsWith isPlain
 marked-middle id h o v = go o v (all-neat isIdByte id-clean id (user-bytes id h))
   where
     go : (o v : Bool) → all neat id ≡ true → Middle (cond o (at ∷ []) [] ++ cond v (plus ∷ []) [] ++ id)
     go true true k = neat-middle (at ∷ plus ∷ id) (omega arith) refl (all-cons neat at (plus ∷ id) refl (all-cons neat plus id refl k))
     go true false k = neat-middle (at ∷ id) (omega arith) refl (all-cons neat at id refl k)
     go false true k = neat-middle (plus ∷ id) (omega arith) refl (all-cons neat plus id refl k)
-    go false false k = neat-middle id (omega (arith, eqb-true (length id) userIdLength (and-left (eqb (length id) userIdLength) _ h))) (ids-uncolon id (user-bytes id h)) k
+    go false false k = neat-middle id (omega (arith, user-length id h)) (ids-uncolon id (user-bytes id h)) k
 
 pub entry-middle : (m : Member) → goodMember m ≡ true → Middle (entryOf m)
-unfolding goodMember entryOf
-entry-middle m h = marked-middle (m .id) (and-left (isUserId (m .id)) (leb (m .status) bothStatuses) h) (hasMode (m .status) 1) (hasMode (m .status) 0)
+unfolding entryOf
+entry-middle m h = marked-middle (m .id) (member-says m h .0) (hasBit (m .status) 1) (hasBit (m .status) 0)
 
 following-plain : (l : List Member) → all goodMember l ≡ true → all isPlain (following l) ≡ true
 unfolding following all isPlain
@@ -141,8 +134,8 @@ keyed-middle [] h e = absurd (true≢false (sym e))
 keyed-middle (b ∷ k) h e = key-middle (b ∷ k) h
 
 source-good : (sid : List ℕ) → isServerId sid ≡ true → goodPrefix sid ≡ true
-unfolding goodPrefix isServerId
-source-good [] h = absurd (true≢false (sym h))
+unfolding goodPrefix
+source-good [] h = absurd (true≢false (sym h ∙ no-server-id))
 source-good (b ∷ s) h =
     let k = all-neat isIdByte id-clean (b ∷ s) (server-bytes (b ∷ s) h) in
     and-intro (all isPlain (b ∷ s)) (all isNonSpace (b ∷ s)) (neat-plain (b ∷ s) k) (neat-solid (b ∷ s) k)

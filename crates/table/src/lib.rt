@@ -25,7 +25,7 @@ pub struct Table {
     pub links: Links,
 }
 
-// The slot that a name uses: the one that holds it, else the lowest free one.
+// The slot that a name uses: the one that holds it, else the lowest free one; or every slot holds another name.
 pub enum Slot {
     Held(usize),
     Free(usize),
@@ -123,16 +123,16 @@ pub fn unregister(t: Table, link: u32) -> Registered
     relinked(t, link, without_link(t.links, link))
 }
 
-// The slot that a name uses. Each used slot's folded name is compared byte by byte; the first that differs leaves for the next slot.
+// The slot that a name uses. Each used slot's folded name is compared byte by byte; the first byte that differs leaves for the next slot.
 pub fn find(t: Table, name: &[u8]) -> Slot
     ensures slot { λ r. ⌜ r ≡ slotFor (t .slots) (now (name .entry)) ⌝ }
     ensures number { λ r. ⌜ numberOf r ≡ firstOf (slotRules (t .slots) (now (name .entry))) ⌝ }
 {
     'slots: for k in 0..Record::SLOTS {
-        let r = t.slots[k];
-        if r.count == 0 {
+        if t.slots[k].count == 0 {
             continue 'slots;
         }
+        let r = t.slots[k];
         let room = r.name;
         let held = part(&room, 0, r.name_len);
         if held.len() != name.len() {

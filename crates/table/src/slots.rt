@@ -47,8 +47,7 @@ pub(crate) fn lowest_free(t: Table) -> Slot
     ensures { λ r. ⌜ r ≡ freeSlot (t .slots) ⌝ }
 {
     for k in 0..Record::SLOTS {
-        let r = t.slots[k];
-        if r.count == 0 {
+        if t.slots[k].count == 0 {
             return Slot::Free(k);
         }
     }

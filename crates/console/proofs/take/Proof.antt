@@ -4,7 +4,8 @@ use mathlib.Core.Path.{sym, ap, _∙_}
 use native.Mathlib.Omega.{arith}
 use borrow.Author.Needs.{needs}
 use Rattle.relay.specs.declared.Taken.{Taken}
-use Rattle.relay.proofs.Answering.{answer-number, accepted-line}
+use Rattle.relay.proofs.Taking.{answer-number}
+use Rattle.relay.proofs.Answering.{accepted-line}
 use Rattle.console.proofs.Answering.{front-few}
 use Rattle.console.proofs.take.Statement.{statement}
 use Rattle.console.proofs.take.Tie as tie

@@ -80,8 +80,8 @@ next c e = (omega arith, first-next (holds (sought c)) (table c .slots) (place c
 abbrev Named : Type 0
 Named = tie.After-part Inv-loop μ-loop Inv-slots μ-slots
 
-compared : (c : Named) → holds (sought (c .before .before .before .before .before .before)) (getD (table (c .before .before .before .before .before .before) .slots) (place (c .before .before .before .before .before .before)) none) ≡ sameName (c .part .result .now) (sought (c .before .before .before .before .before .before))
-compared c = used-holds (sought (c .before .before .before .before .before .before)) _ (c .before .before .before .if1 .left) (c .part .result .now) (c .part .ensures .0)
+compared : (c : Named) → holds (sought (c .before .before .before .before .before)) (getD (table (c .before .before .before .before .before) .slots) (place (c .before .before .before .before .before)) none) ≡ sameName (c .part .result .now) (sought (c .before .before .before .before .before))
+compared c = used-holds (sought (c .before .before .before .before .before)) _ (c .before .before .before .before .if1 .left) (c .part .result .now) (c .part .ensures .0)
 
 -- and so are a byte of either
 abbrev Bytes : Type 0
@@ -89,7 +89,7 @@ Bytes = tie.After-fold2 Inv-loop μ-loop Inv-slots μ-slots
 
 -- what follows the first i bytes of either
 abbrev follows : Bytes → ℕ → Bool
-follows c i = sameName (drop i (c .before .before .before .before .before .before .before .part .result .now)) (drop i (sought (c .before .before .before .before .before .before .before .before .before .before .before .before .before)))
+follows c i = sameName (drop i (c .before .before .before .before .before .before .before .part .result .now)) (drop i (sought (c .before .before .before .before .before .before .before .before .before .before .before .before)))
 
 differ : (c : Bytes) → (c .before .before .fold .result ≡ c .fold2 .result → ⊥) → follows c (c .before .before .before .before .before .loop .i) ≡ false
 differ c ne = name-stop _ _ (c .before .before .before .before .before .loop .i) (omega arith) (omega arith) (λ e. ne (c .before .before .fold .ensures ∙ e ∙ sym (c .fold2 .ensures)))
@@ -101,11 +101,11 @@ agree c e = name-go _ _ (c .before .before .before .before .before .loop .i) (om
 slots-holds : tie.Need-slots-holds Inv-loop μ-loop Inv-slots μ-slots
 slots-holds c = (search needs, omega arith)
 
-mul-r : tie.Need-mul-r Inv-loop μ-loop Inv-slots μ-slots
-mul-r c = search needs
+mul-if1 : tie.Need-mul-if1 Inv-loop μ-loop Inv-slots μ-slots
+mul-if1 c = search needs
 
-element-copy-out-r : tie.Need-element-copy-out-r Inv-loop μ-loop Inv-slots μ-slots
-element-copy-out-r c = search needs
+element-copy-out-if1 : tie.Need-element-copy-out-if1 Inv-loop μ-loop Inv-slots μ-slots
+element-copy-out-if1 c = search needs
 
 add-k : tie.Need-add-k Inv-loop μ-loop Inv-slots μ-slots
 add-k c = search needs
@@ -114,10 +114,16 @@ slots-less : tie.Need-slots-less Inv-loop μ-loop Inv-slots μ-slots
 slots-less c = search needs
 
 slots-again : tie.Need-slots-again Inv-loop μ-loop Inv-slots μ-slots
-slots-again c = next (c .before .before .before) (free-holds _ _ (c .if1 .taken))
+slots-again c = next (c .before) (free-holds _ _ (c .if1 .taken))
+
+mul-r : tie.Need-mul-r Inv-loop μ-loop Inv-slots μ-slots
+mul-r c = search needs
+
+element-copy-out-r : tie.Need-element-copy-out-r Inv-loop μ-loop Inv-slots μ-slots
+element-copy-out-r c = search needs
 
 slice-aggregate-part : tie.Need-slice-aggregate-part Inv-loop μ-loop Inv-slots μ-slots
-slice-aggregate-part c = sym (fifty (c .before .before .before .before .before .before .before .before) (place (c .before .before .before .before .before)) (within (c .before .before .before .before .before)))
+slice-aggregate-part c = sym (fifty (c .before .before .before .before .before .before .before) (place (c .before .before .before .before)) (within (c .before .before .before .before)))
 
 part-requires : tie.Need-part-requires Inv-loop μ-loop Inv-slots μ-slots
 part-requires c κs = search needs
@@ -129,7 +135,7 @@ slots-less-2 : tie.Need-slots-less-2 Inv-loop μ-loop Inv-slots μ-slots
 slots-less-2 c = search needs
 
 slots-again-2 : tie.Need-slots-again-2 Inv-loop μ-loop Inv-slots μ-slots
-slots-again-2 c = next (c .before .before .before .before .before .before .before) (compared (c .before) ∙ lengths-differ _ _ (c .if2 .taken))
+slots-again-2 c = next (c .before .before .before .before .before .before) (compared (c .before) ∙ lengths-differ _ _ (c .if2 .taken))
 
 loop-holds : tie.Need-loop-holds Inv-loop μ-loop Inv-slots μ-slots
 loop-holds c = (refl, search needs, c .if2 .left, refl)
@@ -155,7 +161,7 @@ slots-less-3 c = search needs
 slots-again-3 : tie.Need-slots-again-3 Inv-loop μ-loop Inv-slots μ-slots
 slots-again-3 c =
     let l = c .before .before .before .before .before .before .loop in
-    rw (l .inv .0) (next (c .before .before .before .before .before .before .before .before .before .before .before .before .before .before) (compared (c .before .before .before .before .before .before .before .before) ∙ sym (l .inv .3) ∙ differ (c .before) (c .if3 .taken)))
+    rw (l .inv .0) (next (c .before .before .before .before .before .before .before .before .before .before .before .before .before) (compared (c .before .before .before .before .before .before .before .before) ∙ sym (l .inv .3) ∙ differ (c .before) (c .if3 .taken)))
 
 add-i : tie.Need-add-i Inv-loop μ-loop Inv-slots μ-slots
 add-i c = search needs
@@ -170,7 +176,7 @@ loop-again c =
 
 returns : tie.Need-returns Inv-loop μ-loop Inv-slots μ-slots
 returns c =
-    let s = c .before .before .before .before .before .before .before .before .before in
+    let s = c .before .before .before .before .before .before .before .before in
     let l = c .before .loop in
     let same : sameName (c .before .before .before .part .result .now) (sought s) ≡ true = sym (l .inv .3) ∙ name-past _ (sought s) (l .i) (omega arith) (omega arith) in
     answers (table s .slots) (sought s) (Held (l .k))
@@ -197,11 +203,13 @@ find-spec =
     Inv-slots
     μ-slots
     slots-holds
-    mul-r
-    element-copy-out-r
+    mul-if1
+    element-copy-out-if1
     add-k
     slots-less
     slots-again
+    mul-r
+    element-copy-out-r
     slice-aggregate-part
     part-requires
     add-k-2

@@ -1,13 +1,12 @@
 -- `is_id` meets its contract: once all bytes behind the first may stand in an id, the first and the fourth decide. Assumes nothing.
 use mathlib.Core.Path.{_≡_, sym, _∙_}
 use mathlib.Core.Bool.{_&&_}
-use native.Mathlib.Omega.{arith}
 use lib.ListN.{getD}
 use borrow.Author.Needs.{needs}
 use borrow.Author.Tests.{eq-eqb, ne-eqb, le-leb, lt-leb}
 use Rattle.octets.specs.Bytes.{within, isDigit}
 use Rattle.names.specs.Names.{isUserId}
-use Rattle.channel.proofs.Ids.{id-tests}
+use Rattle.names.proofs.Ids.{id-tests}
 use Rattle.channel.proofs.well.is_id.Statement.{statement}
 use Rattle.channel.proofs.well.is_id.Tie as tie
 

@@ -27,17 +27,17 @@ sixteen c = search (needs, unmapped)
 loop-holds : tie.Need-loop-holds Inv-loop μ-loop
 loop-holds c = (search needs, omega arith)
 
-mul-r : tie.Need-mul-r Inv-loop μ-loop
-mul-r c = search needs
+mul-if1 : tie.Need-mul-if1 Inv-loop μ-loop
+mul-if1 c = search needs
 
-element-copy-out-r : tie.Need-element-copy-out-r Inv-loop μ-loop
-element-copy-out-r c = search needs
+element-copy-out-if1 : tie.Need-element-copy-out-if1 Inv-loop μ-loop
+element-copy-out-if1 c = search needs
 
 returns : tie.Need-returns Inv-loop μ-loop
 returns c =
-    let t = c .before .before .before .before .before .args .t1 in
-    let l = c .before .before .before .before .loop in
-    let h : l .k < length (t .slots) = omega (arith, sixteen (c .before .before .before .before .before)) in
+    let t = c .before .before .before .args .t1 in
+    let l = c .before .before .loop in
+    let h : l .k < length (t .slots) = omega (arith, sixteen (c .before .before .before)) in
     free-found (t .slots) (l .k) (first-here isFree (t .slots) (l .k) _ h (l .inv .1) (eq-eqb _ 0 (c .if1 .taken))) h
 
 add-k : tie.Need-add-k Inv-loop μ-loop
@@ -48,9 +48,9 @@ loop-less c = search needs
 
 loop-again : tie.Need-loop-again Inv-loop μ-loop
 loop-again c =
-    let slots = c .before .before .before .before .before .args .t1 .slots in
-    let l = c .before .before .before .before .loop in
-    (search needs, first-next isFree slots (l .k) _ (omega (arith, sixteen (c .before .before .before .before .before))) (l .inv .1) (ne-eqb _ 0 (c .if1 .left)))
+    let slots = c .before .before .before .args .t1 .slots in
+    let l = c .before .before .loop in
+    (search needs, first-next isFree slots (l .k) _ (omega (arith, sixteen (c .before .before .before))) (l .inv .1) (ne-eqb _ 0 (c .if1 .left)))
 
 returns-2 : tie.Need-returns-2 Inv-loop μ-loop
 returns-2 c =
@@ -65,8 +65,8 @@ lowest-free-spec =
     Inv-loop
     μ-loop
     loop-holds
-    mul-r
-    element-copy-out-r
+    mul-if1
+    element-copy-out-if1
     returns
     add-k
     loop-less
