@@ -236,17 +236,17 @@ typedef struct relay_table {
 
 /* The table after, or as given where it is refused. */
 typedef struct relay_registered {
-    uint8_t number;
     relay_table table;
+    uint8_t number;
 } relay_registered;
 
-/* The answer to a line: the table after, the links that the line goes to and how many they are, and the length of the line to send. */
+/* The answer to a line: the table after, the length of the line to send, the links that it goes to and how many they are. */
 typedef struct relay_taken {
-    uint8_t number;
     relay_table table;
+    size_t len;
     uint32_t set;
     uint32_t count;
-    size_t len;
+    uint8_t number;
 } relay_taken;
 
 /* Every slot free, no link registered. */
@@ -423,9 +423,9 @@ static inline bool relay_layout_matches(void)
         RELAY_FIELD(relay_merged, number), RELAY_FIELD(relay_merged, result), sizeof(relay_merged),
         RELAY_FIELD(relay_links, set), sizeof(relay_links),
         RELAY_FIELD(relay_table, slots), RELAY_FIELD(relay_table, links), sizeof(relay_table),
-        RELAY_FIELD(relay_registered, number), RELAY_FIELD(relay_registered, table), sizeof(relay_registered),
-        RELAY_FIELD(relay_taken, number), RELAY_FIELD(relay_taken, table), RELAY_FIELD(relay_taken, set),
-        RELAY_FIELD(relay_taken, count), RELAY_FIELD(relay_taken, len), sizeof(relay_taken),
+        RELAY_FIELD(relay_registered, table), RELAY_FIELD(relay_registered, number), sizeof(relay_registered),
+        RELAY_FIELD(relay_taken, table), RELAY_FIELD(relay_taken, len), RELAY_FIELD(relay_taken, set),
+        RELAY_FIELD(relay_taken, count), RELAY_FIELD(relay_taken, number), sizeof(relay_taken),
         RELAY_FIELD(relay_logged, number), RELAY_FIELD(relay_logged, size), sizeof(relay_logged)
     };
     const size_t count = sizeof numbers / sizeof numbers[0];

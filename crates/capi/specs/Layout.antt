@@ -87,12 +87,15 @@ links = word ∷ []
 abbrev pub table : List Kind
 table = array slotCount (struct channel) ∷ struct links ∷ []
 
--- a number, then what an answer tells: of LineRead, Written, Logged a count of things or bytes, of Match a yes, of Merged a record, of Registered a table
+-- a number, then what an answer tells: of LineRead, Written, Logged a count of things or bytes, of Match a yes, of Merged a record
 abbrev pub numbered : Kind → List Kind
 numbered k = byte ∷ k ∷ []
 
+abbrev pub registered : List Kind
+registered = struct table ∷ byte ∷ []
+
 abbrev pub taken : List Kind
-taken = byte ∷ struct table ∷ word ∷ word ∷ long ∷ []
+taken = struct table ∷ long ∷ word ∷ word ∷ byte ∷ []
 
 -- ---- all numbers, and how many they are first
 unfoldable pub numbers : List ℕ
@@ -108,7 +111,7 @@ numbers =
     ++ numbersOf (numbered (struct channel))
     ++ numbersOf links
     ++ numbersOf table
-    ++ numbersOf (numbered (struct table))
+    ++ numbersOf registered
     ++ numbersOf taken
     ++ numbersOf (numbered long)
 

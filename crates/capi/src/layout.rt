@@ -84,21 +84,21 @@ pub fn number(k: usize) -> usize
         12160, // Table.links
         4,
         12168, // Table
-        0, // Registered.number
-        1,
-        8, // Registered.table
+        0, // Registered.table
         12168,
+        12168, // Registered.number
+        1,
         12176, // Registered
-        0, // Taken.number
-        1,
-        8, // Taken.table
+        0, // Taken.table
         12168,
+        12168, // Taken.len
+        8,
         12176, // Taken.set
         4,
         12180, // Taken.count
         4,
-        12184, // Taken.len
-        8,
+        12184, // Taken.number
+        1,
         12192, // Taken
         0, // Logged.number
         1,

@@ -37,15 +37,15 @@ struct Change {
     user: [u8; USER_ID],
 }
 
-// The number of a refusal, or ACCEPTED; the table after, or as given; the links that the line goes to, and how many they are; and how many bytes
-// were written.
+// The table after, or as given; how many bytes were written; the links that the line goes to, and how many they are; and the number of a refusal, or
+// ACCEPTED. The table comes first: behind a smaller field it is copied once more.
 #[repr(C)]
 pub struct Taken {
-    pub number: u8,
     pub table: Table,
+    pub len: usize,
     pub set: u32,
     pub count: u32,
-    pub len: usize,
+    pub number: u8,
 }
 
 // Nothing changes, and nothing goes out.
@@ -53,11 +53,11 @@ fn refused(t: Table, number: u8) -> Taken
     ensures { λ r. ⌜ r ≡ refusedOf t number ⌝ }
 {
     Taken {
-        number,
         table: t,
+        len: 0,
         set: 0,
         count: 0,
-        len: 0,
+        number,
     }
 }
 
@@ -76,10 +76,10 @@ pub fn process(t: Table, link: u32, line: &[u8], out: &mut [u8]) -> Taken
     let n = count(set);
     let table = changed(t, change);
     Taken {
-        number,
         table,
+        len,
         set,
         count: n,
-        len,
+        number,
     }
 }

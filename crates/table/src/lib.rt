@@ -32,11 +32,11 @@ pub enum Slot {
     Full,
 }
 
-// The number of a refusal, or ACCEPTED, and the table after, or as given.
+// The table after, or as given, and the number of a refusal, or ACCEPTED.
 #[repr(C)]
 pub struct Registered {
-    pub number: u8,
     pub table: Table,
+    pub number: u8,
 }
 
 impl Table {
@@ -91,21 +91,21 @@ fn relinked(t: Table, link: u32, links: Links) -> Registered
 {
     if !is_well_formed(t) {
         return Registered {
-            number: NOT_WELL_FORMED,
             table: t,
+            number: NOT_WELL_FORMED,
         };
     }
     if Links::COUNT <= link {
         return Registered {
-            number: BAD_LINK,
             table: t,
+            number: BAD_LINK,
         };
     }
     let mut next = t;
     next.links = links;
     Registered {
-        number: ACCEPTED,
         table: next,
+        number: ACCEPTED,
     }
 }
 

@@ -37,8 +37,8 @@ pub fn layout_matches() -> bool {
         numbers!(Merged: number result),
         numbers!(Links: set),
         numbers!(Table: slots links),
-        numbers!(Registered: number table),
-        numbers!(Taken: number table set count len),
+        numbers!(Registered: table number),
+        numbers!(Taken: table len set count number),
         numbers!(Logged: number size),
     ]
     .concat();

@@ -123,26 +123,26 @@ pub struct Table {
 #[repr(C)]
 #[derive(Clone, Copy, Debug, PartialEq, Eq)]
 pub struct Registered {
-    /// The number of a refusal, or 0.
-    pub number: u8,
     /// The table.
     pub table: Table,
+    /// The number of a refusal, or 0.
+    pub number: u8,
 }
 
 /// The answer to a line.
 #[repr(C)]
 #[derive(Clone, Copy, Debug, PartialEq, Eq)]
 pub struct Taken {
-    /// The number of a refusal, or 0.
-    pub number: u8,
     /// The table after, or as given.
     pub table: Table,
+    /// The length of the line at the front of the output.
+    pub len: usize,
     /// The links that the line goes to.
     pub set: u32,
     /// The number of those links.
     pub count: u32,
-    /// The length of the line at the front of the output.
-    pub len: usize,
+    /// The number of a refusal, or 0.
+    pub number: u8,
 }
 
 /// The answer to a line, the table apart.
