@@ -1,24 +1,19 @@
--- Laws of tests: at a place of a list, of its first n elements, of bits joined, and of a test that is to come out as another does. Assumes nothing.
-use mathlib.Core.Path.{_≡_, refl, sym, ap, _∙_}
-use mathlib.Core.Bool.{Bool, true, false, not, _&&_, Bool·beq, and-assoc}
+-- Laws of tests: of a list's first n elements, of a byte shifted, and of a test that is to come out as another does. Assumes nothing.
+use mathlib.Core.Path.{_≡_, refl, ap, _∙_}
+use mathlib.Core.Bool.{Bool, true, false, not, _&&_, Bool·beq}
 use mathlib.Core.List.{List, _∷_}
 use Prim.Native.Nat.{ℕ, _+_, _*_, _%_, _^_, _≤_, _<_, min}
 use native.Mathlib.Nat.{zero-mul}
 use native.Mathlib.Omega.{arith}
 use lib.ListN.{length, take, drop, getD}
 use lib.Seq.{take-all, length-take-le, getD-take}
-use lib.Bits.{bitOr, or-add-and, and-le-l, and-le-r}
 use lib.Dec.{leb}
 use lib.Pow.{shl-exact, shl-shr, shr-le}
-use borrow.Author.Tests.{eq-eqb, ne-eqb, eqb-true, eqb-false, leb-true, leb-false}
+use borrow.Author.Tests.{ne-eqb, eqb-true, eqb-false, leb-true, leb-false}
 use Rattle.octets.specs.Lists.{all}
 use Rattle.octets.proofs.Lists.{drop-step}
+pub use Rattle.octets.proofs.Bitwise.{or-step}
 use Rattle.channel.specs.WellFormed.{isZero}
-
--- ---- every element from a place on: the one there, and those behind it
-pub all-step : {A : Type 0} (p : A → Bool) (l : List A) (i : ℕ) (d : A) → i < length l → all p (drop i l) ≡ p (getD l i d) && all p (drop (i + 1) l)
-unfolding all
-all-step p l i d h = rw (drop-step l i d h)
 
 -- ---- the first n at a place
 module _ {A : Type 0} (l : List A) (n i : ℕ) (d : A) (h : i < n) (k : n ≤ length l) where
@@ -37,30 +32,13 @@ take-within l n i e = go (leb n (length l)) refl
     go true h = let q : i ≡ n = omega (arith, leb-true n (length l) h) in rw q
     go false h = rw (take-all n l (omega (arith, leb-false n (length l) h))) (take-all i l (omega (arith, leb-false n (length l) h)))
 
--- ---- bits joined by or are none exactly if each side has none
-pub or-zero : (a b : ℕ) → isZero (bitOr a b) ≡ isZero a && isZero b
-or-zero a b = go (isZero a) refl (isZero b) refl
-  where
-    go : (t : Bool) → isZero a ≡ t → (u : Bool) → isZero b ≡ u → isZero (bitOr a b) ≡ isZero a && isZero b
-    go true e true f = rw (e, f) (eq-eqb (bitOr a b) 0 (omega (arith, or-add-and a b, eqb-true a 0 e, eqb-true b 0 f)))
-    go true e false f = rw (e, f) (ne-eqb (bitOr a b) 0 (λ z. eqb-false b 0 f (omega (arith, or-add-and a b, and-le-l a b))))
-    go false e u f = rw e (ne-eqb (bitOr a b) 0 (λ z. eqb-false a 0 e (omega (arith, or-add-and a b, and-le-r a b))))
-
--- a byte shifted within 64 bits is zero exactly if it was
+-- ---- a byte shifted within 64 bits is zero exactly if it was
 pub shifted-zero : (b k : ℕ) → b < 256 → k ≤ 56 → isZero (b * 2 ^ k % 2 ^ 64) ≡ isZero b
 shifted-zero b k small h = rw (shl-exact 8 k 64 small (omega arith)) (go (isZero b) refl)
   where
     go : (t : Bool) → isZero b ≡ t → isZero (b * 2 ^ k) ≡ isZero b
     go true e = rw (eqb-true b 0 e, zero-mul)
     go false e = rw e (ne-eqb (b * 2 ^ k) 0 (λ z. eqb-false b 0 e (omega (arith, shl-shr b k, shr-le (b * 2 ^ k) k, z))))
-
--- a place further on in the gathering
-pub or-step : {A : Type 0} (p : A → Bool) (l : List A) (i bits b : ℕ) (d : A) → i < length l → isZero b ≡ p (getD l i d)
-    → isZero bits && all p (drop i l) ≡ isZero (bitOr bits b) && all p (drop (i + 1) l)
-or-step p l i bits b d h e =
-    ap (λ (t : Bool). isZero bits && t) (all-step p l i d h)
-    ∙ sym (and-assoc (isZero bits) (p (getD l i d)) (all p (drop (i + 1) l)))
-    ∙ ap (λ (t : Bool). t && all p (drop (i + 1) l)) (ap (λ (t : Bool). isZero bits && t) (sym e) ∙ sym (or-zero bits b))
 
 -- ---- a test that is to come out as another does
 pub beq-true : (t : Bool) → Bool·beq t true ≡ t

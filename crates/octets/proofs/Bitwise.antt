@@ -1,16 +1,20 @@
--- Laws of bits: a shift and a mask test one, a number's bits lie below its width, a union has the bits of both, a power of two has one, and one that
--- is taken off leaves the others. Assumes nothing.
+-- Laws of bits: a shift and a mask test one, a number's bits lie below its width, a union has the bits of both and so none if neither has one, a power
+-- of two has one, and one that is taken off leaves the others. Assumes nothing.
 use mathlib.Core.Path.{_≡_, refl, sym, ap, _∙_}
-use mathlib.Core.Bool.{Bool, true, false, true≢false, not, _&&_, _||_, and-true, and-false}
-use Prim.Native.Nat.{ℕ, zero, suc, _-_, _*_, _/_, _%_, _^_, _≤_, _<_, max}
+use mathlib.Core.Bool.{Bool, true, false, true≢false, not, _&&_, _||_, and-true, and-false, and-assoc}
+use mathlib.Core.List.{List}
+use Prim.Native.Nat.{ℕ, zero, suc, _+_, _-_, _*_, _/_, _%_, _^_, _≤_, _<_, max}
 use native.Mathlib.Nat.{div-eq-of-lt, div-div-eq-div-mul, div-one, mod-eq-of-lt, one-mul, pow-suc, pow-succ'}
 use native.Mathlib.Omega.{arith}
-use lib.Bits.{bitAnd, bitOr, and-mask}
+use lib.ListN.{length, drop, getD}
+use lib.Bits.{bitAnd, bitOr, and-mask, or-add-and, and-le-l, and-le-r}
 use lib.Dec.{eqb, leb, eqb·zero-suc, eqb·suc-zero, eqb·suc-suc}
 use lib.Pow.{pow-lt, pow-mono, pow-pos}
-use borrow.Author.Tests.{eqb-true, leb-true, leb-false}
+use borrow.Author.Tests.{eq-eqb, ne-eqb, eqb-true, eqb-false, leb-true, leb-false}
 use Rattle.octets.specs.Bits.{hasBit}
+use Rattle.octets.specs.Lists.{all}
 use Rattle.octets.proofs.Joins.{bits-digit}
+use Rattle.octets.proofs.Lists.{all-past, all-step}
 
 -- ---- a bit tested by shift and mask
 pub bit-tested : (n k : ℕ) → eqb (bitAnd (n / 2 ^ k) 1) 1 ≡ hasBit n k
@@ -54,6 +58,26 @@ bit-union a b k = rw (bits-digit k a b) (digits (a / 2 ^ k % 2) (b / 2 ^ k % 2) 
     digits (suc zero) (suc zero) p q = refl
     digits (suc zero) (suc (suc y)) p q = absurd (omega arith)
     digits (suc (suc x)) y p q = absurd (omega arith)
+
+-- ---- an or is zero exactly if each side is
+pub or-zero : (a b : ℕ) → eqb (bitOr a b) 0 ≡ eqb a 0 && eqb b 0
+or-zero a b = go (eqb a 0) refl (eqb b 0) refl
+  where
+    go : (t : Bool) → eqb a 0 ≡ t → (u : Bool) → eqb b 0 ≡ u → eqb (bitOr a b) 0 ≡ eqb a 0 && eqb b 0
+    go true e true f = rw (e, f) (eq-eqb (bitOr a b) 0 (omega (arith, or-add-and a b, eqb-true a 0 e, eqb-true b 0 f)))
+    go true e false f = rw (e, f) (ne-eqb (bitOr a b) 0 (λ z. eqb-false b 0 f (omega (arith, or-add-and a b, and-le-l a b))))
+    go false e u f = rw e (ne-eqb (bitOr a b) 0 (λ z. eqb-false a 0 e (omega (arith, or-add-and a b, and-le-r a b))))
+
+-- bits joined by or along a list, none of an element exactly if it passes a test: at a place, and past the end
+module _ {A : Type 0} (p : A → Bool) (l : List A) (i bits : ℕ) where
+  pub or-step : (b : ℕ) (d : A) → i < length l → eqb b 0 ≡ p (getD l i d) → eqb bits 0 && all p (drop i l) ≡ eqb (bitOr bits b) 0 && all p (drop (i + 1) l)
+  or-step b d h e =
+      ap (λ (t : Bool). eqb bits 0 && t) (all-step p l i d h)
+      ∙ sym (and-assoc (eqb bits 0) (p (getD l i d)) (all p (drop (i + 1) l)))
+      ∙ ap (λ (t : Bool). t && all p (drop (i + 1) l)) (ap (λ (t : Bool). eqb bits 0 && t) (sym e) ∙ sym (or-zero bits b))
+
+  pub or-past : length l ≤ i → eqb bits 0 && all p (drop i l) ≡ eqb bits 0
+  or-past h = ap (λ (t : Bool). eqb bits 0 && t) (all-past p l i h) ∙ and-true (eqb bits 0)
 
 -- ---- one bit alone, and one taken off
 -- a place further on is that place of the half

@@ -62,6 +62,10 @@ module _ {A : Type 0} (p : A → Bool) (s : List A) (i : ℕ) where
   all-past h = rw (drop-of-length-le s h)
 
   module _ (d : A) (h : i < length s) where
+    pub all-step : all p (drop i s) ≡ p (getD s i d) && all p (drop (i + 1) s)
+    unfolding all
+    all-step = rw (drop-step s i d h)
+
     pub all-stop : p (getD s i d) ≡ false → all p (drop i s) ≡ false
     unfolding all
     all-stop e = rw (drop-step s i d h, e)

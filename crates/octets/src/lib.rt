@@ -1,6 +1,7 @@
 // Bytes: their classes, byte strings compared, numbers in decimal, a part of a lent slice, bytes put into lent room, and capital letters.
 // Every function takes any bytes and refuses nothing.
 ghost use mathlib.Core.Path.{_≡_};
+ghost use mathlib.Core.Bool.{cond};
 ghost use mathlib.Core.List.{map};
 ghost use Prim.Native.Nat.{_+_, _≤_, min};
 ghost use lib.ListN.{length};
@@ -125,18 +126,27 @@ fn is_in(b: u8, class: Class) -> bool
     }
 }
 
-// Whether every byte is of the class.
+// None for a byte of the class, one for another.
+fn not_in(b: u8, class: Class) -> u8
+    ensures { λ r. ⌜ r ≡ cond (inClass class b) 0 1 ⌝ }
+{
+    if is_in(b, class) {
+        return 0;
+    }
+    1
+}
+
+// Whether every byte is of the class: an or over all of them, and one test.
 pub fn all_in(s: &[u8], class: Class) -> bool
     ensures { λ r. ⌜ r ≡ all (inClass class) (now (s .entry)) ⌝ }
 {
+    let mut odd = 0u8;
     let mut i = 0;
     while i < s.len() {
-        if !is_in(s[i], class) {
-            return false;
-        }
+        odd = odd | not_in(s[i], class);
         i += 1;
     }
-    true
+    odd == 0
 }
 
 // How a stands to b: by the first byte that differs, a proper beginning being smaller.

@@ -1,14 +1,13 @@
 -- `gathered` meets its contract. The invariant: all bytes are zero exactly if the bits gathered so far are and the bytes from i on are.
 -- Assumes nothing.
-use mathlib.Core.Path.{_≡_, refl, sym, ap, _∙_}
-use mathlib.Core.Bool.{Bool, _&&_, and-true}
+use mathlib.Core.Path.{_≡_, refl, sym, _∙_}
+use mathlib.Core.Bool.{_&&_}
 use Prim.Native.Nat.{_-_}
 use lib.ListN.{length, drop}
 use borrow.Author.Needs.{needs}
 use Rattle.octets.specs.Lists.{all}
-use Rattle.octets.proofs.Lists.{all-past}
+use Rattle.octets.proofs.Bitwise.{or-step, or-past}
 use Rattle.channel.specs.WellFormed.{isZero}
-use Rattle.channel.proofs.Tests.{or-step}
 use Rattle.channel.proofs.well.gathered.Statement.{statement}
 use Rattle.channel.proofs.well.gathered.Tie as tie
 
@@ -38,7 +37,7 @@ loop-again c =
 returns : tie.Need-returns Inv-loop μ-loop
 returns c =
     let l = c .before .loop in
-    sym (l .inv ∙ ap (λ (t : Bool). isZero (l .bits) && t) (all-past isZero _ (l .i) (c .loop-test .left)) ∙ and-true (isZero (l .bits)))
+    sym (l .inv ∙ or-past isZero _ (l .i) (l .bits) (c .loop-test .left))
 
 pub gathered-spec : {M : Type 1} → statement M
 gathered-spec = tie.close (tie.spec Inv-loop μ-loop loop-holds shared-slice-read-bits add-i loop-less loop-again returns)

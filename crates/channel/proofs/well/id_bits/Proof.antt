@@ -1,14 +1,13 @@
 -- `id_bits` meets its contract. The invariant: all bytes are zero exactly if there are no bits so far and the bytes from i on are. Assumes nothing.
-use mathlib.Core.Path.{_≡_, refl, sym, ap, _∙_}
-use mathlib.Core.Bool.{Bool, _&&_, and-true}
+use mathlib.Core.Path.{_≡_, refl, sym, _∙_}
+use mathlib.Core.Bool.{_&&_}
 use Prim.Native.Nat.{_-_}
 use lib.ListN.{drop}
 use borrow.Author.Needs.{needs}
 use Rattle.octets.specs.Lists.{all}
-use Rattle.octets.proofs.Lists.{all-past}
+use Rattle.octets.proofs.Bitwise.{or-step, or-past}
 use Rattle.names.specs.Names.{userIdLength}
 use Rattle.channel.specs.WellFormed.{isZero}
-use Rattle.channel.proofs.Tests.{or-step}
 use Rattle.channel.proofs.well.id_bits.Statement.{statement}
 use Rattle.channel.proofs.well.id_bits.Tie as tie
 
@@ -41,7 +40,7 @@ loop-again c =
 returns : tie.Need-returns Inv-loop μ-loop
 returns c =
     let l = c .before .loop in
-    sym (l .inv ∙ ap (λ (t : Bool). isZero (l .bits) && t) (all-past isZero _ (l .i) (search needs)) ∙ and-true (isZero (l .bits)))
+    sym (l .inv ∙ or-past isZero _ (l .i) (l .bits) (search needs))
 
 pub id-bits-spec : {M : Type 1} → statement M
 id-bits-spec =

@@ -1,15 +1,14 @@
 -- `vacant_from` meets its contract. The invariant: all places are unused exactly if there are no bits so far and those from i on are.
 -- Assumes nothing.
-use mathlib.Core.Path.{_≡_, refl, sym, ap, _∙_}
-use mathlib.Core.Bool.{Bool, _&&_, and-true}
+use mathlib.Core.Path.{_≡_, refl, sym, _∙_}
+use mathlib.Core.Bool.{_&&_}
 use Prim.Native.Nat.{_-_}
 use lib.ListN.{drop}
 use borrow.Author.Needs.{needs}
 use Rattle.octets.specs.Lists.{all}
-use Rattle.octets.proofs.Lists.{all-past}
+use Rattle.octets.proofs.Bitwise.{or-step, or-past}
 use Rattle.channel.specs.Limits.{memberLimit}
 use Rattle.channel.specs.WellFormed.{isZero, isVacant}
-use Rattle.channel.proofs.Tests.{or-step}
 use Rattle.channel.proofs.well.vacant_from.Statement.{statement}
 use Rattle.channel.proofs.well.vacant_from.Tie as tie
 
@@ -45,7 +44,7 @@ loop-again c =
 returns : tie.Need-returns Inv-loop μ-loop
 returns c =
     let l = c .before .loop in
-    sym (l .inv ∙ ap (λ (t : Bool). isZero (l .bits) && t) (all-past isVacant _ (l .i) (search needs)) ∙ and-true (isZero (l .bits)))
+    sym (l .inv ∙ or-past isVacant _ (l .i) (l .bits) (search needs))
 
 pub vacant-from-spec : {M : Type 1} → statement M
 vacant-from-spec =
