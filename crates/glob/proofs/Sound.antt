@@ -1,8 +1,9 @@
 -- Every step of a match keeps what its state means, and raises its rank; the step that ends it answers rightly. Where a star is passed,
 -- the one before is forgotten: between the two the mask takes one byte for each of its own, so the first place where that part matches
--- leaves the most to match. Assumes nothing.
+-- leaves the most to match. So too where the text is used up and the mask's next byte is no star: a longer run leaves no more.
+-- Assumes nothing.
 use mathlib.Core.Path.{_≡_, refl, sym, ap, _∙_}
-use mathlib.Core.Bool.{Bool, true, false, cond}
+use mathlib.Core.Bool.{Bool, true, false, true≢false, cond}
 use mathlib.Core.List.{List, [], _∷_}
 use Prim.Native.Nat.{ℕ, _+_, _-_, _*_, _≤_, _<_}
 use native.Mathlib.Nat.{mul-le-mul-right}
@@ -79,6 +80,14 @@ module _ (mask text : List ℕ) (s : State) (ok : Sound mask text s) where
   cons : s .text < length text → drop (s .text) text ≡ getD text (s .text) 0 ∷ drop (s .text + 1) text
   cons h = drop-step text (s .text) 0 h
 
+  -- what matches after a longer run takes as many bytes since the star, and so leaves a later part of the text
+  later : (g : List ℕ → Bool) → ((t : List ℕ) → matches (drop (s .mask) mask) t ≡ true → afterRun g t ≡ true)
+      → afterRun (since mask s) (drop (s .run) text) ≡ true → afterRun g (drop (s .text) text) ≡ true
+  later g imp e =
+      let place : s .run + (s .mask - s .star) ≡ s .text = omega (arith, ok .passed, ok .level) in
+      rw (drop-drop (s .mask - s .star) (s .run) text, place) at (run-first (since mask s) g (s .mask - s .star)
+      (λ t h. imp (drop (s .mask - s .star) t) (ok .exact t h)) (drop (s .run) text) e)
+
   -- ---- the end of both
   ends : s .mask ≡ length mask → s .text ≡ length text → matches mask text ≡ true
   ends m t = go (eqb (s .star) 0) refl
@@ -97,16 +106,9 @@ module _ (mask text : List ℕ) (s : State) (ok : Sound mask text s) where
 
     -- the star before is forgotten
     forgotten : afterRun (since mask s) (drop (s .run) text) ≡ afterRun after (drop (s .text) text)
-    forgotten = both-ways _ _ forth (λ e. run-here (since mask s) (drop (s .run) text) (ok .here ∙ matches-star mask (s .mask) lt is (drop (s .text) text) ∙ e))
-      where
-        same-place : drop (s .mask - s .star) (drop (s .run) text) ≡ drop (s .text) text
-        same-place = let e : s .run + (s .mask - s .star) ≡ s .text = omega (arith, ok .passed, ok .level) in drop-drop (s .mask - s .star) (s .run) text ∙ rw e
-
-        forth : afterRun (since mask s) (drop (s .run) text) ≡ true → afterRun after (drop (s .text) text) ≡ true
-        forth e =
-            rw same-place at (run-first (since mask s) after (s .mask - s .star)
-            (λ t h. sym (matches-star mask (s .mask) lt is (drop (s .mask - s .star) t)) ∙ ok .exact t h)
-            (drop (s .run) text) e)
+    forgotten =
+        both-ways _ _ (later after (λ t h. sym (matches-star mask (s .mask) lt is t) ∙ h))
+        (λ e. run-here (since mask s) (drop (s .run) text) (ok .here ∙ matches-star mask (s .mask) lt is (drop (s .text) text) ∙ e))
 
     star-whole : matches mask text ≡ afterRun after (drop (s .text) text)
     star-whole = go (eqb (s .star) 0) refl
@@ -128,6 +130,19 @@ module _ (mask text : List ℕ) (s : State) (ok : Sound mask text s) where
       },
       omega (arith, mul-le-mul-right (length mask + 1) run-in),
     )
+
+  -- ---- the end of the text alone, with a byte to match
+  used-up : s .mask < length mask → (getD mask (s .mask) 0 ≡ star → ⊥) → s .text ≡ length text → matches mask text ≡ false
+  used-up lt ne e = go (eqb (s .star) 0) refl
+    where
+      no-run : afterRun (since mask s) (drop (s .run) text) ≡ true → false ≡ true
+      no-run h =
+          let f = matches (drop (s .mask) mask) in
+          sym (run-nil f ∙ matches-none mask (s .mask) lt ne) ∙ rw (nil e) at (later f (run-here f) h)
+
+      go : (z : Bool) → eqb (s .star) 0 ≡ z → matches mask text ≡ false
+      go true z = no-star (eqb-true (s .star) 0 z) ∙ rw (nil e) (matches-none mask (s .mask) lt ne)
+      go false z = a-star (eqb-false (s .star) 0 z) ∙ both-ways _ false no-run (λ h. absurd (true≢false (sym h)))
 
   -- ---- a byte that matches
   byte-leads : s .mask < length mask → (getD mask (s .mask) 0 ≡ star → ⊥) → s .text < length text → matchesByte (getD mask (s .mask) 0) (getD text (s .text) 0) ≡ true
@@ -199,6 +214,6 @@ module _ (mask text : List ℕ) (s : State) (ok : Sound mask text s) where
       go true m true t j b k e = rw (m, t) (sym (ends (eqb-true (s .mask) (length mask) m) (eqb-true (s .text) (length text) t)))
       go true m false t j b k e = rw (m, t) (back-leads (rw (cons (in-text t)) (matches-over mask (s .mask) (omega (arith, eqb-true (s .mask) (length mask) m)) (getD text (s .text) 0) (drop (s .text + 1) text))))
       go false m i t true b k e = rw (m, b) (star-leads (in-mask m) (eqb-true (getD mask (s .mask) 0) star b))
-      go false m true t false b k e = rw (m, b, t) (back-leads (rw (nil (eqb-true (s .text) (length text) t)) (matches-none mask (s .mask) (in-mask m) (eqb-false (getD mask (s .mask) 0) star b))))
+      go false m true t false b k e = rw (m, b, t) (sym (used-up (in-mask m) (eqb-false (getD mask (s .mask) 0) star b) (eqb-true (s .text) (length text) t)))
       go false m false t false b true e = rw (m, b, t, e) (byte-leads (in-mask m) (eqb-false (getD mask (s .mask) 0) star b) (in-text t) e)
       go false m false t false b false e = rw (m, b, t, e) (back-leads (rw (cons (in-text t)) (matches-differ mask (s .mask) (in-mask m) (eqb-false (getD mask (s .mask) 0) star b) (getD text (s .text) 0) (drop (s .text + 1) text) e)))

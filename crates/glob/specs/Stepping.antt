@@ -34,7 +34,7 @@ unfoldable pub step : List ℕ → List ℕ → State → Progress
 step mask text s =
     cond (eqb (s .mask) (length mask)) (cond (eqb (s .text) (length text)) (Done true) (back s (length text)))
     (cond (eqb (getD mask (s .mask) 0) star) (On (state (s .mask + 1) (s .text) (s .mask + 1) (s .text)))
-    (cond (eqb (s .text) (length text)) (back s (length text))
+    (cond (eqb (s .text) (length text)) (Done false)
     (cond (matchesByte (getD mask (s .mask) 0) (getD text (s .text) 0)) (On (state (s .mask + 1) (s .text + 1) (s .star) (s .run)))
     (back s (length text)))))
 

@@ -1,6 +1,7 @@
 // Masks matched (document 01, 'Names and ids'): '?' matches one byte, '*' any run, the empty one too, every other byte its fold.
 // Where a byte doesn't match, the match steps back only to the last star passed, whose run then takes one byte more: as many steps as the
-// product of the two lengths, each plus 1, always reach the answer.
+// product of the two lengths, each plus 1, always reach the answer. Where the text is used up and the mask's next byte is no star, the answer is
+// no at once.
 ghost use mathlib.Core.Path.{_≡_};
 ghost use Prim.Native.Nat.{_≤_};
 ghost use lib.ListN.{length};
@@ -87,8 +88,9 @@ fn step(mask: &[u8], text: &[u8], s: State) -> Progress
             run: j,
         });
     }
+    // The text is used up, and a longer run of the last star would leave less of it.
     if j == text.len() {
-        return back(s, text.len());
+        return Progress::Done(false);
     }
     if takes(mask[i], text[j]) {
         return Progress::On(State {

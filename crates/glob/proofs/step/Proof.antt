@@ -30,12 +30,9 @@ returns-3 : tie.Need-returns-3
 unfolding step
 returns-3 c = simp (ne-eqb _ _ (c .before .before .if1 .left), eq-eqb _ _ (c .if3 .taken))
 
-back-requires-2 : tie.Need-back-requires-2
-back-requires-2 c κs = search needs
-
 returns-4 : tie.Need-returns-4
 unfolding step
-returns-4 c = simp (ne-eqb _ _ (c .before .before .before .before .if1 .left), ne-eqb _ _ (c .before .before .if3 .left), eq-eqb _ _ (c .before .if4 .taken)) (c .back2 .ensures)
+returns-4 c = simp (ne-eqb _ _ (c .before .before .before .if1 .left), ne-eqb _ _ (c .before .if3 .left), eq-eqb _ _ (c .if4 .taken))
 
 shared-slice-read-takes : tie.Need-shared-slice-read-takes
 shared-slice-read-takes c = search needs
@@ -46,11 +43,11 @@ shared-slice-read-takes-2 c = search needs
 takes-requires : tie.Need-takes-requires
 takes-requires c κs = search needs
 
+add-t19 : tie.Need-add-t19
+add-t19 c = search needs
+
 add-t20 : tie.Need-add-t20
 add-t20 c = search needs
-
-add-t21 : tie.Need-add-t21
-add-t21 c = search needs
 
 returns-5 : tie.Need-returns-5
 unfolding step
@@ -58,14 +55,14 @@ returns-5 c =
     let p = c .before in
     simp (ne-eqb _ _ (p .before .before .before .before .before .before .if1 .left), ne-eqb _ _ (p .before .before .before .before .if3 .left), ne-eqb _ _ (p .before .before .before .if4 .left), sym (p .takes .ensures) ∙ c .if5 .taken)
 
-back-requires-3 : tie.Need-back-requires-3
-back-requires-3 c κs = search needs
+back-requires-2 : tie.Need-back-requires-2
+back-requires-2 c κs = search needs
 
 returns-6 : tie.Need-returns-6
 unfolding step
 returns-6 c =
     let p = c .before .before in
-    simp (ne-eqb _ _ (p .before .before .before .before .before .before .if1 .left), ne-eqb _ _ (p .before .before .before .before .if3 .left), ne-eqb _ _ (p .before .before .before .if4 .left), sym (p .takes .ensures) ∙ c .before .if5 .left) (c .back3 .ensures)
+    simp (ne-eqb _ _ (p .before .before .before .before .before .before .if1 .left), ne-eqb _ _ (p .before .before .before .before .if3 .left), ne-eqb _ _ (p .before .before .before .if4 .left), sym (p .takes .ensures) ∙ c .before .if5 .left) (c .back2 .ensures)
 
 pub step-spec : {M : Type 1} → statement M
 step-spec =
@@ -78,13 +75,12 @@ step-spec =
     add-t12
     add-t13
     returns-3
-    back-requires-2
     returns-4
     shared-slice-read-takes
     shared-slice-read-takes-2
     takes-requires
+    add-t19
     add-t20
-    add-t21
     returns-5
-    back-requires-3
+    back-requires-2
     returns-6)
