@@ -163,35 +163,28 @@ module _ (mask text : List ℕ) (s : State) (ok : Sound mask text s) where
   )
 
   -- ---- no match with the run as it is
-  module _ (no : rest mask text s ≡ false) where
-    run-ends : (s .star ≡ 0 → ⊥) → s .run ≡ length text → matches mask text ≡ false
-    run-ends ne e =
-        let z : drop (s .run) text ≡ [] = drop-of-length-le text {i = s .run} (omega arith) in
-        a-star ne ∙ rw z (run-nil (since mask s)) ∙ rw z at (ok .here ∙ no)
-
-    run-grows : (s .star ≡ 0 → ⊥) → s .run < length text → matches mask text ≡ afterRun (since mask s) (drop (s .run + 1) text)
-    run-grows ne lt =
-        let z = drop-step text (s .run) 0 lt in
+  module _ (lt : s .text < length text) (no : rest mask text s ≡ false) where
+    run-grows : (s .star ≡ 0 → ⊥) → matches mask text ≡ afterRun (since mask s) (drop (s .run + 1) text)
+    run-grows ne =
+        let z = drop-step text (s .run) 0 (omega (arith, run-in)) in
         a-star ne ∙ rw z (run-next (since mask s) (getD text (s .run) 0) (drop (s .run + 1) text) (rw z at (ok .here ∙ no)))
 
-    back-leads : Leads mask text s (back s (length text))
+    back-leads : Leads mask text s (back s)
     unfolding back
-    back-leads = go (eqb (s .star) 0) refl (eqb (s .run) (length text)) refl
+    back-leads = go (eqb (s .star) 0) refl
       where
-        go : (y : Bool) → eqb (s .star) 0 ≡ y → (z : Bool) → eqb (s .run) (length text) ≡ z → Leads mask text s (back s (length text))
-        go true e z f = rw e (sym (no-star (eqb-true (s .star) 0 e) ∙ no))
-        go false e true f = rw (e, f) (sym (run-ends (eqb-false (s .star) 0 e) (eqb-true (s .run) (length text) f)))
-        go false e false f =
-            let lt : s .run < length text = omega (arith, eqb-false (s .run) (length text) f, run-in, ok .in-text) in
-            rw (e, f) (
+        go : (z : Bool) → eqb (s .star) 0 ≡ z → Leads mask text s (back s)
+        go true e = rw e (sym (no-star (eqb-true (s .star) 0 e) ∙ no))
+        go false e =
+            rw e (
               record {
                 passed = omega arith;
                 in-mask = omega (arith, ok .passed, ok .in-mask);
-                in-text = omega arith;
+                in-text = omega (arith, run-in);
                 level = refl;
                 exact = λ t h. let z : s .star - s .star ≡ 0 = omega arith in rw z h;
                 here = refl;
-                whole = run-grows (eqb-false (s .star) 0 e) lt ∙ sym (rw e);
+                whole = run-grows (eqb-false (s .star) 0 e) ∙ sym (rw e);
               },
               omega (arith, ok .in-mask),
             )
@@ -212,8 +205,8 @@ module _ (mask text : List ℕ) (s : State) (ok : Sound mask text s) where
           → (j : Bool) → eqb (getD mask (s .mask) 0) star ≡ j → (k : Bool) → matchesByte (getD mask (s .mask) 0) (getD text (s .text) 0) ≡ k
           → Leads mask text s (step mask text s)
       go true m true t j b k e = rw (m, t) (sym (ends (eqb-true (s .mask) (length mask) m) (eqb-true (s .text) (length text) t)))
-      go true m false t j b k e = rw (m, t) (back-leads (rw (cons (in-text t)) (matches-over mask (s .mask) (omega (arith, eqb-true (s .mask) (length mask) m)) (getD text (s .text) 0) (drop (s .text + 1) text))))
+      go true m false t j b k e = rw (m, t) (back-leads (in-text t) (rw (cons (in-text t)) (matches-over mask (s .mask) (omega (arith, eqb-true (s .mask) (length mask) m)) (getD text (s .text) 0) (drop (s .text + 1) text))))
       go false m i t true b k e = rw (m, b) (star-leads (in-mask m) (eqb-true (getD mask (s .mask) 0) star b))
       go false m true t false b k e = rw (m, b, t) (sym (used-up (in-mask m) (eqb-false (getD mask (s .mask) 0) star b) (eqb-true (s .text) (length text) t)))
       go false m false t false b true e = rw (m, b, t, e) (byte-leads (in-mask m) (eqb-false (getD mask (s .mask) 0) star b) (in-text t) e)
-      go false m false t false b false e = rw (m, b, t, e) (back-leads (rw (cons (in-text t)) (matches-differ mask (s .mask) (in-mask m) (eqb-false (getD mask (s .mask) 0) star b) (getD text (s .text) 0) (drop (s .text + 1) text) e)))
+      go false m false t false b false e = rw (m, b, t, e) (back-leads (in-text t) (rw (cons (in-text t)) (matches-differ mask (s .mask) (in-mask m) (eqb-false (getD mask (s .mask) 0) star b) (getD text (s .text) 0) (drop (s .text + 1) text) e)))

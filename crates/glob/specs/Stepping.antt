@@ -1,14 +1,14 @@
 -- What the private functions of src/lib.rt promise: one step of a match, and many. No public contract cites this file: nobody needs to
 -- believe it.
 use Prim.Native.Nat.{ℕ, zero, suc, _+_, _*_, _≤_}
-use mathlib.Core.Bool.{true, false, cond, _||_}
+use mathlib.Core.Bool.{true, false, cond}
 use mathlib.Core.List.{List}
 use lib.ListN.{length, getD}
 use lib.Dec.{eqb}
 use Rattle.glob.specs.declared.State.{State}
 use Rattle.glob.specs.declared.Progress.{Progress}
 use Rattle.glob.specs.declared.Progress.the-variants.{On, Done}
-use Rattle.glob.specs.Mask.{star, matchesByte}
+use Rattle.glob.specs.Mask.{textLimit, star, matchesByte}
 
 -- a match in progress: the next byte of the mask and of the text, the place after the last star passed, and where that star's run ends
 abbrev pub state : ℕ → ℕ → ℕ → ℕ → State
@@ -17,26 +17,27 @@ state i j after run = record { mask = i; text = j; star = after; run = run }
 abbrev pub start : State
 start = state 0 0 0 0
 
--- The state's places lie in mask and text.
+-- The state's places lie in mask and text, and the text is within the limit.
 pub record Inside (mask text : List ℕ) (s : State) : Type 0 where
   pub in-mask : s .mask ≤ length mask
   pub in-text : s .text ≤ length text
-  pub run-in-text : s .run ≤ length text
+  pub run-before : s .run ≤ s .text
+  pub in-limit : length text ≤ textLimit
 
--- the last star's run takes one byte more of a text of n; where there is no star, or no byte, there is no match
-unfoldable pub back : State → ℕ → Progress
-back s n =
-    cond (eqb (s .star) 0 || eqb (s .run) n)
+-- the last star's run takes one byte more of the text; where there is no star, there is no match
+unfoldable pub back : State → Progress
+back s =
+    cond (eqb (s .star) 0)
     (Done false)
     (On (state (s .star) (s .run + 1) (s .star) (s .run + 1)))
 
 unfoldable pub step : List ℕ → List ℕ → State → Progress
 step mask text s =
-    cond (eqb (s .mask) (length mask)) (cond (eqb (s .text) (length text)) (Done true) (back s (length text)))
+    cond (eqb (s .mask) (length mask)) (cond (eqb (s .text) (length text)) (Done true) (back s))
     (cond (eqb (getD mask (s .mask) 0) star) (On (state (s .mask + 1) (s .text) (s .mask + 1) (s .text)))
     (cond (eqb (s .text) (length text)) (Done false)
     (cond (matchesByte (getD mask (s .mask) 0) (getD text (s .text) 0)) (On (state (s .mask + 1) (s .text + 1) (s .star) (s .run)))
-    (back s (length text)))))
+    (back s))))
 
 -- ---- many steps
 -- one more step, unless the answer is reached

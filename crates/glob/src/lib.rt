@@ -3,7 +3,7 @@
 // product of the two lengths, each plus 1, always reach the answer. Where the text is used up and the mask's next byte is no star, the answer is
 // no at once.
 ghost use mathlib.Core.Path.{_≡_};
-ghost use Prim.Native.Nat.{_≤_};
+ghost use Prim.Native.Nat.{_≤_, _<_};
 ghost use lib.ListN.{length};
 ghost use Rattle.glob.specs.Mask.{textLimit, matchesByte, matches as matchesOf, answerFor};
 ghost use Rattle.glob.specs.Stepping.{Inside, back as backOf, step as stepOf};
@@ -46,17 +46,14 @@ fn takes(m: u8, b: u8) -> bool
     fold(m) == fold(b)
 }
 
-// Back to the last star passed, whose run takes one byte more of the text; where there is no star, or no byte, there is no match.
-fn back(s: State, end: usize) -> Progress
-    requires { ⌜ s .run ≤ end ⌝ }
-    ensures { λ r. ⌜ r ≡ backOf s end ⌝ }
+// Back to the last star passed, whose run takes one byte more of the text; where there is no star, there is no match.
+fn back(s: State) -> Progress
+    requires { ⌜ s .run < textLimit ⌝ }
+    ensures { λ r. ⌜ r ≡ backOf s ⌝ }
 {
     let star = s.star;
     let run = s.run;
     if star == 0 {
-        return Progress::Done(false);
-    }
-    if run == end {
         return Progress::Done(false);
     }
     Progress::On(State {
@@ -78,7 +75,7 @@ fn step(mask: &[u8], text: &[u8], s: State) -> Progress
         if j == text.len() {
             return Progress::Done(true);
         }
-        return back(s, text.len());
+        return back(s);
     }
     if mask[i] == b'*' {
         return Progress::On(State {
@@ -100,7 +97,7 @@ fn step(mask: &[u8], text: &[u8], s: State) -> Progress
             run: s.run,
         });
     }
-    back(s, text.len())
+    back(s)
 }
 
 // Whether a mask and a text within the limit match, step by step.
