@@ -3,23 +3,27 @@ use mathlib.Core.Path.{_≡_, refl, sym, ap, _∙_}
 use mathlib.Core.Bool.{Bool, true, false, _&&_}
 use mathlib.Core.List.{List}
 use Prim.Native.Nat.{ℕ, _≤_, _<_, _^_}
-use borrow.Author.Tests.{lt-ltb, le-ltb, ltb-false}
-use Rattle.refusal.specs.Numbers.{notWellFormed, outputTooShort, badLink}
-use Rattle.refusal.specs.Rules.{firstOf}
-use Rattle.refusal.proofs.Rules.{append-some, append-none}
+use native.Mathlib.Omega.{arith}
+use borrow.Author.Tests.{lt-ltb, le-ltb, ltb-false, not-false}
+use Rattle.refusal.specs.Numbers.{accepted, notWellFormed, outputTooShort, badLink}
+use Rattle.refusal.specs.Rules.{firstOf, ascendFrom}
+use Rattle.refusal.proofs.Rules.{first-none, append-some, append-none}
 use Rattle.octets.specs.Bits.{hasBit}
 use Rattle.octets.proofs.Bitwise.{bit-past}
 use Rattle.message.specs.Grammar.{lineLimit}
 use Rattle.message.specs.Reading.{lineRules, numberFor, isRead, contentOf}
 use Rattle.message.proofs.Readings.{rules-ascend, number-none, refused-number}
 use Rattle.links.specs.Links.{linkCount, isLink}
+use Rattle.channel.specs.declared.Record.{Record}
 use Rattle.table.specs.declared.Table.{Table}
 use Rattle.table.specs.Table.{goodTable}
 use Rattle.relay.specs.declared.Command.{Command}
+use Rattle.relay.specs.declared.Request.{Request}
 use Rattle.relay.specs.declared.Change.{Change}
 use Rattle.relay.specs.Relay.{commandRules, commandIn, takenRules, processRules}
-use Rattle.relay.specs.Private.{Judged}
+use Rattle.relay.specs.Private.{entryRules, Requested, Judged}
 
+-- ---- table, output and link
 -- a set of 32 bits has no link above 31
 linked : (set link : ℕ) → set < 2 ^ linkCount → isLink link && hasBit set link ≡ hasBit set link
 linked set link s = go (isLink link) refl
@@ -28,43 +32,65 @@ linked set link s = go (isLink link) refl
     go true e = rw e
     go false e = rw e (sym (bit-past set linkCount link s (ltb-false link linkCount e)))
 
+module _ (good : Bool) (set link n : ℕ) where
+  pub entry-ill-formed : good ≡ false → firstOf (entryRules good set link n) ≡ notWellFormed
+  unfolding firstOf entryRules
+  entry-ill-formed g = rw g
+
+  module _ (g : good ≡ true) where
+    pub entry-short : n < lineLimit → firstOf (entryRules good set link n) ≡ outputTooShort
+    unfolding firstOf entryRules
+    entry-short h = rw (g, lt-ltb n lineLimit h)
+
+    module _ (h : lineLimit ≤ n) (s : set < 2 ^ linkCount) where
+      pub entry-unlinked : hasBit set link ≡ false → firstOf (entryRules good set link n) ≡ badLink
+      unfolding firstOf entryRules
+      entry-unlinked l = rw (g, le-ltb n lineLimit h, linked set link s, l)
+
+      pub entry-passes : hasBit set link ≡ true → firstOf (entryRules good set link n) ≡ accepted
+      unfolding firstOf entryRules
+      entry-passes l = rw (g, le-ltb n lineLimit h, linked set link s, l)
+
+  pub entry-good : firstOf (entryRules good set link n) ≡ accepted → good ≡ true
+  unfolding entryRules
+  entry-good e = not-false _ (first-none _ _ (λ z. omega arith) e .0)
+
+-- those numbers come first
 module _ (t : Table) (link : ℕ) (line : List ℕ) (n : ℕ) where
-  pub enters-ill-formed : goodTable t ≡ false → firstOf (processRules t link line n) ≡ notWellFormed
-  unfolding firstOf processRules
-  enters-ill-formed g = rw g
+  abbrev entry : ℕ
+  entry = firstOf (entryRules (goodTable t) (t .links .set) link n)
 
-  module _ (g : goodTable t ≡ true) where
-    pub enters-short : n < lineLimit → firstOf (processRules t link line n) ≡ outputTooShort
-    unfolding firstOf processRules
-    enters-short h = rw (g, lt-ltb n lineLimit h)
+  pub entry-refuses : (entry ≡ accepted → ⊥) → firstOf (processRules t link line n) ≡ entry
+  unfolding entryRules processRules
+  entry-refuses ne = append-some (takenRules (t .slots) line) (entryRules (goodTable t) (t .links .set) link n) ne
 
-    module _ (h : lineLimit ≤ n) (s : t .links .set < 2 ^ linkCount) where
-      pub enters-unlinked : hasBit (t .links .set) link ≡ false → firstOf (processRules t link line n) ≡ badLink
-      unfolding firstOf processRules
-      enters-unlinked l = rw (g, le-ltb n lineLimit h, linked (t .links .set) link s, l)
+  pub enters : entry ≡ accepted → firstOf (processRules t link line n) ≡ firstOf (takenRules (t .slots) line)
+  unfolding entryRules processRules ascendFrom
+  enters e = append-none (takenRules (t .slots) line) (entryRules (goodTable t) (t .links .set) link n) refl e
 
-      module _ (l : hasBit (t .links .set) link ≡ true) where
-        enters : firstOf (processRules t link line n) ≡ firstOf (takenRules (t .slots) line)
-        unfolding firstOf processRules
-        enters = rw (g, le-ltb n lineLimit h, linked (t .links .set) link s, l)
+-- ---- the reader's numbers
+module _ (line : List ℕ) where
+  pub reader-refuses : isRead line ≡ false → (slots : List Record) → firstOf (takenRules slots line) ≡ numberFor line
+  unfolding takenRules numberFor
+  reader-refuses r slots = append-some (commandRules (commandIn line) slots (contentOf line)) (lineRules line) (refused-number line r)
 
-        pub enters-unread : isRead line ≡ false → firstOf (processRules t link line n) ≡ numberFor line
-        unfolding takenRules numberFor
-        enters-unread r = enters ∙ append-some (commandRules (commandIn line) (t .slots) (contentOf line)) (lineRules line) (refused-number line r)
+  module _ (r : isRead line ≡ true) where
+    pub command-decides : (slots : List Record) → firstOf (takenRules slots line) ≡ firstOf (commandRules (commandIn line) slots (contentOf line))
+    unfolding takenRules numberFor
+    command-decides slots = append-none (commandRules (commandIn line) slots (contentOf line)) (lineRules line) (rules-ascend line) (number-none line r)
 
-        module _ (r : isRead line ≡ true) (k : Command) (is : commandIn line ≡ k) where
-          enters-command : firstOf (processRules t link line n) ≡ firstOf (commandRules k (t .slots) (contentOf line))
-          unfolding takenRules numberFor
-          enters-command =
-              enters
-              ∙ append-none (commandRules (commandIn line) (t .slots) (contentOf line)) (lineRules line) (rules-ascend line) (number-none line r)
-              ∙ ap (λ (c : Command). firstOf (commandRules c (t .slots) (contentOf line))) is
+    -- what a command asks for is what the line does
+    pub command-asks : (k : Command) → commandIn line ≡ k → (q : Request) → Requested (λ slots. commandRules k slots (contentOf line)) k line q
+        → Requested (λ slots. takenRules slots line) (commandIn line) line q
+    command-asks k is q a = record {
+      refused = λ ne slots. command-decides slots ∙ ap (λ (c : Command). firstOf (commandRules c slots (contentOf line))) is ∙ a .refused ne slots;
+      asks = λ e. rw is (a .asks e);
+    }
 
-          -- a command's own judgement is that of the line
-          pub enters-judged : (j : Change) → Judged (commandRules k (t .slots) (contentOf line)) k (t .slots) (contentOf line) j
-              → Judged (processRules t link line n) (commandIn line) (t .slots) (contentOf line) j
-          enters-judged j q = record {
-            number = q .number ∙ sym enters-command;
-            inside = q .inside;
-            changes = λ a. rw is (q .changes (sym enters-command ∙ a));
-          }
+-- a command's judgement is that of the line
+pub enters-judged : (t : Table) (link : ℕ) (line : List ℕ) (n : ℕ) → firstOf (entryRules (goodTable t) (t .links .set) link n) ≡ accepted → isRead line ≡ true → (j : Change)
+    → Judged (commandRules (commandIn line) (t .slots) (contentOf line)) (commandIn line) (t .slots) (contentOf line) j
+    → Judged (processRules t link line n) (commandIn line) (t .slots) (contentOf line) j
+enters-judged t link line n e r j q =
+    let same = enters t link line n e ∙ command-decides line r (t .slots) in
+    record { number = q .number ∙ sym same; inside = q .inside; changes = λ a. q .changes (sym same ∙ a) }

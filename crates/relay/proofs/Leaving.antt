@@ -19,11 +19,11 @@ use Rattle.channel.specs.Members.{hasMember}
 use Rattle.channel.specs.Record.{decode, emptyRecord}
 use Rattle.table.specs.declared.Slot.{Slot}
 use Rattle.table.specs.declared.Slot.the-variants.{Held}
-use Rattle.table.specs.Slots.{slotFor, isHeld}
+use Rattle.table.specs.Slots.{slotFor, heldIn, isHeld}
 use Rattle.relay.specs.declared.Command.the-variants.{Part}
 use Rattle.relay.specs.declared.Change.{Change}
 use Rattle.relay.specs.Commands.{isUser, sourceIn, partedIn}
-use Rattle.relay.specs.Relay.{heldAt, partRules, quitRules}
+use Rattle.relay.specs.Relay.{partRules, quitRules}
 use Rattle.relay.specs.Private.{PartsHeld, Judged}
 
 -- ---- the source
@@ -82,9 +82,9 @@ module _ (slots : List Record) (c : Content) where
           unfolding firstOf partRules
           part-absent e = rw (le-leb 1 (length (c .params)) h, le-leb (length (c .params)) 2 l, u, n, e)
 
-          pub part-held : (s : Slot) → slotFor slots (partedIn c) ≡ s → isHeld s ≡ true → firstOf (partRules slots c) ≡ cond (hasMember (sourceIn c) (decode (heldAt slots s) .members)) accepted notOnChannel
+          pub part-held : (s : Slot) → slotFor slots (partedIn c) ≡ s → isHeld s ≡ true → firstOf (partRules slots c) ≡ cond (hasMember (sourceIn c) (decode (heldIn slots s) .members)) accepted notOnChannel
           unfolding firstOf partRules
-          part-held s e i = rw (le-leb 1 (length (c .params)) h, le-leb (length (c .params)) 2 l, u, n, e, i) (go (hasMember (sourceIn c) (decode (heldAt slots s) .members)))
+          part-held s e i = rw (le-leb 1 (length (c .params)) h, le-leb (length (c .params)) 2 l, u, n, e, i) (go (hasMember (sourceIn c) (decode (heldIn slots s) .members)))
             where
               go : (t : Bool) → cond (not t) notOnChannel accepted ≡ cond t accepted notOnChannel
               go true = refl

@@ -4,6 +4,7 @@ pub mod Judgements
 pub mod Entering
 pub mod Used
 pub mod Leaving
+pub mod Settling
 pub mod Relayed
 pub mod Taking
 pub mod Enacted

@@ -3,14 +3,14 @@
 -- and the slot that is opened takes a name that none holds. Assumes nothing.
 use Prim.Native.Nat.{ℕ, _≤_, _<_}
 use mathlib.Core.Path.{_≡_, refl, sym, ap, _∙_}
-use mathlib.Core.Bool.{Bool, true, false, not, cond, _&&_, true≢false}
+use mathlib.Core.Bool.{Bool, true, false, not, cond, _&&_, true≢false, false≢true}
 use mathlib.Core.Logic.{_⊎_, inl, inr}
 use mathlib.Core.List.{List, _++_, map}
 use native.Mathlib.Omega.{arith}
 use lib.ListN.{length, getD, set}
 use lib.Seq.{getD-set-same, getD-set-other}
 use lib.Dec.{eqb, ltb}
-use borrow.Author.Tests.{eqb-true, ltb-false}
+use borrow.Author.Tests.{eqb-true, ltb-false, not-false}
 use Rattle.refusal.specs.Numbers.{accepted, notWellFormed, outputTooShort, badLink}
 use Rattle.refusal.specs.Rules.{firstOf, emitted, ascend, ascendFrom}
 use Rattle.refusal.proofs.Rules.{first-none}
@@ -37,7 +37,7 @@ use Rattle.table.specs.declared.Table.{Table}
 use Rattle.table.specs.declared.Slot.{Slot}
 use Rattle.table.specs.declared.Slot.the-variants.{Held, Free, Full}
 use Rattle.table.specs.Table.{isFree, goodSlot, holds, distinct, goodTable}
-use Rattle.table.specs.Slots.{slotFor, isFull, placeOf}
+use Rattle.table.specs.Slots.{slotFor, heldIn, isHeld, isFull, placeOf}
 use Rattle.table.proofs.Searching.{slot-held, slot-free}
 use Rattle.table.proofs.WellFormed.{holding-used, holding-name}
 use Rattle.table.proofs.Using.{held-well}
@@ -98,14 +98,30 @@ module _ (slots : List Record) (good : all goodSlot slots ≡ true) (c : Channel
   joined-good = all-set goodSlot slots (placeOf slots (slotFor slots (c .name))) result good result-well
 
 -- ---- a well-formed table stays well formed
+-- a PART that no rule refuses names a channel that is there
+part-none : (slots : List Record) (c : Content) → firstOf (partRules slots c) ≡ accepted → isHeld (slotFor slots (partedIn c)) ≡ true
+unfolding partRules
+part-none slots c none =
+    let counted = first-none _ _ (λ z. omega arith) none in
+    let sourced = first-none _ _ (λ z. omega arith) (counted .1) in
+    let named = first-none _ _ (λ z. omega arith) (sourced .1) in
+    not-false _ (first-none _ _ (λ z. omega arith) (named .1) .0)
+
 module _ (slots : List Record) (good : all goodSlot slots ≡ true) (apart : distinct slots ≡ true) where
-  parted-good : (c : Content) → (all goodSlot (parted slots c) ≡ true) × (distinct (parted slots c) ≡ true)
+  parted-good : (c : Content) → isHeld (slotFor slots (partedIn c)) ≡ true → (all goodSlot (parted slots c) ≡ true) × (distinct (parted slots c) ≡ true)
   unfolding parted
-  parted-good c =
-      let k = placeOf slots (slotFor slots (partedIn c)) in
-      let id = sourceIn c in
-      let r = getD slots k emptyRecord in
-      (all-set goodSlot slots k (without id r) good (without-good id r (good-at slots k good)), distinct-kept slots (set slots k (without id r)) (kept-set slots k (without id r) (without-keeps id r)) apart)
+  parted-good c = go (slotFor slots (partedIn c))
+    where
+      id : List ℕ
+      id = sourceIn c
+
+      go : (s : Slot) → isHeld s ≡ true
+          → (all goodSlot (set slots (placeOf slots s) (without id (heldIn slots s))) ≡ true) × (distinct (set slots (placeOf slots s) (without id (heldIn slots s))) ≡ true)
+      go (Held k) h =
+          let r = getD slots k emptyRecord in
+          (all-set goodSlot slots k (without id r) good (without-good id r (good-at slots k good)), distinct-kept slots (set slots k (without id r)) (kept-set slots k (without id r) (without-keeps id r)) apart)
+      go (Free k) h = absurd (false≢true h)
+      go Full h = absurd (false≢true h)
 
   quit-good : (id : List ℕ) → (all goodSlot (map (without id) slots) ≡ true) × (distinct (map (without id) slots) ≡ true)
   quit-good id = (all-map goodSlot (without id) (without-good id) slots good, distinct-kept slots (map (without id) slots) (kept-map (without id) (without-keeps id) slots) apart)
@@ -131,7 +147,7 @@ taken-good t line well none = go (commandIn line) (rules-none slots line none .1
         let n = join-none slots (contentOf line) h in
         let p = read-proper line (rules-none slots line none .0) (n .0) in
         both (joined slots (channelIn (contentOf line))) (joined-good slots good (channelIn (contentOf line)) p (n .1), joined-distinct slots good (channelIn (contentOf line)) p (n .1) apart)
-    go Part h = both (parted slots (contentOf line)) (parted-good slots good apart (contentOf line))
+    go Part h = both (parted slots (contentOf line)) (parted-good slots good apart (contentOf line) (part-none slots (contentOf line) h))
     go Quit h = both (map (without (sourceIn (contentOf line))) slots) (quit-good slots good apart (sourceIn (contentOf line)))
     go Unknown h = well
 

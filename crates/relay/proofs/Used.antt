@@ -11,7 +11,6 @@ use Rattle.refusal.specs.Numbers.{accepted, noFreeSlot}
 use Rattle.refusal.specs.Rules.{firstOf}
 use Rattle.refusal.proofs.Rules.{append-some, append-none}
 use Rattle.octets.specs.Lists.{all}
-use Rattle.octets.specs.Room.{part}
 use Rattle.message.specs.Content.{Content}
 use Rattle.message.specs.Reading.{isRead, contentOf}
 use Rattle.channel.specs.declared.Record.{Record}
@@ -20,7 +19,6 @@ use Rattle.channel.specs.Limits.{memberLimit, slotCount}
 use Rattle.channel.specs.Channel.{Channel}
 use Rattle.channel.specs.Record.{encode, decode, emptyRecord}
 use Rattle.channel.specs.Merging.{merge, mergeRules, mergeAnswer}
-use Rattle.channel.proofs.Decoded.{decoded-name}
 use Rattle.channel.proofs.Proper.{Proper, proper-fits, encode-well}
 use Rattle.channel.proofs.Records.{decode-encode}
 use Rattle.table.specs.declared.Slot.the-variants.{Held, Free, Full}
@@ -101,10 +99,8 @@ module _ (slots : List Record) (line : List ℕ) (told : Told) (is : told ≡ to
   number : told .number ≡ firstOf (joinRules content)
   number = ap (λ (t : Told). t .number) is ∙ told-number line read
 
-  pub join-refused : (told .number ≡ accepted → ⊥) → (j : Change) → j ≡ unchanged (told .number) → Sjoined j
-  join-refused ne j e =
-      refused-judged (joinRules content ++ joinedRules slots incoming) Sjoin slots content (told .number) j e ne
-      (append-some (joinedRules slots incoming) (joinRules content) (λ f. ne (number ∙ f)) ∙ sym number)
+  pub join-refused : (told .number ≡ accepted → ⊥) → firstOf (joinRules content ++ joinedRules slots incoming) ≡ told .number
+  join-refused ne = append-some (joinedRules slots incoming) (joinRules content) (λ f. ne (number ∙ f)) ∙ sym number
 
   module _ (none : told .number ≡ accepted) where
     proper : Proper incoming
@@ -113,17 +109,13 @@ module _ (slots : List Record) (line : List ℕ) (told : Told) (is : told ≡ to
     pub incoming-is : told .«record» ≡ encode incoming
     incoming-is = ap (λ (t : Told). t .«record») is ∙ told-says line read (sym (ap (λ (t : Told). t .number) is) ∙ none)
 
-    -- the part of the room for it that its name takes up
-    pub incoming-name : (name : List ℕ) → name ≡ part (told .«record» .name) 0 (told .«record» .«name_len») → name ≡ incoming .name
-    incoming-name name e = e ∙ sym (decoded-name (told .«record»)) ∙ ap (λ (r : Record). decode r .name) incoming-is ∙ ap (λ (c : Channel). c .name) (back slots incoming proper)
-
     rest : firstOf (joinRules content ++ joinedRules slots incoming) ≡ firstOf (joinedRules slots incoming)
     rest = append-none (joinedRules slots incoming) (joinRules content) (rules-ascend content) (sym number ∙ none)
 
     pub join-full : slotFor slots (incoming .name) ≡ Full → (j : Change) → j ≡ unchanged noFreeSlot → Sjoined j
     join-full e j f = refused-judged _ Sjoin slots content noFreeSlot j f (λ z. omega (arith, z)) (rest ∙ full-rules slots incoming e)
 
-    decoded : decode (told .«record») ≡ incoming
+    pub decoded : decode (told .«record») ≡ incoming
     decoded = ap decode incoming-is ∙ back slots incoming proper
 
     module _ (sixteen : length slots ≡ slotCount) (k : ℕ) where

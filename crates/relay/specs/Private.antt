@@ -1,12 +1,15 @@
 -- What private functions ask and promise: a judgement, and what is made of it. No public contract cites this file: nobody needs to believe it.
-use Prim.Native.Nat.{ℕ, _<_}
+use Prim.Native.Nat.{ℕ, _≤_, _<_}
 use mathlib.Core.Path.{_≡_}
-use mathlib.Core.Bool.{true, cond}
-use mathlib.Core.List.{List, map}
-use lib.ListN.{set, replicate}
-use Rattle.refusal.specs.Numbers.{accepted, notOnChannel}
-use Rattle.refusal.specs.Rules.{Rule, firstOf}
-use Rattle.names.specs.Names.{userIdLength}
+use mathlib.Core.Bool.{Bool, true, not, cond, _&&_}
+use mathlib.Core.List.{List, [], _∷_, map}
+use lib.ListN.{length, set, replicate}
+use lib.Dec.{ltb}
+use Rattle.refusal.specs.Numbers.{accepted, notWellFormed, outputTooShort, badLink, unknownCommand, noSuchChannel, notOnChannel, noFreeSlot}
+use Rattle.refusal.specs.Rules.{Rule, _when_, firstOf}
+use Rattle.octets.specs.Bits.{hasBit}
+use Rattle.names.specs.Names.{userIdLength, isChannel}
+use Rattle.message.specs.Grammar.{lineLimit}
 use Rattle.message.specs.Content.{Content}
 use Rattle.message.specs.Reading.{contentOf}
 use Rattle.writer.specs.Form.{written}
@@ -17,14 +20,64 @@ use Rattle.channel.specs.Channel.{Channel}
 use Rattle.channel.specs.Record.{encode, decode, emptyRecord}
 use Rattle.channel.specs.declared.Merged.{Merged}
 use Rattle.channel.specs.Members.{hasMember, without}
-use Rattle.table.specs.Slots.{slotFor, placeOf}
-use Rattle.sjoin.specs.Join.{channelIn}
+use Rattle.channel.specs.Merging.{mergeAnswer}
+use Rattle.links.specs.Links.{isLink}
+use Rattle.table.specs.declared.Found.{Found}
+use Rattle.table.specs.declared.Slot.{Slot}
+use Rattle.table.specs.declared.Slot.the-variants.{Held, Free, Full}
+use Rattle.table.specs.Slots.{slotFor, heldIn, placeOf}
+use Rattle.sjoin.specs.Join.{channelIn, toldBy}
 use Rattle.sjoin.specs.Telling.{joinMessage, tellRules}
 use Rattle.relay.specs.declared.Command.{Command}
 use Rattle.relay.specs.declared.Command.the-variants.{Sjoin, Part, Quit, Unknown}
+use Rattle.relay.specs.declared.Request.{Request}
 use Rattle.relay.specs.declared.Change.{Change}
-use Rattle.relay.specs.Commands.{sourceIn, partedIn}
-use Rattle.relay.specs.Relay.{heldAt, resulting, outgoing, quitRules}
+use Rattle.relay.specs.Commands.{isUser, sourceIn, partedIn}
+use Rattle.relay.specs.Relay.{resulting, outgoing, quitRules}
+
+-- ---- table, output and link
+-- the rules that come before those of the line
+unfoldable pub entryRules : Bool → ℕ → ℕ → ℕ → List Rule
+entryRules good set link n =
+    notWellFormed when not good
+    ∷ outputTooShort when ltb n lineLimit
+    ∷ badLink when not (isLink link && hasBit set link)
+    ∷ []
+
+-- ---- what a line asks for
+abbrev pub nothing : ℕ → Request
+nothing number = record { «record» = emptyRecord; user = replicate userIdLength 0; command = Unknown; number = number }
+
+-- The record that an SJOIN tells of.
+pub record AsksJoin (line : List ℕ) (q : Request) : Type 0 where
+  pub command : q .command ≡ Sjoin
+  pub tells : record { number = accepted; «record» = q .«record» } ≡ toldBy line
+
+-- The channel's name, and the user who leaves it.
+pub record AsksPart (c : Content) (q : Request) : Type 0 where
+  pub command : q .command ≡ Part
+  pub names : decode (q .«record») .name ≡ partedIn c
+  pub leaves : q .user ≡ sourceIn c
+  pub counted : (1 ≤ length (c .params)) × (length (c .params) ≤ 2)
+  pub sourced : isUser (c .prefix) ≡ true
+  pub named : isChannel (partedIn c) ≡ true
+
+-- The user who leaves every channel.
+pub record AsksQuit (c : Content) (q : Request) : Type 0 where
+  pub command : q .command ≡ Quit
+  pub leaves : q .user ≡ sourceIn c
+  pub passes : firstOf (quitRules c) ≡ accepted
+
+abbrev pub Asks : Command → List ℕ → Request → Type 0
+Asks Sjoin line q = AsksJoin line q
+Asks Part line q = AsksPart (contentOf line) q
+Asks Quit line q = AsksQuit (contentOf line) q
+Asks Unknown line q = ⊥
+
+-- The number is that of the first rule that applies, whatever the slots are; where it is none, the line asks for what its message says.
+pub record Requested (rules : List Record → List Rule) (command : Command) (line : List ℕ) (q : Request) : Type 0 where
+  pub refused : (q .number ≡ accepted → ⊥) → (slots : List Record) → firstOf (rules slots) ≡ q .number
+  pub asks : q .number ≡ accepted → Asks command line q
 
 -- ---- a judgement
 abbrev pub unchanged : ℕ → Change
@@ -60,16 +113,34 @@ pub record PartsHeld (k : ℕ) (held : Record) (user : List ℕ) (j : Change) : 
   pub inside : j .slot < slotCount
   pub change : hasMember user (decode held .members) ≡ true → Parts k (without user held) j
 
--- The user is to leave every channel, unless a rule applies.
-pub record QuitJudged (c : Content) (j : Change) : Type 0 where
-  pub number : j .number ≡ firstOf (quitRules c)
-  pub inside : j .slot < slotCount
-  pub change : firstOf (quitRules c) ≡ accepted → Quits (sourceIn c) j
+-- the slot, where there is one, is one of the table's
+abbrev pub Inside : Slot → Type 0
+Inside (Held k) = k < slotCount
+Inside (Free k) = k < slotCount
+Inside Full = 0 < slotCount
+
+-- by the slot that the name uses, and the record that has it
+abbrev pub JoinsFound : Slot → Record → Record → Change → Type 0
+JoinsFound (Held k) held incoming j = JoinsHeld k (mergeAnswer held incoming) (decode incoming) j
+JoinsFound (Free k) held incoming j = (j .number ≡ accepted) × Joins k incoming (decode incoming) j
+JoinsFound Full held incoming j = j ≡ unchanged noFreeSlot
+
+abbrev pub PartsFound : Slot → Record → List ℕ → Change → Type 0
+PartsFound (Held k) held user j = PartsHeld k held user j
+PartsFound (Free k) held user j = j ≡ unchanged noSuchChannel
+PartsFound Full held user j = j ≡ unchanged noSuchChannel
+
+-- what a request comes to, by its command
+abbrev pub Settled : Command → Request → Found → Change → Type 0
+Settled Sjoin q f j = JoinsFound (f .slot) (f .«record») (q .«record») j
+Settled Part q f j = PartsFound (f .slot) (f .«record») (q .user) j
+Settled Quit q f j = (j .number ≡ accepted) × (j .slot < slotCount) × Quits (q .user) j
+Settled Unknown q f j = j ≡ unchanged unknownCommand
 
 -- the change that a message of a command makes
 abbrev pub Changes : Command → List Record → Content → Change → Type 0
 Changes Sjoin slots c j = Joins (placeOf slots (slotFor slots (channelIn c .name))) (encode (resulting slots (channelIn c))) (channelIn c) j
-Changes Part slots c j = Parts (placeOf slots (slotFor slots (partedIn c))) (without (sourceIn c) (heldAt slots (slotFor slots (partedIn c)))) j
+Changes Part slots c j = Parts (placeOf slots (slotFor slots (partedIn c))) (without (sourceIn c) (heldIn slots (slotFor slots (partedIn c)))) j
 Changes Quit slots c j = Quits (sourceIn c) j
 Changes Unknown slots c j = ⊥
 

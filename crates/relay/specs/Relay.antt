@@ -24,18 +24,13 @@ use Rattle.table.specs.declared.Table.{Table}
 use Rattle.table.specs.declared.Slot.{Slot}
 use Rattle.table.specs.declared.Slot.the-variants.{Held, Free, Full}
 use Rattle.table.specs.Table.{goodTable}
-use Rattle.table.specs.Slots.{slotFor, isHeld, isFull, placeOf}
+use Rattle.table.specs.Slots.{slotFor, heldIn, isHeld, isFull, placeOf}
 use Rattle.sjoin.specs.Join.{joinRules, channelIn}
 use Rattle.sjoin.specs.Telling.{joinMessage}
 use Rattle.relay.specs.declared.Command.{Command}
 use Rattle.relay.specs.declared.Command.the-variants.{Sjoin, Part, Quit, Unknown}
 use Rattle.relay.specs.declared.Taken.{Taken}
 use Rattle.relay.specs.Commands.{commandOf, isUser, sourceIn, partedIn}
-
--- ---- the slot used
--- what it holds
-abbrev pub heldAt : List Record → Slot → Record
-heldAt slots s = getD slots (placeOf slots s) emptyRecord
 
 -- ---- SJOIN
 -- what an incoming channel comes to in its slot: merged into the one that is there, or itself where it is new
@@ -74,14 +69,14 @@ partRules slots c =
     ∷ badSource when not (isUser (c .prefix))
     ∷ badName when not (isChannel (partedIn c))
     ∷ noSuchChannel when not (isHeld (slotFor slots (partedIn c)))
-    ∷ notOnChannel when not (hasMember (sourceIn c) (decode (heldAt slots (slotFor slots (partedIn c))) .members))
+    ∷ notOnChannel when not (hasMember (sourceIn c) (decode (heldIn slots (slotFor slots (partedIn c))) .members))
     ∷ []
 
 -- the member goes, and an emptied slot is zeroed
 unfoldable pub parted : List Record → Content → List Record
 parted slots c =
     let s : Slot = slotFor slots (partedIn c) in
-    set slots (placeOf slots s) (without (sourceIn c) (heldAt slots s))
+    set slots (placeOf slots s) (without (sourceIn c) (heldIn slots s))
 
 -- ---- QUIT
 unfoldable pub quitRules : Content → List Rule

@@ -1,92 +1,64 @@
-// The judgement of a line: the number of its refusal, or what is to change. It reads the table, the line, the link and how much output is lent, and
-// writes nothing.
+// The judgement: table, output and link first; and, of what a line asks for, what it comes to in the slot that its channel's name uses. Nothing is
+// written.
 ghost use mathlib.Core.Path.{_≡_};
-ghost use mathlib.Core.Bool.{true};
-ghost use mathlib.Core.List.{map};
-ghost use lib.ListN.{length};
 ghost use Prim.Native.Nat.{_<_};
 ghost use Rattle.refusal.specs.Numbers.{accepted};
-ghost use Rattle.octets.specs.Bytes.{capital as capitalOf};
-ghost use Rattle.octets.specs.Lists.{same};
-ghost use Rattle.message.specs.Reading.{isRead, contentOf, messageOf};
+ghost use Rattle.refusal.specs.Rules.{firstOf};
 ghost use Rattle.channel.specs.Limits.{slotCount};
 ghost use Rattle.channel.specs.Record.{decode};
 ghost use Rattle.channel.specs.Merging.{bare as bareOf, mergeAnswer};
-ghost use Rattle.table.specs.Table.{goodTable};
-ghost use Rattle.relay.specs.declared.Command.the-variants.{Sjoin, Part};
-ghost use Rattle.relay.specs.Commands.{commandOf};
-ghost use Rattle.relay.specs.Relay.{outgoing as outgoingOf, commandRules, commandIn, processRules};
-ghost use Rattle.relay.specs.Private.{unchanged, Joins, JoinsHeld, PartsHeld, QuitJudged, Judged};
+ghost use Rattle.table.specs.Slots.{foundFor};
+ghost use Rattle.relay.specs.Relay.{outgoing as outgoingOf};
+ghost use Rattle.relay.specs.Private.{entryRules, unchanged, Inside, Joins, JoinsHeld, JoinsFound, PartsHeld, PartsFound, Quits, Settled};
 use crate::Change;
 use crate::Command;
-use crate::spans::command_at;
-use crate::spans::name_at;
-use crate::spans::prefix_at;
+use crate::Request;
 use channel::Member;
 use channel::Record;
 use channel::members::has_member;
 use channel::members::without;
 use channel::merge;
+use links::Links;
 use links::has_link;
 use message::LINE_LIMIT;
-use message::Message;
-use message::Reading;
-use message::parts;
-use message::read;
 use names::USER_ID;
-use names::is_channel;
-use names::is_user_id;
-use names::user_id;
-use octets::capital;
 use octets::part;
 use refusal::ACCEPTED;
 use refusal::BAD_LINK;
-use refusal::BAD_NAME;
-use refusal::BAD_SOURCE;
 use refusal::NO_FREE_SLOT;
 use refusal::NO_SUCH_CHANNEL;
 use refusal::NOT_ON_CHANNEL;
 use refusal::NOT_WELL_FORMED;
 use refusal::OUTPUT_TOO_SHORT;
 use refusal::UNKNOWN_COMMAND;
-use refusal::WRONG_PARAM_COUNT;
-use sjoin::read_join;
+use table::Found;
 use table::Slot;
 use table::Table;
 use table::find;
-use table::is_well_formed;
 
-// Whether a word is the name in capitals, letters compared without case.
-fn is_word(word: &[u8], name: &[u8]) -> bool
-    ensures { λ r. ⌜ r ≡ same (map capitalOf (now (word .entry))) (now (name .entry)) ⌝ }
+// The first of the numbers 1 to 3 that applies, or ACCEPTED: by whether the table is well formed, the registered links, the link that a line came by,
+// and n bytes of lent output.
+pub(crate) fn entry_number(good: bool, links: Links, link: u32, n: usize) -> u8
+    ensures { λ r. ⌜ r ≡ firstOf (entryRules good (links .set) link n) ⌝ }
 {
-    if word.len() != name.len() {
-        return false;
+    if !good {
+        return NOT_WELL_FORMED;
     }
-    let mut i = 0;
-    while i < word.len() {
-        if capital(word[i]) != name[i] {
-            return false;
-        }
-        i += 1;
+    if n < LINE_LIMIT {
+        return OUTPUT_TOO_SHORT;
     }
-    true
+    if !has_link(links.set, link) {
+        return BAD_LINK;
+    }
+    ACCEPTED
 }
 
-// Which command a word is.
-fn command_of(word: &[u8]) -> Command
-    ensures { λ r. ⌜ r ≡ commandOf (now (word .entry)) ⌝ }
+// The slot that a channel's name uses.
+pub(crate) fn slot_of(t: Table, channel: Record) -> Found
+    ensures { λ r. ⌜ r ≡ foundFor (t .slots) (decode channel .name) ⌝ }
 {
-    if is_word(word, b"SJOIN") {
-        return Command::Sjoin;
-    }
-    if is_word(word, b"PART") {
-        return Command::Part;
-    }
-    if is_word(word, b"QUIT") {
-        return Command::Quit;
-    }
-    Command::Unknown
+    let name = channel.name;
+    find(t, part(&name, 0, channel.name_len))
 }
 
 // Nothing is to change.
@@ -172,23 +144,13 @@ fn joins_held(k: usize, held: Record, incoming: Record) -> Change
     joins(k, merged.result, incoming)
 }
 
-// SJOIN: its own rules, then the slot used.
-fn judge_join(t: Table, line: &[u8]) -> Change
-    requires { ⌜ (goodTable t ≡ true) × (isRead (now line) ≡ true) ⌝ }
-    ensures { λ r. ⌜ Judged (commandRules Sjoin (t .slots) (contentOf (now (line .entry)))) Sjoin (t .slots) (contentOf (now (line .entry))) r ⌝ }
+// An incoming record is to be merged into the one that has its name, or opens the lowest free slot.
+fn joins_found(slot: Slot, held: Record, incoming: Record) -> Change
+    requires { ⌜ Inside slot ⌝ }
+    ensures { λ r. ⌜ JoinsFound slot held incoming r ⌝ }
 {
-    let told = read_join(line);
-    let number = told.number;
-    if number != ACCEPTED {
-        return refusal(number);
-    }
-    let incoming = told.record;
-    let name = incoming.name;
-    match find(t, part(&name, 0, incoming.name_len)) {
-        Slot::Held(k) => {
-            let held = t.slots[k];
-            joins_held(k, held, incoming)
-        }
+    match slot {
+        Slot::Held(k) => joins_held(k, held, incoming),
         Slot::Free(k) => joins(k, incoming, incoming),
         Slot::Full => refusal(NO_FREE_SLOT),
     }
@@ -213,47 +175,22 @@ fn parts_held(k: usize, held: Record, user: [u8; USER_ID]) -> Change
     }
 }
 
-// PART, with its parts and its count of parameters.
-fn judge_part(t: Table, line: &[u8], m: Message, count: usize) -> Change
-    requires { ⌜ (m ≡ messageOf (now line)) × (count ≡ length (contentOf (now line) .params)) ⌝ }
-    ensures { λ r. ⌜ Judged (commandRules Part (t .slots) (contentOf (now (line .entry)))) Part (t .slots) (contentOf (now (line .entry))) r ⌝ }
+// The user is to leave the channel that has the name, if there is one.
+fn parts_found(slot: Slot, held: Record, user: [u8; USER_ID]) -> Change
+    requires { ⌜ Inside slot ⌝ }
+    ensures { λ r. ⌜ PartsFound slot held user r ⌝ }
 {
-    if count < 1 {
-        return refusal(WRONG_PARAM_COUNT);
-    }
-    if 2 < count {
-        return refusal(WRONG_PARAM_COUNT);
-    }
-    let source = prefix_at(line, m);
-    if !is_user_id(source) {
-        return refusal(BAD_SOURCE);
-    }
-    let name = name_at(line, m);
-    if !is_channel(name) {
-        return refusal(BAD_NAME);
-    }
-    match find(t, name) {
-        Slot::Held(k) => {
-            let held = t.slots[k];
-            parts_held(k, held, user_id(source))
-        }
+    match slot {
+        Slot::Held(k) => parts_held(k, held, user),
         Slot::Free(_) => refusal(NO_SUCH_CHANNEL),
         Slot::Full => refusal(NO_SUCH_CHANNEL),
     }
 }
 
-// QUIT, with its parts and its count of parameters.
-fn judge_quit(line: &[u8], m: Message, count: usize) -> Change
-    requires { ⌜ (m ≡ messageOf (now line)) × (count ≡ length (contentOf (now line) .params)) ⌝ }
-    ensures { λ r. ⌜ QuitJudged (contentOf (now (line .entry))) r ⌝ }
+// The user is to leave every channel.
+fn quits(user: [u8; USER_ID]) -> Change
+    ensures { λ r. ⌜ (r .number ≡ accepted) × (r .slot < slotCount) × Quits user r ⌝ }
 {
-    if 1 < count {
-        return refusal(WRONG_PARAM_COUNT);
-    }
-    let source = prefix_at(line, m);
-    if !is_user_id(source) {
-        return refusal(BAD_SOURCE);
-    }
     let none = Record::empty();
     Change {
         number: ACCEPTED,
@@ -261,33 +198,22 @@ fn judge_quit(line: &[u8], m: Message, count: usize) -> Change
         slot: 0,
         record: none,
         told: none,
-        user: user_id(source),
+        user,
     }
 }
 
-// The judgement of a line that came from a link, with n bytes of lent output.
-pub(crate) fn judge(t: Table, link: u32, line: &[u8], n: usize) -> Change
-    ensures { λ r. ⌜ Judged (processRules t link (now (line .entry)) n) (commandIn (now (line .entry))) (t .slots) (contentOf (now (line .entry))) r ⌝ }
+// What a request comes to in the slot that its channel's name uses: one of the numbers 19 to 22, or what is to change.
+pub(crate) fn settled(request: Request, found: Found) -> Change
+    requires { ⌜ Inside (found .slot) ⌝ }
+    ensures { λ r. ⌜ Settled (request .command) request found r ⌝ }
 {
-    if !is_well_formed(t) {
-        return refusal(NOT_WELL_FORMED);
-    }
-    if n < LINE_LIMIT {
-        return refusal(OUTPUT_TOO_SHORT);
-    }
-    let links = t.links;
-    if !has_link(links.set, link) {
-        return refusal(BAD_LINK);
-    }
-    let reading = read(line);
-    let Reading::Line(count) = reading else {
-        return refusal(reading.number());
-    };
-    let m = parts(line);
-    match command_of(command_at(line, m)) {
-        Command::Sjoin => judge_join(t, line),
-        Command::Part => judge_part(t, line, m, count),
-        Command::Quit => judge_quit(line, m, count),
+    let command = request.command;
+    let slot = found.slot;
+    let user = request.user;
+    match command {
+        Command::Sjoin => joins_found(slot, found.record, request.record),
+        Command::Part => parts_found(slot, found.record, user),
+        Command::Quit => quits(user),
         Command::Unknown => refusal(UNKNOWN_COMMAND),
     }
 }

@@ -2,6 +2,7 @@
 // any table and any lent output, get one answer.
 mod acting;
 mod judging;
+mod requests;
 mod spans;
 
 ghost use mathlib.Core.Path.{_≡_};
@@ -11,12 +12,16 @@ ghost use Rattle.relay.specs.Relay.{processAnswer, sent, refused as refu
 use acting::changed;
 use acting::send;
 use channel::Record;
-use judging::judge;
+use judging::entry_number;
+use judging::settled;
+use judging::slot_of;
 use links::count;
 use links::relay_set;
 use names::USER_ID;
 use refusal::ACCEPTED;
+use requests::requested;
 use table::Table;
+use table::is_well_formed;
 
 // The commands that the relay takes, and any other.
 enum Command {
@@ -26,7 +31,16 @@ enum Command {
     Unknown,
 }
 
-// What a line is judged to be: the number of its refusal, or ACCEPTED and what is to change. With SJOIN and PART one slot then holds another record,
+// What a line asks for by itself: the number of its refusal, or ACCEPTED, its command and what that is about. SJOIN has the record that it tells of, PART
+// a record with the channel's name alone and the user, QUIT the user. What doesn't belong to the command is zero.
+struct Request {
+    record: Record,
+    user: [u8; USER_ID],
+    command: Command,
+    number: u8,
+}
+
+// What a request comes to: the number of its refusal, or ACCEPTED and what is to change. With SJOIN and PART one slot then holds another record,
 // and of an SJOIN the record `told` goes out; with QUIT the user leaves every channel. What doesn't belong to the command is zero.
 struct Change {
     number: u8,
@@ -61,12 +75,23 @@ fn refused(t: Table, number: u8) -> Taken
     }
 }
 
-// Takes a line that came from a link: judges it, and unless it is refused changes the table and writes the line that goes out to the front of the output.
+// Takes a line that came from a link: table, output and link are tested, then the line by itself, then what it comes to in the slot that it uses; unless
+// a number refuses it, the table changes, and the line that goes out is written to the front of the output. The table is handed to few functions: each of
+// them copies it.
 pub fn process(t: Table, link: u32, line: &[u8], out: &mut [u8]) -> Taken
     ensures answer { λ r. ⌜ r ≡ processAnswer t link (now (line .entry)) (length (now (out .entry))) ⌝ }
     ensures output { λ _. ⌜ now (out .exit) ≡ front (sent t link (now (line .entry)) (length (now (out .entry)))) (now (out .entry)) ⌝ }
 {
-    let change = judge(t, link, line, out.len());
+    let entry = entry_number(is_well_formed(t), t.links, link, out.len());
+    if entry != ACCEPTED {
+        return refused(t, entry);
+    }
+    let request = requested(line);
+    let asked = request.number;
+    if asked != ACCEPTED {
+        return refused(t, asked);
+    }
+    let change = settled(request, slot_of(t, request.record));
     let number = change.number;
     if number != ACCEPTED {
         return refused(t, number);

@@ -12,11 +12,12 @@ use Rattle.refusal.specs.Rules.{firstOf}
 use Rattle.octets.specs.Room.{part}
 use Rattle.names.specs.Fold.{sameName}
 use Rattle.channel.specs.declared.Record.{Record}
+use Rattle.channel.specs.Record.{emptyRecord}
 use Rattle.channel.proofs.Decoded.{decoded-name}
-use Rattle.table.specs.declared.Slot.{Slot}
+use Rattle.table.specs.declared.Found.{Found}
 use Rattle.table.specs.declared.Slot.the-variants.{Held, Free, Full}
 use Rattle.table.specs.Table.{isFree, holds}
-use Rattle.table.specs.Slots.{firstAt, freeSlot, slotFor, numberOf, slotRules}
+use Rattle.table.specs.Slots.{firstAt, freeSlot, slotFor, heldIn, foundFor, numberOf, slotRules}
 use Rattle.table.proofs.First.{IsFirst, IsNone, first-is, first-none, first-all}
 
 -- ---- whether a slot holds the name
@@ -39,6 +40,15 @@ module _ (slots : List Record) where
   pub free-full : length slots ≤ firstAt isFree slots → Full ≡ freeSlot slots
   unfolding freeSlot
   free-full h = rw (le-ltb (firstAt isFree slots) (length slots) h)
+
+  -- no free slot has the name
+  pub free-empty : heldIn slots (freeSlot slots) ≡ emptyRecord
+  unfolding freeSlot
+  free-empty = go (ltb (firstAt isFree slots) (length slots))
+    where
+      go : (t : Bool) → heldIn slots (cond t (Free (firstAt isFree slots)) Full) ≡ emptyRecord
+      go true = refl
+      go false = refl
 
   module _ (name : List ℕ) where
     pub held-found : (k : ℕ) → firstAt (holds name) slots ≡ k → k < length slots → Held k ≡ slotFor slots name
@@ -104,5 +114,6 @@ module _ (slots : List Record) (name : List ℕ) where
       go false e true f = rw (e, f)
       go false e false f = rw (e, f)
 
-  pub answers : (s : Slot) → s ≡ slotFor slots name → (s ≡ slotFor slots name) × (numberOf s ≡ firstOf (slotRules slots name))
-  answers s e = (e, ap numberOf e ∙ number-is)
+  module _ (f : Found) (e : f .slot ≡ slotFor slots name) where
+    pub answers : f .«record» ≡ heldIn slots (f .slot) → (f ≡ foundFor slots name) × (numberOf (f .slot) ≡ firstOf (slotRules slots name))
+    answers g = (rw (g, e), ap numberOf e ∙ number-is)

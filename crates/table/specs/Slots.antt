@@ -2,12 +2,14 @@
 use Prim.Native.Nat.{ℕ, suc}
 use mathlib.Core.Bool.{Bool, true, false, not, cond, _&&_}
 use mathlib.Core.List.{List, [], _∷_}
-use lib.ListN.{length}
+use lib.ListN.{length, getD}
 use lib.Dec.{ltb}
 use Rattle.refusal.specs.Numbers.{accepted, noFreeSlot}
 use Rattle.refusal.specs.Rules.{Rule, _when_}
 use Rattle.octets.specs.Lists.{all}
 use Rattle.channel.specs.declared.Record.{Record}
+use Rattle.channel.specs.Record.{emptyRecord}
+use Rattle.table.specs.declared.Found.{Found}
 use Rattle.table.specs.declared.Slot.{Slot}
 use Rattle.table.specs.declared.Slot.the-variants.{Held, Free, Full}
 use Rattle.table.specs.Table.{isFree, holds}
@@ -26,6 +28,15 @@ unfoldable pub slotFor : List Record → List ℕ → Slot
 slotFor slots name = cond (ltb (firstAt (holds name) slots) (length slots)) (Held (firstAt (holds name) slots)) (freeSlot slots)
 
 -- ---- the answer, by cases
+-- the record in the slot that has the name; the empty one where no slot has it
+abbrev pub heldIn : List Record → Slot → Record
+heldIn slots (Held k) = getD slots k emptyRecord
+heldIn slots (Free k) = emptyRecord
+heldIn slots Full = emptyRecord
+
+abbrev pub foundFor : List Record → List ℕ → Found
+foundFor slots name = record { slot = slotFor slots name; «record» = heldIn slots (slotFor slots name) }
+
 -- the number that a record of that name gets: 21 where there is no slot for it
 abbrev pub numberOf : Slot → ℕ
 numberOf (Held k) = accepted

@@ -4,7 +4,7 @@ mod slots;
 ghost use mathlib.Core.Path.{_≡_};
 ghost use Rattle.refusal.specs.Rules.{firstOf};
 ghost use Rattle.table.specs.Table.{emptyTable, goodTable, relinked as relinkedOf, registerAnswer, unregisterAnswer};
-ghost use Rattle.table.specs.Slots.{slotFor, numberOf, slotRules};
+ghost use Rattle.table.specs.Slots.{foundFor, numberOf, slotRules};
 use channel::Record;
 use links::Links;
 use links::with_link;
@@ -30,6 +30,12 @@ pub enum Slot {
     Held(usize),
     Free(usize),
     Full,
+}
+
+// The slot that a name uses, and the record in it that has the name: the empty one where no slot has it.
+pub struct Found {
+    pub record: Record,
+    pub slot: Slot,
 }
 
 // The table after, or as given, and the number of a refusal, or ACCEPTED.
@@ -123,10 +129,11 @@ pub fn unregister(t: Table, link: u32) -> Registered
     relinked(t, link, without_link(t.links, link))
 }
 
-// The slot that a name uses. Each used slot's folded name is compared byte by byte; the first byte that differs leaves for the next slot.
-pub fn find(t: Table, name: &[u8]) -> Slot
-    ensures slot { λ r. ⌜ r ≡ slotFor (t .slots) (now (name .entry)) ⌝ }
-    ensures number { λ r. ⌜ numberOf r ≡ firstOf (slotRules (t .slots) (now (name .entry))) ⌝ }
+// The slot that a name uses, with its record, so that nobody need look into the table again. Each used slot's folded name is compared byte by byte; the
+// first byte that differs leaves for the next slot.
+pub fn find(t: Table, name: &[u8]) -> Found
+    ensures found { λ r. ⌜ r ≡ foundFor (t .slots) (now (name .entry)) ⌝ }
+    ensures number { λ r. ⌜ numberOf (r .slot) ≡ firstOf (slotRules (t .slots) (now (name .entry))) ⌝ }
 {
     'slots: for k in 0..Record::SLOTS {
         if t.slots[k].count == 0 {
@@ -143,7 +150,10 @@ pub fn find(t: Table, name: &[u8]) -> Slot
                 continue 'slots;
             }
         }
-        return Slot::Held(k);
+        let slot = Slot::Held(k);
+        return Found { record: r, slot };
     }
-    lowest_free(t)
+    let record = Record::empty();
+    let slot = lowest_free(t);
+    Found { record, slot }
 }

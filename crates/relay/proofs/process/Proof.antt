@@ -1,5 +1,6 @@
--- `process` meets its contract: the judgement gives the number or the change, and the change is made. Assumes nothing.
+-- `process` meets its contract: a number refuses the line, or the change that it is judged to be is made. Assumes nothing.
 use mathlib.Core.Path.{_≡_, refl, sym, ap, _∙_}
+use mathlib.Core.Bool.{Bool}
 use mathlib.Core.List.{List}
 use Prim.Native.Nat.{ℕ}
 use lib.ListN.{length}
@@ -7,23 +8,102 @@ use borrow.Author.Needs.{needs}
 use Rattle.refusal.specs.Numbers.{accepted}
 use Rattle.refusal.specs.Rules.{firstOf}
 use Rattle.octets.specs.Room.{front}
-use Rattle.relay.specs.Relay.{processRules}
+use Rattle.octets.proofs.Lists.{unmapped}
+use Rattle.message.specs.Reading.{contentOf}
+use Rattle.channel.specs.Limits.{slotCount}
+use Rattle.table.specs.declared.Table.{Table}
+use Rattle.table.specs.Table.{goodTable}
+use Rattle.table.proofs.WellFormed.{slots-good}
+use Rattle.relay.specs.declared.Taken.{Taken}
+use Rattle.relay.specs.Relay.{commandIn, processRules, refused, processAnswer, sent}
+use Rattle.relay.specs.Private.{entryRules, Judged}
+use Rattle.relay.proofs.Entering.{entry-good, entry-refuses, enters, enters-judged}
+use Rattle.relay.proofs.Settling.{found-inside, settled-judged}
 use Rattle.relay.proofs.Answering.{answer-refused, sent-nothing, sent-line, answer-taken, written-line}
 use Rattle.relay.proofs.process.Statement.{statement}
 use Rattle.relay.proofs.process.Tie as tie
 
-judge-requires : tie.Need-judge-requires
-judge-requires c κs = search needs
+-- ---- table, output and link
+abbrev Entered : Type 0
+Entered = tie.After-entry-number
+
+abbrev table : Entered → Table
+table c = c .before .before .before .before .args .t
+
+abbrev link : Entered → ℕ
+link c = c .before .before .before .before .args .link
+
+abbrev line : Entered → List ℕ
+line c = c .before .before .before .before .args .line .now
+
+abbrev room : Entered → ℕ
+room c = length (c .before .before .before .before .args .out .now)
+
+entry-is : (c : Entered) → firstOf (entryRules (goodTable (table c)) (table c .links .set) (link c) (room c)) ≡ c .entry-number .result
+entry-is c = ap (λ (g : Bool). firstOf (entryRules g (table c .links .set) (link c) (room c))) (sym (c .before .is-well-formed .ensures)) ∙ sym (c .entry-number .ensures)
+
+sixteen : (c : tie.Start) → length (c .args .t .slots) ≡ slotCount
+sixteen c = search (needs, unmapped)
+
+-- ---- what is asked for, and what it comes to
+passes : (c : tie.Else1) → firstOf (entryRules (goodTable (table (c .before))) (table (c .before) .links .set) (link (c .before)) (room (c .before))) ≡ accepted
+passes c = entry-is (c .before) ∙ c .if1 .left
+
+judged : (c : tie.After-settled) → Judged (processRules (table (c .before .before .before .before .before)) (link (c .before .before .before .before .before)) (line (c .before .before .before .before .before)) (room (c .before .before .before .before .before))) (commandIn (line (c .before .before .before .before .before))) (table (c .before .before .before .before .before) .slots) (contentOf (line (c .before .before .before .before .before))) (c .settled .result)
+judged c =
+    let e = c .before .before .before .before .before in
+    let r = c .before .before .before .requested in
+    let none = c .before .before .if2 .left in
+    let p = passes (c .before .before .before .before) in
+    enters-judged (table e) (link e) (line e) (room e) p (r .ensures .1 none) (c .settled .result)
+    (settled-judged (table e .slots) (line e) (r .result) (c .settled .result) (r .ensures .1 none) (sixteen (e .before .before .before .before)) (slots-good (table e) (entry-good _ _ _ _ p)) (c .before .slot-of .result) (c .before .slot-of .ensures) (commandIn (line e)) (r .ensures .0 .asks none) (c .settled .ensures))
+
+-- ---- a refusal
+refuses : (c : Entered) (k : ℕ) → firstOf (processRules (table c) (link c) (line c) (room c)) ≡ k → (k ≡ accepted → ⊥) → (r : Taken) → r ≡ refused (table c) k
+    → (r ≡ processAnswer (table c) (link c) (line c) (room c)) × (c .before .before .before .before .args .out .now ≡ front (sent (table c) (link c) (line c) (room c)) (c .before .before .before .before .args .out .now))
+refuses c k e ne r f = (f ∙ answer-refused (table c) (link c) (line c) (room c) k e ne, rw (sent-nothing (table c) (link c) (line c) (room c) k e ne))
+
+-- ---- the needs
+is-well-formed-requires : tie.Need-is-well-formed-requires
+is-well-formed-requires c κs = search needs
+
+entry-number-requires : tie.Need-entry-number-requires
+entry-number-requires c κs = search needs
 
 refused-requires : tie.Need-refused-requires
 refused-requires c κs = search needs
 
 returns : tie.Need-returns
 returns c =
-    let a = c .before .before .before .before .before .args in
-    let j = c .before .before .judge in
-    let e = sym (j .ensures .number) in
-    (c .refused .ensures ∙ answer-refused (a .t) (a .link) (a .line .now) (length (a .out .now)) _ e (c .before .if1 .taken), rw (sent-nothing (a .t) (a .link) (a .line .now) (length (a .out .now)) _ e (c .before .if1 .taken)))
+    let e = c .before .before in
+    let ne = c .before .if1 .taken in
+    refuses e _ (entry-refuses (table e) (link e) (line e) (room e) (λ z. ne (sym (entry-is e) ∙ z)) ∙ entry-is e) ne (c .refused .result) (c .refused .ensures)
+
+requested-requires : tie.Need-requested-requires
+requested-requires c κs = search needs
+
+refused-requires-2 : tie.Need-refused-requires-2
+refused-requires-2 c κs = search needs
+
+returns-2 : tie.Need-returns-2
+returns-2 c =
+    let e = c .before .before .before .before in
+    let ne = c .before .if2 .taken in
+    refuses e _ (enters (table e) (link e) (line e) (room e) (passes (c .before .before .before)) ∙ c .before .before .requested .ensures .0 .refused ne (table e .slots)) ne (c .refused2 .result) (c .refused2 .ensures)
+
+slot-of-requires : tie.Need-slot-of-requires
+slot-of-requires c κs = search needs
+
+settled-requires : tie.Need-settled-requires
+settled-requires c κs =
+    let e = c .before .before .before .before in
+    rw (c .slot-of .ensures) (found-inside (table e .slots) _ (sixteen (e .before .before .before .before)))
+
+refused-requires-3 : tie.Need-refused-requires-3
+refused-requires-3 c κs = search needs
+
+returns-3 : tie.Need-returns-3
+returns-3 c = refuses (c .before .before .before .before .before .before .before) _ (sym (judged (c .before .before) .number)) (c .before .if3 .taken) (c .refused3 .result) (c .refused3 .ensures)
 
 send-requires : tie.Need-send-requires
 send-requires c κs = search needs
@@ -35,33 +115,41 @@ count-requires : tie.Need-count-requires
 count-requires c κs = search needs
 
 changed-requires : tie.Need-changed-requires
-changed-requires c κs = c .before .before .before .before .before .before .before .judge .ensures .inside
+changed-requires c κs = judged (c .before .before .before .before .before .before .before) .inside
 
 same-length : tie.Need-same-length
 same-length c = search needs
 
-returns-2 : tie.Need-returns-2
-returns-2 c =
-    let a = c .before .before .before .before .before .before .before .before .before .before .before .args in
-    let j = c .before .before .before .before .before .before .before .before .judge in
-    let none : firstOf (processRules (a .t) (a .link) (a .line .now) (length (a .out .now))) ≡ accepted = sym (j .ensures .number) ∙ c .before .before .before .before .before .before .before .if1 .left in
-    let q = j .ensures .changes none in
-    let w = written-line (a .t) (a .link) (a .line .now) (length (a .out .now)) none (j .result) q (a .out .now) refl in
+returns-4 : tie.Need-returns-4
+returns-4 c =
+    let j = c .before .before .before .before .before .before .before .before in
+    let e = j .before .before .before .before .before in
+    let none : firstOf (processRules (table e) (link e) (line e) (room e)) ≡ accepted = sym (judged j .number) ∙ c .before .before .before .before .before .before .before .if3 .left in
+    let q = judged j .changes none in
+    let w = written-line (table e) (link e) (line e) (room e) none (j .settled .result) q (e .before .before .before .before .args .out .now) refl in
     let s = c .before .before .before .before .before .send .ensures in (
-      answer-taken (a .t) (a .link) (a .line .now) (length (a .out .now)) none (j .result) q _ _ _ _ _ (c .before .before .before .before .before .before .before .if1 .left) (c .changed .ensures) (c .before .before .relay-set .ensures) (c .before .count .ensures) (s .0 ∙ ap (λ (l : List ℕ). length l) w),
-      s .1 ∙ ap (λ (l : List ℕ). front l (a .out .now)) (w ∙ sym (sent-line (a .t) (a .link) (a .line .now) (length (a .out .now)) none)),
+      answer-taken (table e) (link e) (line e) (room e) none (j .settled .result) q _ _ _ _ _ (c .before .before .before .before .before .before .before .if3 .left) (c .changed .ensures) (c .before .before .relay-set .ensures) (c .before .count .ensures) (s .0 ∙ ap (λ (l : List ℕ). length l) w),
+      s .1 ∙ ap (λ (l : List ℕ). front l (e .before .before .before .before .args .out .now)) (w ∙ sym (sent-line (table e) (link e) (line e) (room e) none)),
     )
 
 pub process-spec : {M : Type 1} → statement M
 process-spec =
     tie.close
     (tie.spec
-    judge-requires
+    is-well-formed-requires
+    entry-number-requires
     refused-requires
     returns
+    requested-requires
+    refused-requires-2
+    returns-2
+    slot-of-requires
+    settled-requires
+    refused-requires-3
+    returns-3
     send-requires
     relay-set-requires
     count-requires
     changed-requires
     same-length
-    returns-2)
+    returns-4)

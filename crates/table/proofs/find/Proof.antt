@@ -10,27 +10,28 @@ use borrow.Author.Needs.{needs}
 use denote.Struct.Struct.{Struct}
 use denote.Struct.Declared.{shape}
 use Rattle.octets.proofs.Elements.{each-at}
-use Rattle.octets.proofs.Lists.{unmapped}
+use Rattle.octets.proofs.Lists.{unmapped, getD-any}
 use Rattle.names.specs.Fold.{sameName}
 use Rattle.names.proofs.Folds.{lengths-differ, name-past, name-stop, name-go}
 use Rattle.names.specs.Names.{nameLimit}
 use Rattle.channel.specs.declared.Record.{Record}
 use Rattle.channel.specs.Limits.{slotCount}
+use Rattle.channel.specs.Record.{emptyRecord}
 use Rattle.channel.proofs.Record as of-record
 use Rattle.table.specs.declared.Table.{Table}
 use Rattle.table.specs.declared.Slot.the-variants.{Held}
 use Rattle.table.specs.Table.{holds}
-use Rattle.table.specs.Slots.{firstAt}
+use Rattle.table.specs.Slots.{firstAt, heldIn}
 use Rattle.table.proofs.First.{first-here, first-next, first-end}
-use Rattle.table.proofs.Searching.{free-holds, used-holds, held-found, held-none, answers}
+use Rattle.table.proofs.Searching.{free-holds, used-holds, free-empty, held-found, held-none, answers}
 use Rattle.table.proofs.find.Statement.{statement}
 use Rattle.table.proofs.find.Tie as tie
 
 abbrev Inv-loop : tie.InvT-loop
-Inv-loop name t k₀ held i₀ i-end k i = (k ≡ k₀) × (i ≤ length name) × (length held ≡ length name) × (sameName (drop i held) (drop i name) ≡ sameName held name)
+Inv-loop name t k₀ r held i₀ i-end k i = (k ≡ k₀) × (i ≤ length name) × (length held ≡ length name) × (sameName (drop i held) (drop i name) ≡ sameName held name)
 
 abbrev μ-loop : tie.MeasureT-loop
-μ-loop name t k₀ held i₀ i-end k i = length name - i
+μ-loop name t k₀ r held i₀ i-end k i = length name - i
 
 abbrev Inv-slots : tie.InvT-slots
 Inv-slots name t k₀ k = (k ≤ slotCount) × (firstAt (holds name) (t .slots) ≡ k + firstAt (holds name) (drop k (t .slots)))
@@ -179,20 +180,25 @@ returns c =
     let s = c .before .before .before .before .before .before .before .before in
     let l = c .before .loop in
     let same : sameName (c .before .before .before .part .result .now) (sought s) ≡ true = sym (l .inv .3) ∙ name-past _ (sought s) (l .i) (omega arith) (omega arith) in
-    answers (table s .slots) (sought s) (Held (l .k))
+    answers (table s .slots) (sought s) (record { slot = Held (l .k); «record» = getD (table s .slots) (place s) none })
     (ap Held (l .inv .0)
     ∙ held-found (table s .slots) (sought s) (place s)
     (first-here (holds (sought s)) (table s .slots) (place s) none (within s) (s .before .slots .inv .1) (compared (c .before .before .before) ∙ same)) (within s))
+    (getD-any (table s .slots) (place s) none emptyRecord (within s) ∙ ap (λ (k : ℕ). getD (table s .slots) k emptyRecord) (sym (l .inv .0)))
+
+empty-requires : tie.Need-empty-requires Inv-loop μ-loop Inv-slots μ-slots
+empty-requires c κs = search needs
 
 lowest-free-requires : tie.Need-lowest-free-requires Inv-loop μ-loop Inv-slots μ-slots
 lowest-free-requires c κs = search needs
 
 returns-2 : tie.Need-returns-2 Inv-loop μ-loop Inv-slots μ-slots
 returns-2 c =
-    let a = c .before .before .before .before .args in
-    let s = c .before .before .slots in
-    answers (a .t1 .slots) (a .name .now) (c .lowest-free .result)
-    (c .lowest-free .ensures ∙ sym (held-none (a .t1 .slots) (a .name .now) (first-end (holds (a .name .now)) (a .t1 .slots) (s .k) (omega (arith, sixteen (c .before .before .before .before))) (s .inv .1))))
+    let a = c .before .before .before .before .before .args in
+    let s = c .before .before .before .slots in
+    answers (a .t1 .slots) (a .name .now) (record { slot = c .lowest-free .result; «record» = c .before .empty .result })
+    (c .lowest-free .ensures ∙ sym (held-none (a .t1 .slots) (a .name .now) (first-end (holds (a .name .now)) (a .t1 .slots) (s .k) (omega (arith, sixteen (c .before .before .before .before .before))) (s .inv .1))))
+    (c .before .empty .ensures .0 ∙ sym (ap (heldIn (a .t1 .slots)) (c .lowest-free .ensures) ∙ free-empty (a .t1 .slots)))
 
 pub find-spec : {M : Type 1} → statement M
 find-spec =
@@ -227,5 +233,6 @@ find-spec =
     loop-less
     loop-again
     returns
+    empty-requires
     lowest-free-requires
     returns-2)

@@ -5,8 +5,8 @@ use native.Mathlib.Omega.{arith}
 use lib.ListN.{length, drop}
 use borrow.Author.Needs.{needs}
 use Rattle.relay.proofs.Words.{isWord, lengths-differ, word-past, word-stop, word-go}
-use Rattle.relay.proofs.judging.is_word.Statement.{statement}
-use Rattle.relay.proofs.judging.is_word.Tie as tie
+use Rattle.relay.proofs.requests.is_word.Statement.{statement}
+use Rattle.relay.proofs.requests.is_word.Tie as tie
 
 abbrev Inv-loop : tie.InvT-loop
 Inv-loop word name i₀ i = (i ≤ length word) × (length word ≡ length name) × (isWord (drop i word) (drop i name) ≡ isWord word name)

@@ -2,8 +2,8 @@
 use mathlib.Core.Path.{sym, _∙_}
 use borrow.Author.Needs.{needs}
 use Rattle.relay.specs.Commands.{commandOf}
-use Rattle.relay.proofs.judging.command_of.Statement.{statement}
-use Rattle.relay.proofs.judging.command_of.Tie as tie
+use Rattle.relay.proofs.requests.command_of.Statement.{statement}
+use Rattle.relay.proofs.requests.command_of.Tie as tie
 
 slice-aggregate-is-word : tie.Need-slice-aggregate-is-word
 slice-aggregate-is-word c = search needs
