@@ -1,5 +1,6 @@
 -- Laws that the crates above cite, and examples.
 pub mod Folds
 pub mod Channels
-pub mod Ids
+pub mod UserIds
+mod Packed
 pub mod Examples

@@ -11,6 +11,8 @@ use octets::all_in;
 use octets::part;
 use octets::put;
 
+pub mod ids;
+
 // The most bytes of a channel name, '#' counted.
 pub const NAME_LIMIT: usize = 50;
 

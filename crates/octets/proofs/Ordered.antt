@@ -1,12 +1,15 @@
--- `compare` orders byte lists of any length: it is reflexive, antisymmetric, total and transitive. Assumes nothing.
+-- `compare` orders byte lists of any length: it is reflexive, antisymmetric, total and transitive, and goes by the first bytes before the rest.
+-- Assumes nothing.
 use mathlib.Core.Path.{_≡_, refl, sym, ap, _∙_}
 use mathlib.Core.Bool.{Bool, true, false}
 use mathlib.Core.Logic.{_⊎_, inl, inr}
 use mathlib.Core.List.{List, [], _∷_}
-use Prim.Native.Nat.{ℕ, _<_}
+use Prim.Native.Nat.{ℕ, zero, suc, _<_}
 use native.Mathlib.Omega.{arith}
+use lib.ListN.{take, drop}
 use lib.Dec.{eqb, ltb}
 use borrow.Author.Tests.{eq-eqb, ne-eqb, lt-ltb, le-ltb, eqb-true, eqb-false, ltb-true, ltb-false}
+use Rattle.octets.specs.declared.Order.{Order}
 use Rattle.octets.specs.declared.Order.the-variants.{Less, Same, More}
 use Rattle.octets.specs.Order.{compare, opposite}
 use Rattle.octets.specs.Lists.{same}
@@ -100,6 +103,26 @@ compare-trans (x ∷ s) (y ∷ t) (z ∷ u) e f = go (less-heads x y s t e) (les
     go (inl h) (inr k) ih = heads-less x z s u (omega arith)
     go (inr h) (inl k) ih = heads-less x z s u (omega arith)
     go (inr h) (inr k) ih = heads-same x z s u (h .0 ∙ k .0) ∙ ih (h .1) (k .1)
+
+-- ---- by the first bytes, and where these are the same, by the rest
+abbrev pub thenBy : Order → Order → Order
+thenBy Less o = Less
+thenBy Same o = o
+thenBy More o = More
+
+pub compare-parts : (n : ℕ) (a b : List ℕ) → compare a b ≡ thenBy (compare (take n a) (take n b)) (compare (drop n a) (drop n b))
+unfolding compare
+compare-parts zero a b = refl
+compare-parts (suc n) [] [] = refl
+compare-parts (suc n) [] (y ∷ t) = refl
+compare-parts (suc n) (x ∷ s) [] = refl
+compare-parts (suc n) (x ∷ s) (y ∷ t) = go (eqb x y) refl (ltb x y) refl (compare-parts n s t)
+  where
+    go : (u : Bool) → eqb x y ≡ u → (v : Bool) → ltb x y ≡ v → compare s t ≡ thenBy (compare (take n s) (take n t)) (compare (drop n s) (drop n t))
+        → compare (x ∷ s) (y ∷ t) ≡ thenBy (compare (x ∷ take n s) (y ∷ take n t)) (compare (drop n s) (drop n t))
+    go true e v f ih = rw e ih
+    go false e true f ih = rw (e, f)
+    go false e false f ih = rw (e, f)
 
 -- ---- the smaller of two
 abbrev pub Below : List ℕ → List ℕ → Type 0

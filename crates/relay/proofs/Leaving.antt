@@ -12,7 +12,7 @@ use Rattle.refusal.specs.Rules.{firstOf}
 use Rattle.octets.specs.Lists.{padded}
 use Rattle.octets.proofs.Lists.{padded-whole}
 use Rattle.names.specs.Names.{userIdLength, isChannel, isUserId}
-use Rattle.names.proofs.Ids.{no-user-id, user-length}
+use Rattle.names.proofs.UserIds.{no-user-id, user-length}
 use Rattle.message.specs.Content.{Content}
 use Rattle.channel.specs.declared.Record.{Record}
 use Rattle.channel.specs.Members.{hasMember}

@@ -10,7 +10,7 @@ use Rattle.octets.specs.Bits.{hasBit}
 use Rattle.octets.proofs.Bools.{and-intro}
 use Rattle.octets.proofs.Lists.{nil-map, all-head, all-tail, all-cons, all-imp}
 use Rattle.names.specs.Names.{isUserId}
-use Rattle.names.proofs.Ids.{user-some, user-solid, user-unmarked}
+use Rattle.names.proofs.UserIds.{user-some, user-solid, user-unmarked}
 use Rattle.channel.specs.declared.Member.{Member}
 use Rattle.channel.specs.Modes.{hasMode}
 use Rattle.channel.specs.Channel.{member}

@@ -14,7 +14,7 @@ use Rattle.octets.specs.declared.Decimal.the-variants.{Value, Malformed}
 use Rattle.octets.specs.Decimals.{isDecimal, valueOf, decimalUpTo}
 use Rattle.octets.proofs.Digits.{value-digits, decimal-digits, decimal-read, value-in}
 use Rattle.names.specs.Names.{isChannel, isServerId}
-use Rattle.names.proofs.Ids.{no-server-id}
+use Rattle.names.proofs.UserIds.{no-server-id}
 use Rattle.channel.specs.Limits.{timeLimit}
 use Rattle.message.specs.Content.{Content}
 use Rattle.sjoin.specs.Modes.{lettersOf, goodLetters, parametered, goodArguments, goodModes}

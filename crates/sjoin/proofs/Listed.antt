@@ -10,7 +10,7 @@ use Rattle.octets.specs.Lists.{all, isNil, startsWith}
 use Rattle.octets.proofs.Bools.{and-right}
 use Rattle.octets.proofs.Lists.{all-imp}
 use Rattle.names.specs.Names.{userIdLength}
-use Rattle.names.proofs.Ids.{user-length}
+use Rattle.names.proofs.UserIds.{user-length}
 use Rattle.channel.specs.Limits.{memberLimit}
 use Rattle.message.specs.Grammar.{lineLimit}
 use Rattle.message.specs.Words.{wordsOf}

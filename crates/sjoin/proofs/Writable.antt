@@ -17,7 +17,7 @@ use Rattle.octets.proofs.Clean.{digit-id, id-clean, id-colon, name-clean, key-c
 use Rattle.octets.proofs.Digits.{all-digits, digits-some}
 use Rattle.names.specs.Names.{isChannel, isServerId, isUserId}
 use Rattle.names.proofs.Channels.{no-channel, channel-says}
-use Rattle.names.proofs.Ids.{no-server-id, server-bytes, user-length, user-bytes}
+use Rattle.names.proofs.UserIds.{no-server-id, server-bytes, user-length, user-bytes}
 use Rattle.channel.specs.declared.Member.{Member}
 use Rattle.channel.specs.Modes.{letters, keyMode, limitMode, hasMode}
 use Rattle.channel.specs.Key.{isKey}

@@ -6,7 +6,7 @@ use borrow.Author.Needs.{needs}
 use borrow.Author.Tests.{eq-eqb, ne-eqb, le-leb, lt-leb}
 use Rattle.octets.specs.Bytes.{within, isDigit}
 use Rattle.names.specs.Names.{isUserId}
-use Rattle.names.proofs.Ids.{id-tests}
+use Rattle.names.proofs.UserIds.{id-tests}
 use Rattle.channel.proofs.well.is_id.Statement.{statement}
 use Rattle.channel.proofs.well.is_id.Tie as tie
 
