@@ -1,13 +1,12 @@
 // The tests of a well-formed record, each of the part that it judges.
 ghost use mathlib.Core.Path.{_≡_};
-ghost use mathlib.Core.Bool.{_&&_, cond};
+ghost use mathlib.Core.Bool.{_&&_};
 ghost use Prim.Native.Nat.{_≤_};
 ghost use lib.ListN.{take, drop};
 ghost use lib.Dec.{leb};
-ghost use Rattle.octets.specs.Bytes.{within, isIdByte};
 ghost use Rattle.octets.specs.Lists.{all};
 ghost use Rattle.octets.specs.Ascending.{ascends};
-ghost use Rattle.names.specs.Names.{nameLimit, isUserId};
+ghost use Rattle.names.specs.Names.{nameLimit};
 ghost use Rattle.channel.specs.Limits.{memberLimit, keyLimit};
 ghost use Rattle.channel.specs.Channel.{byId};
 ghost use Rattle.channel.specs.WellFormed.{isZero, isVacant, goodKey, goodLimit, goodMember};
@@ -18,8 +17,8 @@ use crate::members::is_below;
 use crate::modes::KEY_MODE;
 use crate::modes::LIMIT_MODE;
 use crate::modes::has_mode;
-use names::SERVER_ID;
 use names::USER_ID;
+use names::ids::is_id;
 
 // The statuses that there are: voice 1 plus operator 2.
 const BOTH: u8 = 3;
@@ -120,60 +119,6 @@ pub(crate) fn good_limit(modes: u8, limit: u16) -> bool
         return !has_mode(modes, LIMIT_MODE);
     }
     has_mode(modes, LIMIT_MODE)
-}
-
-// None for a byte within a range, one for another.
-fn outside(b: u8, lo: u8, hi: u8) -> u8
-    ensures { λ r. ⌜ r ≡ cond (within lo b hi) 0 1 ⌝ }
-{
-    if b < lo {
-        return 1;
-    }
-    if hi < b {
-        return 1;
-    }
-    0
-}
-
-// None for a byte that may stand in an id, one for another: both ranges are looked at, without a branch.
-fn odd(b: u8) -> u8
-    ensures { λ r. ⌜ isZero r ≡ isIdByte b ⌝ }
-{
-    outside(b, b'A', b'Z') & outside(b, b'0', b'9')
-}
-
-// None if every byte behind the first may stand in an id: one test serves all of them.
-fn odd_bytes(id: [u8; USER_ID]) -> u8
-    ensures { λ r. ⌜ isZero r ≡ all isIdByte (drop 1 id) ⌝ }
-{
-    let mut bits = 0u8;
-    let mut i = 1;
-    while i < USER_ID {
-        bits = bits | odd(id[i]);
-        i += 1;
-    }
-    bits
-}
-
-// Whether it is a user id.
-fn is_id(id: [u8; USER_ID]) -> bool
-    ensures { λ r. ⌜ r ≡ isUserId id ⌝ }
-{
-    if odd_bytes(id) != 0 {
-        return false;
-    }
-    let digit = id[0];
-    if digit < b'0' {
-        return false;
-    }
-    if b'9' < digit {
-        return false;
-    }
-    let letter = id[SERVER_ID];
-    if letter < b'A' {
-        return false;
-    }
-    letter <= b'Z'
 }
 
 // Whether it is a user id with a status that there is.

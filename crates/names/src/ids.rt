@@ -1,14 +1,73 @@
-// User ids held whole, as nine bytes by value: their order and equality, with eight bytes taken as one number.
+// User ids held whole, as nine bytes by value: the test, and their order and equality with eight bytes taken as one number.
 ghost use mathlib.Core.Path.{_≡_};
-ghost use lib.ListN.{take};
-ghost use Rattle.octets.specs.Lists.{same};
+ghost use mathlib.Core.Bool.{cond};
+ghost use lib.ListN.{take, drop};
+ghost use lib.Dec.{eqb};
+ghost use Rattle.octets.specs.Bytes.{within, isIdByte};
+ghost use Rattle.octets.specs.Lists.{all, same};
 ghost use Rattle.octets.specs.Order.{compare};
 ghost use Rattle.octets.specs.Ascending.{isLess};
+ghost use Rattle.names.specs.Names.{isUserId};
 ghost use Rattle.names.specs.Private.{frontLength, packed};
+use crate::SERVER_ID;
 use crate::USER_ID;
 
 // The bytes that are taken as one number.
 const FRONT: usize = 8;
+
+// None for a byte within a range, one for another.
+fn outside(b: u8, lo: u8, hi: u8) -> u8
+    ensures { λ r. ⌜ r ≡ cond (within lo b hi) 0 1 ⌝ }
+{
+    if b < lo {
+        return 1;
+    }
+    if hi < b {
+        return 1;
+    }
+    0
+}
+
+// None for a byte that may stand in an id, one for another: both ranges are looked at, without a branch.
+fn odd(b: u8) -> u8
+    ensures { λ r. ⌜ eqb r 0 ≡ isIdByte b ⌝ }
+{
+    outside(b, b'A', b'Z') & outside(b, b'0', b'9')
+}
+
+// None if every byte behind the first may stand in an id: one test serves all of them.
+fn odd_bytes(id: [u8; USER_ID]) -> u8
+    ensures { λ r. ⌜ eqb r 0 ≡ all isIdByte (drop 1 id) ⌝ }
+{
+    let mut bits = 0u8;
+    let mut i = 1;
+    while i < USER_ID {
+        bits = bits | odd(id[i]);
+        i += 1;
+    }
+    bits
+}
+
+// Whether it is a user id.
+pub fn is_id(id: [u8; USER_ID]) -> bool
+    ensures { λ r. ⌜ r ≡ isUserId id ⌝ }
+{
+    if odd_bytes(id) != 0 {
+        return false;
+    }
+    let digit = id[0];
+    if digit < b'0' {
+        return false;
+    }
+    if b'9' < digit {
+        return false;
+    }
+    let letter = id[SERVER_ID];
+    if letter < b'A' {
+        return false;
+    }
+    letter <= b'Z'
+}
 
 // The first eight bytes as one number, the first of them the highest. Such numbers are ordered as the bytes are.
 fn front(id: [u8; USER_ID]) -> u64

@@ -89,17 +89,7 @@ pub fn is_user_id(id: &[u8]) -> bool
     if id.len() != USER_ID {
         return false;
     }
-    if !is_server_id(part(id, 0, SERVER_ID)) {
-        return false;
-    }
-    let b = id[SERVER_ID];
-    if b < b'A' {
-        return false;
-    }
-    if b'Z' < b {
-        return false;
-    }
-    all_in(part(id, SERVER_ID + 1, USER_ID), Class::Id)
+    ids::is_id(user_id(id))
 }
 
 // How one user id, held whole, stands to another: byte by byte, as unsigned numbers.

@@ -1,8 +1,8 @@
 -- `outside` meets its contract: each return is the tests that led there. Assumes nothing.
 use borrow.Author.Tests.{le-leb, lt-leb}
 use Rattle.octets.specs.Bytes.{within}
-use Rattle.channel.proofs.well.outside.Statement.{statement}
-use Rattle.channel.proofs.well.outside.Tie as tie
+use Rattle.names.proofs.ids.outside.Statement.{statement}
+use Rattle.names.proofs.ids.outside.Tie as tie
 
 returns : tie.Need-returns
 unfolding within

@@ -2,13 +2,13 @@
 use mathlib.Core.Path.{_≡_, refl}
 use mathlib.Core.Bool.{Bool, true, false, cond, _||_}
 use lib.Bits.{bitAnd}
+use lib.Dec.{eqb}
 use borrow.Author.Needs.{needs}
 use Rattle.octets.specs.Bytes.{within, isIdByte}
-use Rattle.channel.specs.WellFormed.{isZero}
-use Rattle.channel.proofs.well.odd.Statement.{statement}
-use Rattle.channel.proofs.well.odd.Tie as tie
+use Rattle.names.proofs.ids.odd.Statement.{statement}
+use Rattle.names.proofs.ids.odd.Tie as tie
 
-both : (p q : Bool) → isZero (bitAnd (cond p 0 1) (cond q 0 1)) ≡ p || q
+both : (p q : Bool) → eqb (bitAnd (cond p 0 1) (cond q 0 1)) 0 ≡ p || q
 both true true = refl
 both true false = refl
 both false true = refl

@@ -4,18 +4,18 @@ use mathlib.Core.Path.{_≡_, refl, sym, ap, _∙_}
 use mathlib.Core.Bool.{Bool, _&&_, and-true}
 use Prim.Native.Nat.{_-_}
 use lib.ListN.{drop}
+use lib.Dec.{eqb}
 use borrow.Author.Needs.{needs}
 use Rattle.octets.specs.Bytes.{isIdByte}
 use Rattle.octets.specs.Lists.{all}
 use Rattle.octets.proofs.Lists.{all-past}
+use Rattle.octets.proofs.Bitwise.{or-step}
 use Rattle.names.specs.Names.{userIdLength}
-use Rattle.channel.specs.WellFormed.{isZero}
-use Rattle.channel.proofs.Tests.{or-step}
-use Rattle.channel.proofs.well.odd_bytes.Statement.{statement}
-use Rattle.channel.proofs.well.odd_bytes.Tie as tie
+use Rattle.names.proofs.ids.odd_bytes.Statement.{statement}
+use Rattle.names.proofs.ids.odd_bytes.Tie as tie
 
 abbrev Inv-loop : tie.InvT-loop
-Inv-loop id bits₀ i₀ bits i = all isIdByte (drop 1 id) ≡ isZero bits && all isIdByte (drop i id)
+Inv-loop id bits₀ i₀ bits i = all isIdByte (drop 1 id) ≡ eqb bits 0 && all isIdByte (drop i id)
 
 abbrev μ-loop : tie.MeasureT-loop
 μ-loop id bits₀ i₀ bits i = userIdLength - i
@@ -43,7 +43,7 @@ loop-again c =
 returns : tie.Need-returns Inv-loop μ-loop
 returns c =
     let l = c .before .loop in
-    sym (l .inv ∙ ap (λ (t : Bool). isZero (l .bits) && t) (all-past isIdByte _ (l .i) (search needs)) ∙ and-true (isZero (l .bits)))
+    sym (l .inv ∙ ap (λ (t : Bool). eqb (l .bits) 0 && t) (all-past isIdByte _ (l .i) (search needs)) ∙ and-true (eqb (l .bits) 0))
 
 pub odd-bytes-spec : {M : Type 1} → statement M
 odd-bytes-spec =

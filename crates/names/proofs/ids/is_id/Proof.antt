@@ -5,10 +5,10 @@ use lib.ListN.{getD}
 use borrow.Author.Needs.{needs}
 use borrow.Author.Tests.{eq-eqb, ne-eqb, le-leb, lt-leb}
 use Rattle.octets.specs.Bytes.{within, isDigit}
 use Rattle.names.specs.Names.{isUserId}
 use Rattle.names.proofs.UserIds.{id-tests}
-use Rattle.channel.proofs.well.is_id.Statement.{statement}
-use Rattle.channel.proofs.well.is_id.Tie as tie
+use Rattle.names.proofs.ids.is_id.Statement.{statement}
+use Rattle.names.proofs.ids.is_id.Tie as tie
 
 odd-bytes-requires : tie.Need-odd-bytes-requires
 odd-bytes-requires c κs = search needs
