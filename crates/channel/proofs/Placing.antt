@@ -1,18 +1,18 @@
 -- A member put in its place from the end: those that are greater move up by one, until the place is found. Assumes nothing.
 use mathlib.Core.Path.{_≡_, sym, ap, _∙_}
+use mathlib.Core.Bool.{true, false}
 use mathlib.Core.List.{List, [], _∷_, _++_}
 use Prim.Native.Nat.{ℕ, suc, _+_, _-_, _≤_, _<_}
 use native.Mathlib.Numerals.{add-one}
 use native.Mathlib.Omega.{arith}
-use lib.ListN.{length, take, drop, getD, set, length-append, length-drop, take-append-drop, drop-of-length-le}
+use lib.ListN.{length, take, drop, getD, set, length-append, length-drop, take-append-drop, drop-of-length-le, List·getD-append}
 use lib.Seq.{split-at, take-suc, take-length, drop-length, length-take-le, getD-take, append-snoc}
-use Rattle.octets.specs.declared.Order.the-variants.{Less, Same, More}
-use Rattle.octets.specs.Lists.{padded}
+use Rattle.octets.specs.Lists.{same, padded}
 use Rattle.octets.specs.Order.{compare}
-use Rattle.octets.specs.Ascending.{put}
-use Rattle.octets.proofs.Lists.{drop-step, length-padded}
-use Rattle.octets.proofs.Ordered.{compare-same, more-below}
-use Rattle.octets.proofs.Ascends.{Above, Under, Ascending, joined, ascends-says, put-between, put-joined, under-take, under-upto}
+use Rattle.octets.specs.Ascending.{isLess, put}
+use Rattle.octets.proofs.Lists.{drop-step, getD-any, getD-padded, length-padded}
+use Rattle.octets.proofs.Bytes.{same-true}
+use Rattle.octets.proofs.Ascends.{Above, Under, Ascending, joined, less-says, less-fails, ascends-says, put-between, put-joined, under-take, under-upto}
 use Rattle.channel.specs.declared.Member.{Member}
 use Rattle.channel.specs.declared.Roster.{Roster}
 use Rattle.channel.specs.Limits.{memberLimit}
@@ -39,6 +39,15 @@ module _ (l : List Member) (room : length l < memberLimit) where
         ap (λ (m : List Member). set m p v) (s .holds)
         ∙ ap (λ (k : ℕ). set (padded memberLimit nobody (take p l ++ s .stale ∷ drop p l)) k v) (sym e)
         ∙ set-padded-at nobody memberLimit (take p l) (drop p l) (s .stale) v (omega arith)
+
+    -- those before p are as they were
+    pub shifted-below : (k : ℕ) (d : Member) → k < p → getD next k d ≡ getD l k d
+    shifted-below k d lt =
+        ap (λ (m : List Member). getD m k d) (s .holds)
+        ∙ getD-padded nobody memberLimit (take p l ++ s .stale ∷ drop p l) k d (omega arith)
+        ∙ List·getD-append (take p l) (s .stale ∷ drop p l) nobody k (omega (arith, length-take-le p l h))
+        ∙ getD-take p l k nobody lt
+        ∙ getD-any l k nobody d (omega arith)
 
     -- the one before p moved up to it
     pub shifted-step : (d : Member) → 0 < p → Shifted l (set next p (getD l (p - 1) d)) (p - 1)
@@ -71,6 +80,24 @@ module _ (list : List Member) (count : ℕ) (e : Member) (s : Sorted list count)
       let none : drop count l ≡ [] = drop-of-length-le l {i = count} (omega (arith, used)) in
       (rw used at (shifted-none l few list (s .clear)), rw none tt)
 
+  -- the one at q has the same id
+  joined-at : (q : ℕ) (d : Member) → q < count → e .id ≡ getD l q d .id
+      → _≡_ {A = Roster} (record { list = set list q (joined byId e (getD l q d)); count = count }) (roster (put byId e l))
+  joined-at q d h k =
+      let v = joined byId e (getD l q d) in
+      let j : length (take q l) ≡ q = length-take-le q l (omega (arith, used)) in
+      let at : l ≡ take q l ++ getD l q d ∷ drop (suc q) l = split-at l q d (omega (arith, used)) in
+      let is : put byId e l ≡ take q l ++ v ∷ drop (suc q) l =
+      ap (put byId e) at ∙ put-joined byId e (getD l q d) (take q l) (drop (suc q) l) (rw k (under-take byId l q d asc (omega (arith, used)))) k in
+      gathers-roster (set list q v) count (put byId e l) (record {
+        holds =
+            ap (λ (m : List Member). set m q v) (s .clear ∙ ap (padded memberLimit nobody) at)
+            ∙ ap (λ (n : ℕ). set (padded memberLimit nobody (take q l ++ getD l q d ∷ drop (suc q) l)) n v) (sym j)
+            ∙ set-padded-at nobody memberLimit (take q l) (drop (suc q) l) (getD l q d) v (omega (arith, s .room))
+            ∙ ap (padded memberLimit nobody) (sym is);
+        counts = rw is (omega (arith, used, length-append (take q l) (v ∷ drop (suc q) l), length-drop (suc q) l));
+      })
+
   module _ (next : List Member) (p : ℕ) (h : p ≤ count) (moved : Shifted l next p) (above : Above byId (e .id) (drop p l)) where
     put-at : Under byId (e .id) (take p l) → _≡_ {A = Roster} (record { list = set next p e; count = count + 1 }) (roster (put byId e l))
     put-at under =
@@ -85,42 +112,28 @@ module _ (list : List Member) (count : ℕ) (e : Member) (s : Sorted list count)
     put-first k = let z : p ≡ 0 = omega arith in put-at (rw z tt)
 
     module _ (d : Member) (k : 0 < p) where
+      abbrev before : Member
+      before = getD next (p - 1) d
+
       one-less : p - 1 + 1 ≡ p
       one-less = omega arith
 
-      same-one : getD l (p - 1) d ≡ getD list (p - 1) d
-      same-one = getD-take count list (p - 1) d (omega arith)
+      same-one : before ≡ getD l (p - 1) d
+      same-one = shifted-below l few next p (omega (arith, used)) moved (p - 1) d (omega arith)
 
-      -- the one before p is smaller
-      pub put-behind : compare (e .id) (getD list (p - 1) d .id) ≡ More → _≡_ {A = Roster} (record { list = set next p e; count = count + 1 }) (roster (put byId e l))
-      put-behind o =
-          put-at (rw one-less at (under-upto byId (e .id) l (p - 1) d asc (omega (arith, used)) (rw same-one (more-below (e .id) (getD list (p - 1) d .id) o))))
-
-      -- it is greater, and is moved up
-      pub moved-on : compare (e .id) (getD list (p - 1) d .id) ≡ Less → Shifted l (set next p (getD list (p - 1) d)) (p - 1) × Above byId (e .id) (drop (p - 1) l)
+      -- the one before p is greater, and is moved up
+      pub moved-on : isLess (compare (e .id) (before .id)) ≡ true → Shifted l (set next p before) (p - 1) × Above byId (e .id) (drop (p - 1) l)
       moved-on o = (
-        rw same-one at (shifted-step l few next p (omega (arith, used)) moved d k),
-        rw (drop-step l (p - 1) d (omega (arith, used)), one-less, same-one) (o, above),
+        rw same-one (shifted-step l few next p (omega (arith, used)) moved d k),
+        rw (drop-step l (p - 1) d (omega (arith, used)), one-less, ← same-one) (less-says (compare (e .id) (before .id)) o, above),
       )
 
-  -- the one at q has the same id
-  module _ (q : ℕ) (d : Member) (h : q < count) where
-    found : getD l q d ≡ getD list q d
-    found = getD-take count list q d h
+      -- it has the same id
+      pub put-equal : same (e .id) (before .id) ≡ true → _≡_ {A = Roster} (record { list = set list (p - 1) (joined byId e before); count = count }) (roster (put byId e l))
+      put-equal o = rw same-one (joined-at (p - 1) d (omega arith) (same-true (e .id) (before .id) o ∙ ap (λ (m : Member). m .id) same-one))
 
-    pub put-equal : compare (e .id) (getD list q d .id) ≡ Same → _≡_ {A = Roster} (record { list = set list q (joined byId e (getD list q d)); count = count }) (roster (put byId e l))
-    put-equal o =
-        let k : e .id ≡ getD l q d .id = compare-same (e .id) (getD list q d .id) o ∙ ap (λ (m : Member). m .id) (sym found) in
-        let j : length (take q l) ≡ q = length-take-le q l (omega (arith, used)) in
-        let at : l ≡ take q l ++ getD l q d ∷ drop (suc q) l = split-at l q d (omega (arith, used)) in
-        let is : put byId e l ≡ take q l ++ joined byId e (getD l q d) ∷ drop (suc q) l =
-        ap (put byId e) at ∙ put-joined byId e (getD l q d) (take q l) (drop (suc q) l) (rw k (under-take byId l q d asc (omega (arith, used)))) k in
-        gathers-roster (set list q (joined byId e (getD list q d))) count (put byId e l) (record {
-          holds =
-              ap (λ (m : List Member). set m q (joined byId e (getD list q d))) (s .clear ∙ ap (padded memberLimit nobody) at)
-              ∙ ap (λ (n : ℕ). set (padded memberLimit nobody (take q l ++ getD l q d ∷ drop (suc q) l)) n (joined byId e (getD list q d))) (sym j)
-              ∙ set-padded-at nobody memberLimit (take q l) (drop (suc q) l) (getD l q d) (joined byId e (getD list q d)) (omega (arith, s .room))
-              ∙ ap (λ (m : Member). padded memberLimit nobody (take q l ++ joined byId e m ∷ drop (suc q) l)) (sym found)
-              ∙ ap (padded memberLimit nobody) (sym is);
-          counts = rw is (omega (arith, used, length-append (take q l) (joined byId e (getD l q d) ∷ drop (suc q) l), length-drop (suc q) l));
-        })
+      -- it is smaller
+      pub put-behind : isLess (compare (e .id) (before .id)) ≡ false → same (e .id) (before .id) ≡ false
+          → _≡_ {A = Roster} (record { list = set next p e; count = count + 1 }) (roster (put byId e l))
+      put-behind o n =
+          put-at (rw one-less at (under-upto byId (e .id) l (p - 1) d asc (omega (arith, used)) (rw same-one at (less-fails (e .id) (before .id) o n))))

@@ -15,8 +15,8 @@ use crate::Member;
 use crate::Record;
 use crate::Roster;
 use names::USER_ID;
-use names::compare_ids;
-use octets::Order;
+use names::ids::is_before;
+use names::ids::is_same;
 
 // An unused place.
 pub(crate) fn nobody() -> Member
@@ -51,11 +51,7 @@ fn has_id(m: Member, id: [u8; USER_ID]) -> bool
     ensures { λ r. ⌜ r ≡ same id (m .id) ⌝ }
 {
     let other = m.id;
-    match compare_ids(id, other) {
-        Order::Less => false,
-        Order::Same => true,
-        Order::More => false,
-    }
+    is_same(id, other)
 }
 
 // Whether the first one's id is smaller.
@@ -64,11 +60,7 @@ pub(crate) fn is_below(m: Member, next: Member) -> bool
 {
     let id = m.id;
     let other = next.id;
-    match compare_ids(id, other) {
-        Order::Less => true,
-        Order::Same => false,
-        Order::More => false,
-    }
+    is_before(id, other)
 }
 
 // Whether the record has a member with the id.
@@ -128,25 +120,25 @@ fn with_member(list: [Member; Record::MEMBERS], count: usize, e: Member) -> Rost
     let id = e.id;
     let mut p = count;
     while 0 < p {
-        let m = list[p - 1];
+        let m = next[p - 1];
         let other = m.id;
-        match compare_ids(id, other) {
-            Order::Less => {
-                next[p] = m;
-            }
-            Order::Same => {
-                let mut same = list;
-                same[p - 1] = Member {
-                    id: other,
-                    status: e.status | m.status,
-                };
-                return Roster { list: same, count };
-            }
-            Order::More => {
-                break;
-            }
+        if !is_before(id, other) {
+            break;
         }
+        next[p] = m;
         p -= 1;
+    }
+    if 0 < p {
+        let m = next[p - 1];
+        let other = m.id;
+        if is_same(id, other) {
+            let mut same = list;
+            same[p - 1] = Member {
+                id: other,
+                status: e.status | m.status,
+            };
+            return Roster { list: same, count };
+        }
     }
     next[p] = e;
     Roster {

@@ -10,11 +10,12 @@ use lib.ListN.{length, take, drop, getD}
 use Rattle.octets.specs.declared.Order.{Order}
 use Rattle.octets.specs.declared.Order.the-variants.{Less, Same, More}
 use Rattle.octets.specs.Order.{compare}
-use Rattle.octets.specs.Lists.{all, isNil}
+use Rattle.octets.specs.Lists.{all, isNil, same}
 use Rattle.octets.specs.Ascending.{Kind, isLess, insert, put, unite, ascends}
 use Rattle.octets.proofs.Bools.{and-left, and-right}
 use Rattle.octets.proofs.Lists.{all-head, all-tail, all-cons}
-use Rattle.octets.proofs.Ordered.{Below, compare-refl, compare-trans, below-more, more-below}
+use Rattle.octets.proofs.Bytes.{same-refl}
+use Rattle.octets.proofs.Ordered.{Below, compare-refl, compare-same, compare-trans, below-more, more-below}
 use Rattle.octets.proofs.Joins.{Joining}
 
 -- The parts of an entry fit together.
@@ -150,6 +151,15 @@ pub less-says : (o : Order) → isLess o ≡ true → o ≡ Less
 less-says Less h = refl
 less-says Same h = absurd (true≢false (sym h))
 less-says More h = absurd (true≢false (sym h))
+
+-- of two lists that differ, where the first is not the smaller one, the second is
+pub less-fails : (a b : List ℕ) → isLess (compare a b) ≡ false → same a b ≡ false → Below b a
+less-fails a b h k = go (compare a b) refl
+  where
+    go : (o : Order) → compare a b ≡ o → Below b a
+    go Less e = absurd (true≢false (ap isLess (sym e) ∙ h))
+    go Same e = absurd (true≢false (sym (same-refl b) ∙ (rw (compare-same a b e) at k)))
+    go More e = more-below a b e
 
 module _ {E P : Type 0} (K : Kind E P) where
   pub ascends-says : (l : List E) → ascends K l ≡ true → Ascending K l
