@@ -12,7 +12,6 @@ use lib.Pow.{shl-exact, shl-shr, shr-le}
 use borrow.Author.Tests.{ne-eqb, eqb-true, eqb-false, leb-true, leb-false}
 use Rattle.octets.specs.Lists.{all}
 use Rattle.octets.proofs.Lists.{drop-step}
-pub use Rattle.octets.proofs.Bitwise.{or-step}
 use Rattle.channel.specs.WellFormed.{isZero}
 
 -- ---- the first n at a place

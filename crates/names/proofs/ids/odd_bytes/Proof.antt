@@ -1,15 +1,14 @@
 -- `odd_bytes` meets its contract. The invariant: all bytes behind the first may stand in an id exactly if there are no bits so far and those from i on
 -- may. Assumes nothing.
-use mathlib.Core.Path.{_≡_, refl, sym, ap, _∙_}
-use mathlib.Core.Bool.{Bool, _&&_, and-true}
+use mathlib.Core.Path.{_≡_, refl, sym, _∙_}
+use mathlib.Core.Bool.{_&&_}
 use Prim.Native.Nat.{_-_}
 use lib.ListN.{drop}
 use lib.Dec.{eqb}
 use borrow.Author.Needs.{needs}
 use Rattle.octets.specs.Bytes.{isIdByte}
 use Rattle.octets.specs.Lists.{all}
-use Rattle.octets.proofs.Lists.{all-past}
-use Rattle.octets.proofs.Bitwise.{or-step}
+use Rattle.octets.proofs.Bitwise.{or-step, or-past}
 use Rattle.names.specs.Names.{userIdLength}
 use Rattle.names.proofs.ids.odd_bytes.Statement.{statement}
 use Rattle.names.proofs.ids.odd_bytes.Tie as tie
@@ -43,7 +42,7 @@ loop-again c =
 returns : tie.Need-returns Inv-loop μ-loop
 returns c =
     let l = c .before .loop in
-    sym (l .inv ∙ ap (λ (t : Bool). eqb (l .bits) 0 && t) (all-past isIdByte _ (l .i) (search needs)) ∙ and-true (eqb (l .bits) 0))
+    sym (l .inv ∙ or-past isIdByte _ (l .i) (l .bits) (search needs))
 
 pub odd-bytes-spec : {M : Type 1} → statement M
 odd-bytes-spec =
