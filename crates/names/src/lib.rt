@@ -35,7 +35,7 @@ pub fn fold(b: u8) -> u8
     }
 }
 
-// Whether two names are equal: their folds are.
+// Whether two names are equal: their folds are. Bytes that are the same need not be folded.
 pub fn equal(a: &[u8], b: &[u8]) -> bool
     ensures { λ r. ⌜ r ≡ sameName (now (a .entry)) (now (b .entry)) ⌝ }
 {
@@ -44,6 +44,10 @@ pub fn equal(a: &[u8], b: &[u8]) -> bool
     }
     let mut i = 0;
     while i < a.len() {
+        if a[i] == b[i] {
+            i += 1;
+            continue;
+        }
         if fold(a[i]) != fold(b[i]) {
             return false;
         }

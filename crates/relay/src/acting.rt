@@ -35,12 +35,16 @@ fn with_record(t: Table, k: usize, r: Record) -> Table
     next
 }
 
-// The table without a user.
+// The table without a user. A free slot stays the empty record, and isn't looked through.
 fn without_user(t: Table, user: [u8; USER_ID]) -> Table
     ensures { λ r. ⌜ r ≡ withSlots t (map (withoutOf user) (t .slots)) ⌝ }
 {
     let mut next = t;
     for k in 0..Record::SLOTS {
+        if t.slots[k].count == 0 {
+            next.slots[k] = Record::empty();
+            continue;
+        }
         let r = t.slots[k];
         next.slots[k] = without(r, user);
     }

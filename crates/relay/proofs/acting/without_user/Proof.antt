@@ -8,6 +8,7 @@ use Rattle.octets.proofs.Lists.{unmapped}
 use Rattle.octets.proofs.Mapped.{mapped, mapped-none, mapped-step, mapped-all}
 use Rattle.channel.specs.Limits.{slotCount}
 use Rattle.channel.specs.Members.{without}
+use Rattle.channel.proofs.Removals.{without-free}
 use Rattle.relay.specs.Relay.{withSlots}
 use Rattle.relay.proofs.acting.without_user.Statement.{statement}
 use Rattle.relay.proofs.acting.without_user.Tie as tie
@@ -21,17 +22,17 @@ abbrev μ-loop : tie.MeasureT-loop
 loop-holds : tie.Need-loop-holds Inv-loop μ-loop
 loop-holds c = (search needs, ap (withSlots (c .args .t1)) (sym (mapped-none (without (c .args .user)) (c .args .t1 .slots))))
 
-mul-r : tie.Need-mul-r Inv-loop μ-loop
-mul-r c = search needs
+mul-if1 : tie.Need-mul-if1 Inv-loop μ-loop
+mul-if1 c = search needs
 
-element-copy-out-r : tie.Need-element-copy-out-r Inv-loop μ-loop
-element-copy-out-r c = search needs
+element-copy-out-if1 : tie.Need-element-copy-out-if1 Inv-loop μ-loop
+element-copy-out-if1 c = search needs
 
-without-requires : tie.Need-without-requires Inv-loop μ-loop
-without-requires c κs = search needs
+empty-requires : tie.Need-empty-requires Inv-loop μ-loop
+empty-requires c κs = search needs
 
-mul-t9 : tie.Need-mul-t9 Inv-loop μ-loop
-mul-t9 c = search needs
+mul-t14 : tie.Need-mul-t14 Inv-loop μ-loop
+mul-t14 c = search needs
 
 element-set-from-next : tie.Need-element-set-from-next Inv-loop μ-loop
 element-set-from-next c = search needs
@@ -48,6 +49,35 @@ loop-again c =
     let user = c .before .before .before .before .args .user in
     let l = c .before .before .before .loop in
     let e : length (t .slots) ≡ slotCount = search (needs, unmapped) in
+    (search needs, rw (l .inv .1, c .empty .ensures .0 ∙ sym (without-free user _ (c .before .if1 .taken))) (ap (withSlots t) (mapped-step (without user) (t .slots) (l .k) _ (omega (arith, e)))))
+
+mul-r : tie.Need-mul-r Inv-loop μ-loop
+mul-r c = search needs
+
+element-copy-out-r : tie.Need-element-copy-out-r Inv-loop μ-loop
+element-copy-out-r c = search needs
+
+without-requires : tie.Need-without-requires Inv-loop μ-loop
+without-requires c κs = search needs
+
+mul-t12 : tie.Need-mul-t12 Inv-loop μ-loop
+mul-t12 c = search needs
+
+element-set-from-next-2 : tie.Need-element-set-from-next-2 Inv-loop μ-loop
+element-set-from-next-2 c = search needs
+
+add-k-2 : tie.Need-add-k-2 Inv-loop μ-loop
+add-k-2 c = search needs
+
+loop-less-2 : tie.Need-loop-less-2 Inv-loop μ-loop
+loop-less-2 c = search needs
+
+loop-again-2 : tie.Need-loop-again-2 Inv-loop μ-loop
+loop-again-2 c =
+    let t = c .before .before .before .before .before .args .t1 in
+    let user = c .before .before .before .before .before .args .user in
+    let l = c .before .before .before .before .loop in
+    let e : length (t .slots) ≡ slotCount = search (needs, unmapped) in
     (search needs, rw (l .inv .1, c .without .ensures) (ap (withSlots t) (mapped-step (without user) (t .slots) (l .k) _ (omega (arith, e)))))
 
 returns : tie.Need-returns Inv-loop μ-loop
@@ -63,12 +93,20 @@ without-user-spec =
     Inv-loop
     μ-loop
     loop-holds
-    mul-r
-    element-copy-out-r
-    without-requires
-    mul-t9
+    mul-if1
+    element-copy-out-if1
+    empty-requires
+    mul-t14
     element-set-from-next
     add-k
     loop-less
     loop-again
+    mul-r
+    element-copy-out-r
+    without-requires
+    mul-t12
+    element-set-from-next-2
+    add-k-2
+    loop-less-2
+    loop-again-2
     returns)
