@@ -91,9 +91,11 @@ table = array slotCount (struct channel) ∷ struct links ∷ []
 abbrev pub numbered : Kind → List Kind
 numbered k = byte ∷ k ∷ []
 
+-- Registered: the table, then its number
 abbrev pub registered : List Kind
 registered = struct table ∷ byte ∷ []
 
+-- Taken: the table, the length of what was written, the links and how many they are, then its number
 abbrev pub taken : List Kind
 taken = struct table ∷ long ∷ word ∷ word ∷ byte ∷ []
 

@@ -36,7 +36,7 @@ use Rattle.relay.specs.declared.Taken.{Taken}
 use Rattle.relay.specs.Relay.{slotsBy, withSlots}
 use Rattle.relay.proofs.Used.{free-rules}
 use Rattle.relay.proofs.Answering.{answer-refused, answer-accepted}
-use Rattle.relay.proofs.Joining.{entryRules, entered, join-refused, join-entered, slots-joined, opened, merged, merge-room}
+use Rattle.relay.proofs.Joining.{earlierRules, entered, join-refused, join-entered, slots-joined, opened, merged, merge-room}
 use Rattle.convergence.specs.Demands.{Join, Empty, numberAt, isGood, goodLines, takeJoin, numbersOf, tableAfter, channelOf, Kept}
 use Rattle.convergence.specs.Ours.{ours}
 
@@ -86,7 +86,7 @@ module _ (start : Table) (empty : Empty start) where
   -- ---- one join
   -- its number by the rules that don't depend on the slots
   abbrev entry : Join → ℕ
-  entry j = firstOf (entryRules (start .links) (j .link) (j .line) (length (j .output)))
+  entry j = firstOf (earlierRules (start .links) (j .link) (j .line) (length (j .output)))
 
   -- at the start those decide: the channel is new, and a line names no more users than a record holds
   pub start-number : (j : Join) → numberAt start j ≡ entry j

@@ -17,7 +17,7 @@ state i j after run = record { mask = i; text = j; star = after; run = run }
 abbrev pub start : State
 start = state 0 0 0 0
 
--- The state's places lie in mask and text, and the text is within the limit.
+-- The state's places lie in mask and text, the last star's run ends no later than the place in the text, and the text is within the limit.
 pub record Inside (mask text : List ℕ) (s : State) : Type 0 where
   pub in-mask : s .mask ≤ length mask
   pub in-text : s .text ≤ length text

@@ -15,7 +15,7 @@ use crate::USER_ID;
 // The bytes that are taken as one number.
 const FRONT: usize = 8;
 
-// None for a byte within a range, one for another.
+// 0 for a byte within a range, 1 for any other.
 fn outside(b: u8, lo: u8, hi: u8) -> u8
     ensures { λ r. ⌜ r ≡ cond (within lo b hi) 0 1 ⌝ }
 {
@@ -28,14 +28,14 @@ fn outside(b: u8, lo: u8, hi: u8) -> u8
     0
 }
 
-// None for a byte that may stand in an id, one for another: both ranges are looked at, without a branch.
+// 0 for a byte that may stand in an id, 1 for any other: both ranges are looked at, so that the outcome of neither decides what is done next.
 fn odd(b: u8) -> u8
     ensures { λ r. ⌜ eqb r 0 ≡ isIdByte b ⌝ }
 {
     outside(b, b'A', b'Z') & outside(b, b'0', b'9')
 }
 
-// None if every byte behind the first may stand in an id: one test serves all of them.
+// 0 if every byte behind the first may stand in an id: one test serves all of them.
 fn odd_bytes(id: [u8; USER_ID]) -> u8
     ensures { λ r. ⌜ eqb r 0 ≡ all isIdByte (drop 1 id) ⌝ }
 {

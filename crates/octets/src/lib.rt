@@ -126,7 +126,7 @@ fn is_in(b: u8, class: Class) -> bool
     }
 }
 
-// None for a byte of the class, one for another.
+// 0 for a byte of the class, 1 for any other.
 fn not_in(b: u8, class: Class) -> u8
     ensures { λ r. ⌜ r ≡ cond (inClass class b) 0 1 ⌝ }
 {

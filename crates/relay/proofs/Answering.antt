@@ -21,7 +21,8 @@ use Rattle.table.proofs.WellFormed.{slots-good}
 use Rattle.relay.specs.declared.Change.{Change}
 use Rattle.relay.specs.declared.Taken.{Taken}
 use Rattle.relay.specs.Relay.{commandIn, takenRules, processRules, relayed, withSlots, refused, taken, processAnswer, sent}
-use Rattle.relay.specs.Private.{Changes, slotsWith, sendRules, sendLine}
+use Rattle.relay.specs.Private.{slotsWith, sendRules, sendLine}
+use Rattle.relay.proofs.Judgements.{Changes}
 use Rattle.relay.proofs.Relayed.{rules-none}
 use Rattle.relay.proofs.Enacted.{enacted-slots, enacted-line, enacted-rules}
 

@@ -29,7 +29,8 @@ use Rattle.relay.specs.declared.Command.the-variants.{Sjoin, Part, Quit,
 use Rattle.relay.specs.declared.Change.{Change}
 use Rattle.relay.specs.Commands.{sourceIn}
 use Rattle.relay.specs.Relay.{resulting, joined, outgoing, parted, slotsAfter, messageAfter, commandIn, takenRules, slotsBy, relayed}
-use Rattle.relay.specs.Private.{Changes, slotsWith, sendRules, sendLine}
+use Rattle.relay.specs.Private.{slotsWith, sendRules, sendLine}
+use Rattle.relay.proofs.Judgements.{Changes}
 use Rattle.relay.proofs.Relayed.{rules-none, join-none, relayed-reads}
 use Rattle.relay.proofs.Taking.{result-proper}
 

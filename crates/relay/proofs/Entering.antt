@@ -20,8 +20,9 @@ use Rattle.table.specs.Table.{goodTable}
 use Rattle.relay.specs.declared.Command.{Command}
 use Rattle.relay.specs.declared.Request.{Request}
 use Rattle.relay.specs.declared.Change.{Change}
-use Rattle.relay.specs.Relay.{commandRules, commandIn, takenRules, processRules}
-use Rattle.relay.specs.Private.{entryRules, Requested, Judged}
+use Rattle.relay.specs.Relay.{commandRules, commandIn, takenRules, entryRules, processRules}
+use Rattle.relay.specs.Private.{Requested}
+use Rattle.relay.proofs.Judgements.{Judged}
 
 -- ---- table, output and link
 -- a set of 32 bits has no link above 31
@@ -33,40 +34,39 @@ linked set link s = go (isLink link) refl
     go false e = rw e (sym (bit-past set linkCount link s (ltb-false link linkCount e)))
 
 module _ (good : Bool) (set link n : ℕ) where
-  pub entry-ill-formed : good ≡ false → firstOf (entryRules good set link n) ≡ notWellFormed
-  unfolding firstOf entryRules
+  pub entry-ill-formed : good ≡ false → firstOf (entryRules good n set link) ≡ notWellFormed
+  unfolding firstOf
   entry-ill-formed g = rw g
 
   module _ (g : good ≡ true) where
-    pub entry-short : n < lineLimit → firstOf (entryRules good set link n) ≡ outputTooShort
-    unfolding firstOf entryRules
+    pub entry-short : n < lineLimit → firstOf (entryRules good n set link) ≡ outputTooShort
+    unfolding firstOf
     entry-short h = rw (g, lt-ltb n lineLimit h)
 
     module _ (h : lineLimit ≤ n) (s : set < 2 ^ linkCount) where
-      pub entry-unlinked : hasBit set link ≡ false → firstOf (entryRules good set link n) ≡ badLink
-      unfolding firstOf entryRules
+      pub entry-unlinked : hasBit set link ≡ false → firstOf (entryRules good n set link) ≡ badLink
+      unfolding firstOf
       entry-unlinked l = rw (g, le-ltb n lineLimit h, linked set link s, l)
 
-      pub entry-passes : hasBit set link ≡ true → firstOf (entryRules good set link n) ≡ accepted
-      unfolding firstOf entryRules
+      pub entry-passes : hasBit set link ≡ true → firstOf (entryRules good n set link) ≡ accepted
+      unfolding firstOf
       entry-passes l = rw (g, le-ltb n lineLimit h, linked set link s, l)
 
-  pub entry-good : firstOf (entryRules good set link n) ≡ accepted → good ≡ true
-  unfolding entryRules
+  pub entry-good : firstOf (entryRules good n set link) ≡ accepted → good ≡ true
   entry-good e = not-false _ (first-none _ _ (λ z. omega arith) e .0)
 
 -- those numbers come first
 module _ (t : Table) (link : ℕ) (line : List ℕ) (n : ℕ) where
   abbrev entry : ℕ
-  entry = firstOf (entryRules (goodTable t) (t .links .set) link n)
+  entry = firstOf (entryRules (goodTable t) n (t .links .set) link)
 
   pub entry-refuses : (entry ≡ accepted → ⊥) → firstOf (processRules t link line n) ≡ entry
-  unfolding entryRules processRules
-  entry-refuses ne = append-some (takenRules (t .slots) line) (entryRules (goodTable t) (t .links .set) link n) ne
+  unfolding processRules
+  entry-refuses ne = append-some (takenRules (t .slots) line) (entryRules (goodTable t) n (t .links .set) link) ne
 
   pub enters : entry ≡ accepted → firstOf (processRules t link line n) ≡ firstOf (takenRules (t .slots) line)
-  unfolding entryRules processRules ascendFrom
-  enters e = append-none (takenRules (t .slots) line) (entryRules (goodTable t) (t .links .set) link n) refl e
+  unfolding processRules ascendFrom
+  enters e = append-none (takenRules (t .slots) line) (entryRules (goodTable t) n (t .links .set) link) refl e
 
 -- ---- the reader's numbers
 module _ (line : List ℕ) where
@@ -88,7 +88,7 @@ module _ (line : List ℕ) where
     }
 
 -- a command's judgement is that of the line
-pub enters-judged : (t : Table) (link : ℕ) (line : List ℕ) (n : ℕ) → firstOf (entryRules (goodTable t) (t .links .set) link n) ≡ accepted → isRead line ≡ true → (j : Change)
+pub enters-judged : (t : Table) (link : ℕ) (line : List ℕ) (n : ℕ) → firstOf (entryRules (goodTable t) n (t .links .set) link) ≡ accepted → isRead line ≡ true → (j : Change)
     → Judged (commandRules (commandIn line) (t .slots) (contentOf line)) (commandIn line) (t .slots) (contentOf line) j
     → Judged (processRules t link line n) (commandIn line) (t .slots) (contentOf line) j
 enters-judged t link line n e r j q =

@@ -47,19 +47,19 @@ unfolding commandOf
 command-join line e = rw (e, same-refl sjoin)
 
 -- the rules of such a line on a well-formed table, those on its slots apart
-abbrev pub entryRules : Links → ℕ → List ℕ → ℕ → List Rule
-entryRules links link line n =
+abbrev pub earlierRules : Links → ℕ → List ℕ → ℕ → List Rule
+earlierRules links link line n =
     outputTooShort when ltb n lineLimit
     ∷ badLink when not (isLink link && hasBit (links .set) link)
     ∷ (lineRules line ++ joinRules (contentOf line))
 
-entry-ascends : (links : Links) (link : ℕ) (line : List ℕ) (n : ℕ) → ascend (entryRules links link line n) ≡ true
+earlier-ascend : (links : Links) (link : ℕ) (line : List ℕ) (n : ℕ) → ascend (earlierRules links link line n) ≡ true
 unfolding ascendFrom lineRules bodyRules joinRules
-entry-ascends links link line n = refl
+earlier-ascend links link line n = refl
 
 module _ (line : List ℕ) (is : IsJoin line) where
   -- no rule of the line applies: it is SJOIN, and what it tells of is proper
-  pub entered : (links : Links) (link n : ℕ) → firstOf (entryRules links link line n) ≡ accepted → (map capital (contentOf line .command) ≡ sjoin) × Proper (channelIn (contentOf line))
+  pub entered : (links : Links) (link n : ℕ) → firstOf (earlierRules links link line n) ≡ accepted → (map capital (contentOf line .command) ≡ sjoin) × Proper (channelIn (contentOf line))
   unfolding numberFor isRead
   entered links link n e = go is
     where
@@ -85,17 +85,17 @@ module _ (line : List ℕ) (is : IsJoin line) where
           ∙ sym (ap firstOf (append-assoc (lineRules line) (joinRules (contentOf line)) (joinedRules slots (channelIn (contentOf line)))) ∙ append-some _ (lineRules line) ne)
 
   module _ (t : Table) (good : goodTable t ≡ true) (link n : ℕ) where
-    process-rules : firstOf (processRules t link line n) ≡ firstOf (entryRules (t .links) link line n ++ joinedRules (t .slots) (channelIn (contentOf line)))
+    process-rules : firstOf (processRules t link line n) ≡ firstOf (earlierRules (t .links) link line n ++ joinedRules (t .slots) (channelIn (contentOf line)))
     unfolding processRules firstOf
     process-rules = rw (good, taken-rules (t .slots))
 
     -- a rule that isn't about the slots
-    pub join-refused : (firstOf (entryRules (t .links) link line n) ≡ accepted → ⊥) → firstOf (processRules t link line n) ≡ firstOf (entryRules (t .links) link line n)
+    pub join-refused : (firstOf (earlierRules (t .links) link line n) ≡ accepted → ⊥) → firstOf (processRules t link line n) ≡ firstOf (earlierRules (t .links) link line n)
     join-refused ne = process-rules ∙ append-some _ _ ne
 
     -- none of those: 21 and 22 are left
-    pub join-entered : firstOf (entryRules (t .links) link line n) ≡ accepted → firstOf (processRules t link line n) ≡ firstOf (joinedRules (t .slots) (channelIn (contentOf line)))
-    join-entered e = process-rules ∙ append-none _ _ (entry-ascends (t .links) link line n) e
+    pub join-entered : firstOf (earlierRules (t .links) link line n) ≡ accepted → firstOf (processRules t link line n) ≡ firstOf (joinedRules (t .slots) (channelIn (contentOf line)))
+    join-entered e = process-rules ∙ append-none _ _ (earlier-ascend (t .links) link line n) e
 
 -- ---- the slots
 pub slots-joined : (slots : List Record) (line : List ℕ) → map capital (contentOf line .command) ≡ sjoin → slotsBy slots line ≡ joined slots (channelIn (contentOf line))

@@ -24,7 +24,8 @@ use Rattle.relay.specs.declared.Command.the-variants.{Part}
 use Rattle.relay.specs.declared.Change.{Change}
 use Rattle.relay.specs.Commands.{isUser, sourceIn, partedIn}
 use Rattle.relay.specs.Relay.{partRules, quitRules}
-use Rattle.relay.specs.Private.{PartsHeld, Judged}
+use Rattle.relay.specs.Private.{PartsHeld}
+use Rattle.relay.proofs.Judgements.{Judged}
 
 -- ---- the source
 -- a missing prefix is the empty one, which is no user id

@@ -25,8 +25,8 @@ use Rattle.relay.specs.declared.Request.{Request}
 use Rattle.relay.specs.declared.Change.{Change}
 use Rattle.relay.specs.Commands.{partedIn}
 use Rattle.relay.specs.Relay.{commandRules}
-use Rattle.relay.specs.Private.{AsksJoin, AsksPart, Asks, Inside, JoinsFound, PartsFound, Settled, Judged}
-use Rattle.relay.proofs.Judgements.{refused-judged}
+use Rattle.relay.specs.Private.{AsksJoin, AsksPart, Asks, Inside, JoinsFound, PartsFound, Settled}
+use Rattle.relay.proofs.Judgements.{Judged, refused-judged}
 use Rattle.relay.proofs.Used.{decoded, join-full, join-free, join-held}
 use Rattle.relay.proofs.Leaving.{part-absent, part-judged}
 
@@ -47,14 +47,14 @@ module _ (slots : List Record) (line : List ℕ) (q : Request) (j : Change) wher
   Judges k = Judged (commandRules k slots content) k slots content j
 
   -- ---- SJOIN
+  incoming : AsksJoin line q → isRead line ≡ true → decode (q .«record») .name ≡ channelIn content .name
+  incoming a read = ap (λ (c : Channel). c .name) (decoded slots line _ (a .tells) read refl)
+
   module _ (a : AsksJoin line q) (read : isRead line ≡ true) (sixteen : length slots ≡ slotCount) (good : all goodSlot slots ≡ true) where
     join-settled : (s : Slot) → slotFor slots (channelIn content .name) ≡ s → JoinsFound s (heldIn slots s) (q .«record») j → Judges Sjoin
     join-settled (Held k) e f = join-held slots line _ (a .tells) read refl sixteen k e good (heldIn slots (Held k)) refl j f
     join-settled (Free k) e f = join-free slots line _ (a .tells) read refl sixteen k e j (f .0) (f .1)
     join-settled Full e f = join-full slots line _ (a .tells) read refl e j f
-
-    incoming : decode (q .«record») .name ≡ channelIn content .name
-    incoming = ap (λ (c : Channel). c .name) (decoded slots line _ (a .tells) read refl)
 
   -- ---- PART
   module _ (a : AsksPart content q) where
@@ -64,12 +64,21 @@ module _ (slots : List Record) (line : List ℕ) (q : Request) (j : Change) wher
     part-settled Full e f = refused-judged _ Part slots content _ j f (λ z. omega (arith, z)) (part-absent slots content (a .counted .0) (a .counted .1) (a .sourced) (a .named) (ap isHeld e))
 
   -- ---- by the command
-  pub settled-judged : isRead line ≡ true → length slots ≡ slotCount → all goodSlot slots ≡ true → (f : Found) → f ≡ foundFor slots (decode (q .«record») .name)
-      → (k : Command) → Asks k line q → Settled (q .command) q f j → Judges k
+  -- neither is QUIT, of which no slot is looked for
+  joins-stay : q .command ≡ Sjoin → q .command ≡ Quit → ⊥
+  joins-stay a b = let z : _≡_ {A = ℕ} 0 1 = cc in absurd (omega arith)
+
+  parts-stay : q .command ≡ Part → q .command ≡ Quit → ⊥
+  parts-stay a b = let z : _≡_ {A = ℕ} 0 1 = cc in absurd (omega arith)
+
+  pub settled-judged : isRead line ≡ true → length slots ≡ slotCount → all goodSlot slots ≡ true → (f : Found)
+      → ((q .command ≡ Quit → ⊥) → f ≡ foundFor slots (decode (q .«record») .name)) → (k : Command) → Asks k line q → Settled (q .command) q f j → Judges k
   settled-judged read sixteen good f e Sjoin a s =
-      let name = incoming a read sixteen good in
-      join-settled a read sixteen good (slotFor slots (channelIn content .name)) refl (rw (a .command, e, name) at s)
-  settled-judged read sixteen good f e Part a s = part-settled a (slotFor slots (partedIn content)) refl (rw (a .command, e, a .names) at s)
+      let at : f ≡ foundFor slots (decode (q .«record») .name) = e (λ z. joins-stay (a .command) z) in
+      join-settled a read sixteen good (slotFor slots (channelIn content .name)) refl (rw (a .command, at, incoming a read) at s)
+  settled-judged read sixteen good f e Part a s =
+      let at : f ≡ foundFor slots (decode (q .«record») .name) = e (λ z. parts-stay (a .command) z) in
+      part-settled a (slotFor slots (partedIn content)) refl (rw (a .command, at, a .names) at s)
   settled-judged read sixteen good f e Quit a s =
       let h : Settled Quit q f j = rw (a .command) at s in
       record { number = h .0 ∙ sym (a .passes); inside = h .1; changes = λ _. rw (a .leaves) at (h .2) }

@@ -36,8 +36,8 @@ use Rattle.sjoin.proofs.Wellformed.{read-proper}
 use Rattle.relay.specs.declared.Change.{Change}
 use Rattle.relay.specs.declared.Command.the-variants.{Sjoin}
 use Rattle.relay.specs.Relay.{resulting, joinedRules}
-use Rattle.relay.specs.Private.{unchanged, Joins, JoinsHeld, Judged}
-use Rattle.relay.proofs.Judgements.{refused-judged}
+use Rattle.relay.specs.Private.{unchanged, Joins, JoinsHeld}
+use Rattle.relay.proofs.Judgements.{Judged, refused-judged}
 
 module _ (slots : List Record) (c : Channel) (p : Proper c) where
   back : decode (encode c) ≡ c
@@ -99,8 +99,8 @@ module _ (slots : List Record) (line : List ℕ) (told : Told) (is : told ≡ to
   number : told .number ≡ firstOf (joinRules content)
   number = ap (λ (t : Told). t .number) is ∙ told-number line read
 
-  pub join-refused : (told .number ≡ accepted → ⊥) → firstOf (joinRules content ++ joinedRules slots incoming) ≡ told .number
-  join-refused ne = append-some (joinedRules slots incoming) (joinRules content) (λ f. ne (number ∙ f)) ∙ sym number
+  pub join-number : (told .number ≡ accepted → ⊥) → firstOf (joinRules content ++ joinedRules slots incoming) ≡ told .number
+  join-number ne = append-some (joinedRules slots incoming) (joinRules content) (λ f. ne (number ∙ f)) ∙ sym number
 
   module _ (none : told .number ≡ accepted) where
     proper : Proper incoming

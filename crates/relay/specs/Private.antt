@@ -1,15 +1,13 @@
--- What private functions ask and promise: a judgement, and what is made of it. No public contract cites this file: nobody needs to believe it.
+-- What private functions ask and promise: what a line asks for, what that comes to in its slot, and what is made of it. No public contract cites this
+-- file: nobody needs to believe it.
 use Prim.Native.Nat.{ℕ, _≤_, _<_}
 use mathlib.Core.Path.{_≡_}
-use mathlib.Core.Bool.{Bool, true, not, cond, _&&_}
-use mathlib.Core.List.{List, [], _∷_, map}
+use mathlib.Core.Bool.{true, cond}
+use mathlib.Core.List.{List, map}
 use lib.ListN.{length, set, replicate}
-use lib.Dec.{ltb}
-use Rattle.refusal.specs.Numbers.{accepted, notWellFormed, outputTooShort, badLink, unknownCommand, noSuchChannel, notOnChannel, noFreeSlot}
-use Rattle.refusal.specs.Rules.{Rule, _when_, firstOf}
-use Rattle.octets.specs.Bits.{hasBit}
+use Rattle.refusal.specs.Numbers.{accepted, unknownCommand, noSuchChannel, notOnChannel, noFreeSlot}
+use Rattle.refusal.specs.Rules.{Rule, firstOf}
 use Rattle.names.specs.Names.{userIdLength, isChannel}
-use Rattle.message.specs.Grammar.{lineLimit}
 use Rattle.message.specs.Content.{Content}
 use Rattle.message.specs.Reading.{contentOf}
 use Rattle.writer.specs.Form.{written}
@@ -17,32 +15,21 @@ use Rattle.writer.specs.Writing.{forwardRules, forwarded}
 use Rattle.channel.specs.declared.Record.{Record}
 use Rattle.channel.specs.Limits.{slotCount}
 use Rattle.channel.specs.Channel.{Channel}
-use Rattle.channel.specs.Record.{encode, decode, emptyRecord}
+use Rattle.channel.specs.Record.{decode, emptyRecord}
 use Rattle.channel.specs.declared.Merged.{Merged}
 use Rattle.channel.specs.Members.{hasMember, without}
 use Rattle.channel.specs.Merging.{mergeAnswer}
-use Rattle.links.specs.Links.{isLink}
 use Rattle.table.specs.declared.Found.{Found}
 use Rattle.table.specs.declared.Slot.{Slot}
 use Rattle.table.specs.declared.Slot.the-variants.{Held, Free, Full}
-use Rattle.table.specs.Slots.{slotFor, heldIn, placeOf}
-use Rattle.sjoin.specs.Join.{channelIn, toldBy}
+use Rattle.sjoin.specs.Join.{toldBy}
 use Rattle.sjoin.specs.Telling.{joinMessage, tellRules}
 use Rattle.relay.specs.declared.Command.{Command}
 use Rattle.relay.specs.declared.Command.the-variants.{Sjoin, Part, Quit, Unknown}
 use Rattle.relay.specs.declared.Request.{Request}
 use Rattle.relay.specs.declared.Change.{Change}
 use Rattle.relay.specs.Commands.{isUser, sourceIn, partedIn}
-use Rattle.relay.specs.Relay.{resulting, outgoing, quitRules}
-
--- ---- table, output and link
--- the rules that come before those of the line
-unfoldable pub entryRules : Bool → ℕ → ℕ → ℕ → List Rule
-entryRules good set link n =
-    notWellFormed when not good
-    ∷ outputTooShort when ltb n lineLimit
-    ∷ badLink when not (isLink link && hasBit set link)
-    ∷ []
+use Rattle.relay.specs.Relay.{outgoing, quitRules}
 
 -- ---- what a line asks for
 abbrev pub nothing : ℕ → Request
@@ -79,7 +66,7 @@ pub record Requested (rules : List Record → List Rule) (command : Command) (li
   pub refused : (q .number ≡ accepted → ⊥) → (slots : List Record) → firstOf (rules slots) ≡ q .number
   pub asks : q .number ≡ accepted → Asks command line q
 
--- ---- a judgement
+-- ---- what it comes to
 abbrev pub unchanged : ℕ → Change
 unchanged number = record { number = number; command = Unknown; slot = 0; «record» = emptyRecord; told = emptyRecord; user = replicate userIdLength 0 }
 
@@ -136,19 +123,6 @@ Settled Sjoin q f j = JoinsFound (f .slot) (f .«record») (q .«record») j
 Settled Part q f j = PartsFound (f .slot) (f .«record») (q .user) j
 Settled Quit q f j = (j .number ≡ accepted) × (j .slot < slotCount) × Quits (q .user) j
 Settled Unknown q f j = j ≡ unchanged unknownCommand
-
--- the change that a message of a command makes
-abbrev pub Changes : Command → List Record → Content → Change → Type 0
-Changes Sjoin slots c j = Joins (placeOf slots (slotFor slots (channelIn c .name))) (encode (resulting slots (channelIn c))) (channelIn c) j
-Changes Part slots c j = Parts (placeOf slots (slotFor slots (partedIn c))) (without (sourceIn c) (heldIn slots (slotFor slots (partedIn c)))) j
-Changes Quit slots c j = Quits (sourceIn c) j
-Changes Unknown slots c j = ⊥
-
--- The number is that of the first rule that applies; where none does, the change is that of the message.
-pub record Judged (rules : List Rule) (command : Command) (slots : List Record) (c : Content) (j : Change) : Type 0 where
-  pub number : j .number ≡ firstOf rules
-  pub inside : j .slot < slotCount
-  pub changes : firstOf rules ≡ accepted → Changes command slots c j
 
 -- ---- what is made of it
 abbrev pub slotsWith : Command → Change → List Record → List Record

@@ -1,9 +1,9 @@
 -- Taking a line (document 01, 'SJOIN', 'What goes out' and 'The numbers a caller may get'): the rules in their order, the slots after, the line that
 -- goes out, and the answer. From rule 4 on, all depends on the slots and the line alone; the links enter rule 3 and the relay set.
 use Prim.Native.Nat.{ℕ}
-use mathlib.Core.Bool.{true, not, cond, _&&_}
+use mathlib.Core.Bool.{Bool, true, not, cond, _&&_}
 use mathlib.Core.List.{List, [], _∷_, _++_, map}
-use lib.ListN.{length, getD, set}
+use lib.ListN.{length, set}
 use lib.Dec.{eqb, leb, ltb}
 use Rattle.refusal.specs.Numbers.{accepted, notWellFormed, outputTooShort, badLink, unknownCommand, wrongParamCount, badSource, badName, noSuchChannel, notOnChannel, noFreeSlot, tooManyMembers}
 use Rattle.refusal.specs.Rules.{Rule, _when_, firstOf, emitted}
@@ -16,7 +16,7 @@ use Rattle.writer.specs.Form.{written, inCapitals}
 use Rattle.channel.specs.declared.Record.{Record}
 use Rattle.channel.specs.Limits.{memberLimit}
 use Rattle.channel.specs.Channel.{Channel}
-use Rattle.channel.specs.Record.{encode, decode, emptyRecord}
+use Rattle.channel.specs.Record.{encode, decode}
 use Rattle.channel.specs.Members.{hasMember, without}
 use Rattle.channel.specs.Merging.{given, standing, merge}
 use Rattle.links.specs.Links.{isLink, relaySet, linksIn}
@@ -35,7 +35,7 @@ use Rattle.relay.specs.Commands.{commandOf, isUser, sourceIn, partedIn}
 -- ---- SJOIN
 -- what an incoming channel comes to in its slot: merged into the one that is there, or itself where it is new
 abbrev pub resultIn : List Record → Channel → Slot → Channel
-resultIn slots c (Held k) = merge (decode (getD slots k emptyRecord)) c
+resultIn slots c (Held k) = merge (decode (heldIn slots (Held k))) c
 resultIn slots c (Free k) = c
 resultIn slots c Full = c
 
@@ -114,13 +114,17 @@ commandIn line = commandOf (contentOf line .command)
 unfoldable pub takenRules : List Record → List ℕ → List Rule
 takenRules slots line = lineRules line ++ commandRules (commandIn line) slots (contentOf line)
 
--- all rules, with n bytes of lent output
-unfoldable pub processRules : Table → ℕ → List ℕ → ℕ → List Rule
-processRules t link line n =
-    notWellFormed when not (goodTable t)
+-- those that come before: by whether the table is well formed, n bytes of lent output, and the link, of a set of registered ones
+abbrev pub entryRules : Bool → ℕ → ℕ → ℕ → List Rule
+entryRules good n set link =
+    notWellFormed when not good
     ∷ outputTooShort when ltb n lineLimit
-    ∷ badLink when not (isLink link && hasBit (t .links .set) link)
-    ∷ takenRules (t .slots) line
+    ∷ badLink when not (isLink link && hasBit set link)
+    ∷ []
+
+-- all rules
+unfoldable pub processRules : Table → ℕ → List ℕ → ℕ → List Rule
+processRules t link line n = entryRules (goodTable t) n (t .links .set) link ++ takenRules (t .slots) line
 
 -- the slots after a line, and the line that goes out, where no rule applies
 unfoldable pub slotsBy : List Record → List ℕ → List Record

@@ -35,7 +35,7 @@ fn with_record(t: Table, k: usize, r: Record) -> Table
     next
 }
 
-// The table without a user. A free slot stays the empty record, and isn't looked through.
+// The table without a user. A free slot isn't looked through: whatever it holds, the empty record is left.
 fn without_user(t: Table, user: [u8; USER_ID]) -> Table
     ensures { λ r. ⌜ r ≡ withSlots t (map (withoutOf user) (t .slots)) ⌝ }
 {

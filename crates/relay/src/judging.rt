@@ -1,6 +1,7 @@
 // The judgement: table, output and link first; and, of what a line asks for, what it comes to in the slot that its channel's name uses. Nothing is
 // written.
 ghost use mathlib.Core.Path.{_≡_};
+ghost use mathlib.Core.Bool.{true};
 ghost use Prim.Native.Nat.{_<_};
 ghost use Rattle.refusal.specs.Numbers.{accepted};
 ghost use Rattle.refusal.specs.Rules.{firstOf};
@@ -8,8 +9,9 @@ ghost use Rattle.channel.specs.Limits.{slotCount};
 ghost use Rattle.channel.specs.Record.{decode};
 ghost use Rattle.channel.specs.Merging.{bare as bareOf, mergeAnswer};
 ghost use Rattle.table.specs.Slots.{foundFor};
-ghost use Rattle.relay.specs.Relay.{outgoing as outgoingOf};
-ghost use Rattle.relay.specs.Private.{entryRules, unchanged, Inside, Joins, JoinsHeld, JoinsFound, PartsHeld, PartsFound, Quits, Settled};
+ghost use Rattle.relay.specs.declared.Command.the-variants.{Quit};
+ghost use Rattle.relay.specs.Relay.{outgoing as outgoingOf, entryRules};
+ghost use Rattle.relay.specs.Private.{unchanged, Inside, Joins, JoinsHeld, JoinsFound, PartsHeld, PartsFound, Quits, Settled};
 use crate::Change;
 use crate::Command;
 use crate::Request;
@@ -36,10 +38,10 @@ use table::Slot;
 use table::Table;
 use table::find;
 
-// The first of the numbers 1 to 3 that applies, or ACCEPTED: by whether the table is well formed, the registered links, the link that a line came by,
-// and n bytes of lent output.
-pub(crate) fn entry_number(good: bool, links: Links, link: u32, n: usize) -> u8
-    ensures { λ r. ⌜ r ≡ firstOf (entryRules good (links .set) link n) ⌝ }
+// The first of the numbers 1 to 3 that applies, or ACCEPTED: by whether the table is well formed, n bytes of lent output, the registered links and the
+// link that a line came by.
+pub(crate) fn entry_number(good: bool, n: usize, links: Links, link: u32) -> u8
+    ensures { λ r. ⌜ r ≡ firstOf (entryRules good n (links .set) link) ⌝ }
 {
     if !good {
         return NOT_WELL_FORMED;
@@ -53,10 +55,30 @@ pub(crate) fn entry_number(good: bool, links: Links, link: u32, n: usize) -> u8
     ACCEPTED
 }
 
-// The slot that a channel's name uses.
-pub(crate) fn slot_of(t: Table, channel: Record) -> Found
-    ensures { λ r. ⌜ r ≡ foundFor (t .slots) (decode channel .name) ⌝ }
+// Whether the command is QUIT.
+fn is_quit(command: Command) -> bool
+    ensures { λ r. ⌜ (r ≡ true → command ≡ Quit) ⌝ }
 {
+    match command {
+        Command::Sjoin => false,
+        Command::Part => false,
+        Command::Quit => true,
+        Command::Unknown => false,
+    }
+}
+
+// The slot that the name of a request's channel uses. A QUIT names no channel, and none is looked for.
+pub(crate) fn slot_of(t: Table, request: Request) -> Found
+    ensures found { λ r. ⌜ ((request .command ≡ Quit → ⊥) → r ≡ foundFor (t .slots) (decode (request .«record») .name)) ⌝ }
+    ensures inside { λ r. ⌜ Inside (r .slot) ⌝ }
+{
+    let command = request.command;
+    if is_quit(command) {
+        let record = Record::empty();
+        let slot = Slot::Full;
+        return Found { record, slot };
+    }
+    let channel = request.record;
     let name = channel.name;
     find(t, part(&name, 0, channel.name_len))
 }
@@ -202,7 +224,8 @@ fn quits(user: [u8; USER_ID]) -> Change
     }
 }
 
-// What a request comes to in the slot that its channel's name uses: one of the numbers 19 to 22, or what is to change.
+// What a request comes to in the slot that its channel's name uses: one of the numbers 19 to 22, or what is to change. An unknown command makes no
+// request; its number is the one that it got before.
 pub(crate) fn settled(request: Request, found: Found) -> Change
     requires { ⌜ Inside (found .slot) ⌝ }
     ensures { λ r. ⌜ Settled (request .command) request found r ⌝ }

@@ -41,7 +41,7 @@ struct Request {
 }
 
 // What a request comes to: the number of its refusal, or ACCEPTED and what is to change. With SJOIN and PART one slot then holds another record,
-// and of an SJOIN the record `told` goes out; with QUIT the user leaves every channel. What doesn't belong to the command is zero.
+// and of an SJOIN the record `told` goes out; with QUIT the user leaves every channel. What a command doesn't use is not looked at.
 struct Change {
     number: u8,
     command: Command,
@@ -52,7 +52,7 @@ struct Change {
 }
 
 // The table after, or as given; how many bytes were written; the links that the line goes to, and how many they are; and the number of a refusal, or
-// ACCEPTED. The table comes first: behind a smaller field it is copied once more.
+// ACCEPTED. The table comes first: behind a smaller field it is copied twice more.
 #[repr(C)]
 pub struct Taken {
     pub table: Table,
@@ -75,14 +75,14 @@ fn refused(t: Table, number: u8) -> Taken
     }
 }
 
-// Takes a line that came from a link: table, output and link are tested, then the line by itself, then what it comes to in the slot that it uses; unless
-// a number refuses it, the table changes, and the line that goes out is written to the front of the output. The table is handed to few functions: each of
-// them copies it.
+// Takes a line that came from a link: table, output and link are tested, then the line by itself, then what it comes to in the slot that its channel's
+// name uses; unless a number refuses it, the table changes, and the line that goes out is written to the front of the output. The table is handed to few
+// functions, since each copies it.
 pub fn process(t: Table, link: u32, line: &[u8], out: &mut [u8]) -> Taken
     ensures answer { λ r. ⌜ r ≡ processAnswer t link (now (line .entry)) (length (now (out .entry))) ⌝ }
     ensures output { λ _. ⌜ now (out .exit) ≡ front (sent t link (now (line .entry)) (length (now (out .entry)))) (now (out .entry)) ⌝ }
 {
-    let entry = entry_number(is_well_formed(t), t.links, link, out.len());
+    let entry = entry_number(is_well_formed(t), out.len(), t.links, link);
     if entry != ACCEPTED {
         return refused(t, entry);
     }
@@ -91,7 +91,7 @@ pub fn process(t: Table, link: u32, line: &[u8], out: &mut [u8]) -> Taken
     if asked != ACCEPTED {
         return refused(t, asked);
     }
-    let change = settled(request, slot_of(t, request.record));
+    let change = settled(request, slot_of(t, request));
     let number = change.number;
     if number != ACCEPTED {
         return refused(t, number);

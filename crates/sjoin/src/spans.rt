@@ -1,4 +1,4 @@
-// Parts of a line whose spans are known: the line is scanned once, and each part then taken by its span.
+// Parts of a line whose spans are known: each is taken by its span, and the line isn't scanned for it again.
 ghost use mathlib.Core.Path.{_≡_};
 ghost use mathlib.Core.List.{[]};
 ghost use mathlib.Core.Option.{Option·getD};

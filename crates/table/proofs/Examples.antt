@@ -25,7 +25,7 @@ use Rattle.table.specs.declared.Table.{Table}
 use Rattle.table.specs.declared.Slot.{Slot}
 use Rattle.table.specs.declared.Slot.the-variants.{Held, Free, Full}
 use Rattle.table.specs.Table.{isFree, goodSlot, holds, alike, distinct, goodTable, registerAnswer, unregisterAnswer}
-use Rattle.table.specs.Slots.{firstAt, freeSlot, slotFor}
+use Rattle.table.specs.Slots.{firstAt, freeSlot, slotFor, heldIn}
 use Rattle.table.proofs.First.{IsFirst, IsNone}
 use Rattle.table.proofs.Searching.{slot-held, slot-free, slot-full}
 use Rattle.table.proofs.WellFormed.{held-once}
@@ -58,6 +58,11 @@ new = 35 ∷ 98 ∷ []
 found : slotFor (one .slots) known ∷ slotFor (one .slots) new ∷ slotFor (many .slots) new ∷ [] ≡ Held 0 ∷ Free 1 ∷ Full ∷ []
 unfolding one many race stored 2cd withMode emptyRecord encode decode padded slotFor freeSlot firstAt holds sameName sameBy fold within
 found = refl
+
+-- the record comes with the slot that has the name, and the empty one with no other
+handed-back : heldIn (one .slots) (Held 0) ∷ heldIn (one .slots) (Free 1) ∷ heldIn (many .slots) Full ∷ [] ≡ race ∷ emptyRecord ∷ emptyRecord ∷ []
+unfolding one
+handed-back = refl
 
 -- ---- the laws of a search
 known-held : IsFirst (holds known) (one .slots) emptyRecord 0

@@ -34,6 +34,7 @@ heldIn slots (Held k) = getD slots k emptyRecord
 heldIn slots (Free k) = emptyRecord
 heldIn slots Full = emptyRecord
 
+-- the slot that a name uses, and the record that has it
 abbrev pub foundFor : List Record → List ℕ → Found
 foundFor slots name = record { slot = slotFor slots name; «record» = heldIn slots (slotFor slots name) }
 

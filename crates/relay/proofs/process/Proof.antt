@@ -15,10 +15,10 @@ use Rattle.table.specs.declared.Table.{Table}
 use Rattle.table.specs.Table.{goodTable}
 use Rattle.table.proofs.WellFormed.{slots-good}
 use Rattle.relay.specs.declared.Taken.{Taken}
-use Rattle.relay.specs.Relay.{commandIn, processRules, refused, processAnswer, sent}
-use Rattle.relay.specs.Private.{entryRules, Judged}
+use Rattle.relay.specs.Relay.{commandIn, entryRules, processRules, refused, processAnswer, sent}
+use Rattle.relay.proofs.Judgements.{Judged}
 use Rattle.relay.proofs.Entering.{entry-good, entry-refuses, enters, enters-judged}
-use Rattle.relay.proofs.Settling.{found-inside, settled-judged}
+use Rattle.relay.proofs.Settling.{settled-judged}
 use Rattle.relay.proofs.Answering.{answer-refused, sent-nothing, sent-line, answer-taken, written-line}
 use Rattle.relay.proofs.process.Statement.{statement}
 use Rattle.relay.proofs.process.Tie as tie
@@ -39,14 +39,14 @@ line c = c .before .before .before .before .args .line .now
 abbrev room : Entered → ℕ
 room c = length (c .before .before .before .before .args .out .now)
 
-entry-is : (c : Entered) → firstOf (entryRules (goodTable (table c)) (table c .links .set) (link c) (room c)) ≡ c .entry-number .result
-entry-is c = ap (λ (g : Bool). firstOf (entryRules g (table c .links .set) (link c) (room c))) (sym (c .before .is-well-formed .ensures)) ∙ sym (c .entry-number .ensures)
+entry-is : (c : Entered) → firstOf (entryRules (goodTable (table c)) (room c) (table c .links .set) (link c)) ≡ c .entry-number .result
+entry-is c = ap (λ (g : Bool). firstOf (entryRules g (room c) (table c .links .set) (link c))) (sym (c .before .is-well-formed .ensures)) ∙ sym (c .entry-number .ensures)
 
 sixteen : (c : tie.Start) → length (c .args .t .slots) ≡ slotCount
 sixteen c = search (needs, unmapped)
 
 -- ---- what is asked for, and what it comes to
-passes : (c : tie.Else1) → firstOf (entryRules (goodTable (table (c .before))) (table (c .before) .links .set) (link (c .before)) (room (c .before))) ≡ accepted
+passes : (c : tie.Else1) → firstOf (entryRules (goodTable (table (c .before))) (room (c .before)) (table (c .before) .links .set) (link (c .before))) ≡ accepted
 passes c = entry-is (c .before) ∙ c .if1 .left
 
 judged : (c : tie.After-settled) → Judged (processRules (table (c .before .before .before .before .before)) (link (c .before .before .before .before .before)) (line (c .before .before .before .before .before)) (room (c .before .before .before .before .before))) (commandIn (line (c .before .before .before .before .before))) (table (c .before .before .before .before .before) .slots) (contentOf (line (c .before .before .before .before .before))) (c .settled .result)
@@ -56,7 +56,7 @@ judged c =
     let none = c .before .before .if2 .left in
     let p = passes (c .before .before .before .before) in
     enters-judged (table e) (link e) (line e) (room e) p (r .ensures .1 none) (c .settled .result)
-    (settled-judged (table e .slots) (line e) (r .result) (c .settled .result) (r .ensures .1 none) (sixteen (e .before .before .before .before)) (slots-good (table e) (entry-good _ _ _ _ p)) (c .before .slot-of .result) (c .before .slot-of .ensures) (commandIn (line e)) (r .ensures .0 .asks none) (c .settled .ensures))
+    (settled-judged (table e .slots) (line e) (r .result) (c .settled .result) (r .ensures .1 none) (sixteen (e .before .before .before .before)) (slots-good (table e) (entry-good (goodTable (table e)) (table e .links .set) (link e) (room e) p)) (c .before .slot-of .result) (c .before .slot-of .ensures .0) (commandIn (line e)) (r .ensures .0 .asks none) (c .settled .ensures))
 
 -- ---- a refusal
 refuses : (c : Entered) (k : ℕ) → firstOf (processRules (table c) (link c) (line c) (room c)) ≡ k → (k ≡ accepted → ⊥) → (r : Taken) → r ≡ refused (table c) k
@@ -95,9 +95,7 @@ slot-of-requires : tie.Need-slot-of-requires
 slot-of-requires c κs = search needs
 
 settled-requires : tie.Need-settled-requires
-settled-requires c κs =
-    let e = c .before .before .before .before in
-    rw (c .slot-of .ensures) (found-inside (table e .slots) _ (sixteen (e .before .before .before .before)))
+settled-requires c κs = c .slot-of .ensures .1
 
 refused-requires-3 : tie.Need-refused-requires-3
 refused-requires-3 c κs = search needs

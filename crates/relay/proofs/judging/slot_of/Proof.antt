@@ -1,10 +1,25 @@
--- `slot_of` meets its contract: the part in use of the room for a name is the name. Assumes nothing.
-use mathlib.Core.Path.{sym, ap, _∙_}
+-- `slot_of` meets its contract: the part in use of the room for a name is the name, and a slot that is found is one of the table's. Assumes nothing.
+use mathlib.Core.Path.{_≡_, sym, ap, _∙_}
+use native.Mathlib.Omega.{arith}
+use lib.ListN.{length}
 use borrow.Author.Needs.{needs}
+use Rattle.octets.proofs.Lists.{unmapped}
+use Rattle.channel.specs.Limits.{slotCount}
+use Rattle.channel.specs.Record.{decode}
 use Rattle.channel.proofs.Decoded.{decoded-name}
 use Rattle.table.specs.Slots.{foundFor}
+use Rattle.relay.proofs.Settling.{found-inside}
 use Rattle.relay.proofs.judging.slot_of.Statement.{statement}
 use Rattle.relay.proofs.judging.slot_of.Tie as tie
+
+is-quit-requires : tie.Need-is-quit-requires
+is-quit-requires c κs = search needs
+
+empty-requires : tie.Need-empty-requires
+empty-requires c κs = search needs
+
+returns : tie.Need-returns
+returns c = (λ ne. absurd (ne (c .before .before .is-quit .ensures (c .before .if1 .taken))), omega arith)
 
 slice-aggregate-part : tie.Need-slice-aggregate-part
 slice-aggregate-part c = search needs
@@ -15,11 +30,23 @@ part-requires c κs = search needs
 find-requires : tie.Need-find-requires
 find-requires c κs = search needs
 
-returns : tie.Need-returns
-returns c =
-    let a = c .before .before .before .before .args in
-    c .find .ensures .0 ∙ ap (foundFor (a .t .slots)) (c .before .part .ensures .0 ∙ sym (decoded-name (a .channel)))
+returns-2 : tie.Need-returns-2
+returns-2 c =
+    let s = c .before .before .before .before .before .before .before in
+    let slots = s .args .t .slots in
+    let channel = s .args .request .«record» in
+    let found : c .find .result ≡ foundFor slots (decode channel .name) = c .find .ensures .0 ∙ ap (foundFor slots) (c .before .part .ensures .0 ∙ sym (decoded-name channel)) in
+    let sixteen : length slots ≡ slotCount = search (needs, unmapped) in
+    (λ _. found, rw found (found-inside slots (decode channel .name) sixteen))
 
 pub slot-of-spec : {M : Type 1} → statement M
 slot-of-spec =
-    tie.close (tie.spec slice-aggregate-part part-requires find-requires returns)
+    tie.close
+    (tie.spec
+    is-quit-requires
+    empty-requires
+    returns
+    slice-aggregate-part
+    part-requires
+    find-requires
+    returns-2)

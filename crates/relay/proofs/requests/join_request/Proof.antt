@@ -6,7 +6,7 @@ use Rattle.message.specs.Reading.{contentOf}
 use Rattle.relay.specs.declared.Command.the-variants.{Sjoin}
 use Rattle.relay.specs.Relay.{commandRules}
 use Rattle.relay.proofs.Judgements.{refused-asked}
-use Rattle.relay.proofs.Used.{join-refused}
+use Rattle.relay.proofs.Used.{join-number}
 use Rattle.relay.proofs.requests.join_request.Statement.{statement}
 use Rattle.relay.proofs.requests.join_request.Tie as tie
 
@@ -23,7 +23,7 @@ returns c =
     let r = c .before .before .read-join in
     let ne = c .before .if1 .taken in
     refused-asked (λ slots. commandRules Sjoin slots (contentOf line)) Sjoin line (r .result .number) (c .nothing .result) (c .nothing .ensures) ne
-    (λ slots. join-refused slots line (r .result) (r .ensures) (s .pre) ne)
+    (λ slots. join-number slots line (r .result) (r .ensures) (s .pre) ne)
 
 returns-2 : tie.Need-returns-2
 returns-2 c =
