@@ -27,7 +27,7 @@ use Rattle.channel.specs.Merging.{stands, given, bare, standing, merge}
 use Rattle.channel.proofs.Keys.{key-length, greater-is, greater-nil}
 use Rattle.channel.proofs.Letters.{has-no-mode, has-either}
 use Rattle.channel.proofs.Sides.{length-standing, ascending-standing, ascending-merge}
-use Rattle.channel.proofs.Records.{Fits, Sized, decode-encode, encode-decode, encode-room, encode-clear}
+use Rattle.channel.proofs.Records.{Fits, decode-encode, encode-room, encode-clear}
 
 -- A channel as document 01 has it. No key is the empty list, no limit is 0.
 pub record Proper (c : Channel) : Type 0 where
@@ -130,10 +130,6 @@ pub encode-well : (c : Channel) → Proper c → wellFormed (encode c) ≡ true
 encode-well c p =
     let f = proper-fits c p in
     well-passes (encode c) (record { room = encode-room c f; rest = encode-clear c; holds = rw (decode-encode c f) p })
-
--- so it is the record of its channel
-pub well-encodes : (r : Record) → Sized r → wellFormed r ≡ true → encode (decode r) ≡ r
-well-encodes r s h = let w = well-says r h in encode-decode r s (w .room) (w .rest)
 
 -- ---- what a side of a merge gives
 module _ (time : ℕ) (c : Channel) (p : Proper c) where

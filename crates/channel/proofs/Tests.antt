@@ -11,7 +11,7 @@ use lib.Dec.{leb}
 use lib.Pow.{shl-exact, shl-shr, shr-le}
 use borrow.Author.Tests.{ne-eqb, eqb-true, eqb-false, leb-true, leb-false}
 use Rattle.octets.specs.Lists.{all}
-use Rattle.octets.proofs.Lists.{drop-step}
+use Rattle.octets.proofs.Lists.{drop-step, all-step}
 use Rattle.channel.specs.WellFormed.{isZero}
 
 -- ---- the first n at a place
@@ -20,8 +20,7 @@ module _ {A : Type 0} (l : List A) (n i : ℕ) (d : A) (h : i < n) (k : n ≤ le
   front-step = drop-step (take n l) i d (omega (arith, length-take-le n l k)) ∙ ap (λ (x : A). x ∷ drop (i + 1) (take n l)) (getD-take n l i d h)
 
   pub all-front : (p : A → Bool) → all p (drop i (take n l)) ≡ p (getD l i d) && all p (drop (i + 1) (take n l))
-  unfolding all
-  all-front p = rw front-step
+  all-front p = all-step p (take n l) i d (omega (arith, length-take-le n l k)) ∙ ap (λ (x : A). p x && all p (drop (i + 1) (take n l))) (getD-take n l i d h)
 
 -- no more are the first n than there are
 pub take-within : {A : Type 0} (l : List A) (n i : ℕ) → i ≡ min n (length l) → take i l ≡ take n l

@@ -3,6 +3,7 @@
 use Prim.Native.Nat.{ℕ, zero, suc, _+_, _*_, _^_, _≤_, _<_}
 use mathlib.Core.Path.{_≡_, refl, sym, ap, _∙_}
 use mathlib.Core.Bool.{Bool, true, false}
+use mathlib.Core.Logic.{_⊎_, inl, inr}
 use mathlib.Core.List.{List, [], _∷_, _++_}
 use native.Mathlib.Numerals.{add-one}
 use native.Mathlib.Nat.{pow-suc, pow-le-pow-right}
@@ -12,7 +13,7 @@ use lib.Seq.{take-suc, length-take-le}
 use lib.Dec.{eqb, ltb}
 use mir.Syntax.{w8}
 use mir.Val.{Fits}
-use borrow.Author.Tests.{eq-eqb, lt-ltb, le-ltb, eqb-true, eqb-false, ltb-true, ltb-false}
+use borrow.Author.Tests.{eq-eqb, lt-ltb, le-ltb, eqb-true}
 use Rattle.octets.specs.declared.Order.{Order}
 use Rattle.octets.specs.declared.Order.the-variants.{Less, Same, More}
 use Rattle.octets.specs.Lists.{same}
@@ -21,7 +22,7 @@ use Rattle.octets.specs.Ascending.{isLess}
 use Rattle.octets.proofs.Bools.{both-ways}
 use Rattle.octets.proofs.Lists.{drop-step}
 use Rattle.octets.proofs.Bytes.{same-refl, same-true}
-use Rattle.octets.proofs.Ordered.{compare-same, thenBy, compare-parts}
+use Rattle.octets.proofs.Ordered.{heads-same, heads-less, heads-more, trichotomy, compare-refl, compare-same, thenBy, compare-parts}
 use Rattle.names.specs.Private.{packedFrom, packed}
 
 -- every element is a byte, and what stands past the end counts as zero
@@ -51,19 +52,17 @@ Stands Same x y = x ≡ y
 Stands More x y = y < x
 
 packed-stands : (s t : List ℕ) (n : ℕ) → length s ≡ length t → Bytes s → Bytes t → Stands (compare s t) (packedFrom n s) (packedFrom n t)
-unfolding packedFrom compare
-packed-stands [] [] n e h k = refl
+unfolding packedFrom
+packed-stands [] [] n e h k = rw (compare-refl []) refl
 packed-stands [] (c ∷ t) n e h k = absurd (omega arith)
 packed-stands (b ∷ s) [] n e h k = absurd (omega arith)
-packed-stands (b ∷ s) (c ∷ t) n e h k = go (eqb b c) refl (ltb b c) refl (packed-stands s t (n * 256 + b) (omega arith) (λ i. h (suc i)) (λ i. k (suc i)))
+packed-stands (b ∷ s) (c ∷ t) n e h k = go (trichotomy b c) (packed-stands s t (n * 256 + b) (omega arith) (λ i. h (suc i)) (λ i. k (suc i)))
   where
-    go : (u : Bool) → eqb b c ≡ u → (v : Bool) → ltb b c ≡ v → Stands (compare s t) (packedFrom (n * 256 + b) s) (packedFrom (n * 256 + b) t)
+    go : (b < c) ⊎ ((b ≡ c) ⊎ (c < b)) → Stands (compare s t) (packedFrom (n * 256 + b) s) (packedFrom (n * 256 + b) t)
         → Stands (compare (b ∷ s) (c ∷ t)) (packedFrom n (b ∷ s)) (packedFrom n (c ∷ t))
-    go true p v q ih = rw (p, ← eqb-true b c p) ih
-    go false p true q ih =
-        rw (p, q) (packed-less s t (n * 256 + b) (n * 256 + c) (omega arith) (λ i. h (suc i)) (λ i. k (suc i)) (omega (arith, ltb-true b c q)))
-    go false p false q ih =
-        rw (p, q) (packed-less t s (n * 256 + c) (n * 256 + b) (omega arith) (λ i. k (suc i)) (λ i. h (suc i)) (omega (arith, eqb-false b c p, ltb-false b c q)))
+    go (inl p) ih = rw (heads-less b c s t p) (packed-less s t (n * 256 + b) (n * 256 + c) (omega arith) (λ i. h (suc i)) (λ i. k (suc i)) (omega arith))
+    go (inr (inl p)) ih = rw (heads-same b c s t p, ← p) ih
+    go (inr (inr p)) ih = rw (heads-more b c s t p) (packed-less t s (n * 256 + c) (n * 256 + b) (omega arith) (λ i. k (suc i)) (λ i. h (suc i)) (omega arith))
 
 -- ---- one byte more
 packed-snoc : (s : List ℕ) (n b : ℕ) → packedFrom n (s ++ (b ∷ [])) ≡ packedFrom n s * 256 + b
@@ -83,13 +82,12 @@ eight-fit i h = let p : 256 ^ i ≤ 256 ^ 8 = pow-le-pow-right (omega arith) h i
 
 -- ---- two lists of one length: the numbers of the front decide, or leave the last byte of each
 last-alone : (x y : ℕ) → isLess (compare (x ∷ []) (y ∷ [])) ≡ ltb x y
-unfolding compare
-last-alone x y = go (eqb x y) refl (ltb x y) refl
+last-alone x y = go (trichotomy x y)
   where
-    go : (u : Bool) → eqb x y ≡ u → (v : Bool) → ltb x y ≡ v → isLess (compare (x ∷ []) (y ∷ [])) ≡ ltb x y
-    go true e v f = rw e (sym (le-ltb x y (omega (arith, eqb-true x y e))))
-    go false e true f = rw (e, f)
-    go false e false f = rw (e, f)
+    go : (x < y) ⊎ ((x ≡ y) ⊎ (y < x)) → isLess (compare (x ∷ []) (y ∷ [])) ≡ ltb x y
+    go (inl h) = rw (heads-less x y [] [] h) (sym (lt-ltb x y h))
+    go (inr (inl e)) = rw (heads-same x y [] [] e, compare-refl []) (sym (le-ltb x y (omega arith)))
+    go (inr (inr h)) = rw (heads-more x y [] [] h) (sym (le-ltb x y (omega arith)))
 
 module _ (n : ℕ) (a b : List ℕ) (la : length a ≡ suc n) (lb : length b ≡ suc n) (ba : Bytes a) (bb : Bytes b) (x y : ℕ) (ex : x ≡ packed (take n a)) (ey : y ≡ packed (take n b)) where
   -- what stands behind the front

@@ -30,7 +30,7 @@ module _ (x y : ℕ) (s t : List ℕ) where
   heads-more h = simp (ne-eqb x y (λ e. omega arith), le-ltb x y (omega arith))
 
 -- one of the three holds of any two bytes
-trichotomy : (x y : ℕ) → (x < y) ⊎ ((x ≡ y) ⊎ (y < x))
+pub trichotomy : (x y : ℕ) → (x < y) ⊎ ((x ≡ y) ⊎ (y < x))
 trichotomy x y = go (eqb x y) refl (ltb x y) refl
   where
     go : (t : Bool) → eqb x y ≡ t → (u : Bool) → ltb x y ≡ u → (x < y) ⊎ ((x ≡ y) ⊎ (y < x))

@@ -5,7 +5,7 @@ use mathlib.Core.Bool.{Bool, true, false, true≢false, _&&_}
 use mathlib.Core.Logic.{_⊎_, inl, inr}
 use mathlib.Core.List.{List, [], _∷_}
 use native.Mathlib.Omega.{arith}
-use lib.ListN.{length, getD}
+use lib.ListN.{length}
 use lib.Dec.{eqb}
 use borrow.Author.Tests.{not-false, eqb-true}
 use Rattle.refusal.specs.Numbers.{accepted}
@@ -19,7 +19,7 @@ use Rattle.channel.specs.Limits.{keyLimit}
 use Rattle.channel.specs.Modes.{placeAmong}
 use Rattle.channel.proofs.Keys.{key-length}
 use Rattle.message.specs.Content.{Content}
-use Rattle.sjoin.specs.Modes.{keyLetter, limitLetter, lettersOf, lacks, hasParameter, parametered, isLimit, limitIn, goodLetters, goodArgument, goodArguments, argumentOf, goodModes}
+use Rattle.sjoin.specs.Modes.{keyLetter, limitLetter, lettersOf, lacks, hasParameter, parametered, isLimit, limitIn, goodLetters, goodArgument, goodArguments, argumentAmong, argumentOf, goodModes}
 use Rattle.sjoin.specs.Entries.{goodEntries}
 use Rattle.sjoin.specs.Join.{timeIn, nameIn, modesIn, listIn, argumentsIn, isSource, goodCount, goodTime, joinRules}
 
@@ -57,9 +57,6 @@ passes c e =
 abbrev pub Given : ℕ → List ℕ → List ℕ → Type 0
 Given letter s a = ((lacks letter s ≡ true) × (a ≡ [])) ⊎ ((lacks letter s ≡ false) × (goodArgument letter a ≡ true))
 
-abbrev argument : ℕ → List ℕ → List (List ℕ) → List ℕ
-argument letter s args = getD args (placeAmong (parametered s) letter) []
-
 module _ (letter : ℕ) (has : hasParameter letter ≡ true) where
   skip : (x : ℕ) (s args : List ℕ) → eqb x letter ≡ false → Given letter s args → Given letter (x ∷ s) args
   unfolding all
@@ -73,20 +70,20 @@ module _ (letter : ℕ) (has : hasParameter letter ≡ true) where
       go true f = absurd (true≢false (sym has ∙ ap hasParameter (sym (eqb-true x letter f)) ∙ e))
       go false f = f
 
-  given : (s : List ℕ) (args : List (List ℕ)) → goodArguments (parametered s) args ≡ true → Given letter s (argument letter s args)
+  given : (s : List ℕ) (args : List (List ℕ)) → goodArguments (parametered s) args ≡ true → Given letter s (argumentAmong letter s args)
   unfolding all parametered goodArguments placeAmong
   given [] [] h = inl (refl, refl)
   given [] (a ∷ args) h = absurd (true≢false (sym h))
   given (x ∷ s) args h = go (hasParameter x) refl args h (λ l k. given s l k)
     where
-      found : (a : List ℕ) (args : List (List ℕ)) (t : Bool) → eqb x letter ≡ t → hasParameter x ≡ true → goodArgument x a && goodArguments (parametered s) args ≡ true → Given letter s (argument letter s args) → Given letter (x ∷ s) (argument letter (x ∷ s) (a ∷ args))
+      found : (a : List ℕ) (args : List (List ℕ)) (t : Bool) → eqb x letter ≡ t → hasParameter x ≡ true → goodArgument x a && goodArguments (parametered s) args ≡ true → Given letter s (argumentAmong letter s args) → Given letter (x ∷ s) (argumentAmong letter (x ∷ s) (a ∷ args))
       found a args true e f g ih = rw (f, e) (inr (refl, rw (sym (eqb-true x letter e)) (and-left (goodArgument x a) (goodArguments (parametered s) args) g)))
       found a args false e f g ih = rw (f, e) ih
 
-      go : (t : Bool) → hasParameter x ≡ t → (args : List (List ℕ)) → goodArguments (parametered (x ∷ s)) args ≡ true → ((l : List (List ℕ)) → goodArguments (parametered s) l ≡ true → Given letter s (argument letter s l)) → Given letter (x ∷ s) (argument letter (x ∷ s) args)
+      go : (t : Bool) → hasParameter x ≡ t → (args : List (List ℕ)) → goodArguments (parametered (x ∷ s)) args ≡ true → ((l : List (List ℕ)) → goodArguments (parametered s) l ≡ true → Given letter s (argumentAmong letter s l)) → Given letter (x ∷ s) (argumentAmong letter (x ∷ s) args)
       go true e [] g rec = absurd (true≢false (sym (rw e at g)))
       go true e (a ∷ args) g rec = let k = rw e at g in found a args (eqb x letter) refl e k (rec args (and-right (goodArgument x a) (goodArguments (parametered s) args) k))
-      go false e args g rec = rw e (skip x s (argument letter s args) (other x e) (rec args (rw e at g)))
+      go false e args g rec = rw e (skip x s (argumentAmong letter s args) (other x e) (rec args (rw e at g)))
 
 pub argument-given : (modes : List ℕ) (args : List (List ℕ)) (letter : ℕ) → hasParameter letter ≡ true → goodModes modes args ≡ true → Given letter (lettersOf modes) (argumentOf letter modes args)
 unfolding goodModes argumentOf

@@ -75,9 +75,12 @@ goodArguments [] (a ∷ args) = false
 goodArguments (x ∷ s) [] = false
 goodArguments (x ∷ s) (a ∷ args) = goodArgument x a && goodArguments s args
 
--- the parameter in a letter's place among those that have one
+-- the parameter in a letter's place among those letters that have one
+abbrev pub argumentAmong : ℕ → List ℕ → List (List ℕ) → List ℕ
+argumentAmong letter letters args = getD args (placeAmong (parametered letters) letter) []
+
 unfoldable pub argumentOf : ℕ → List ℕ → List (List ℕ) → List ℕ
-argumentOf letter modes args = getD args (placeAmong (parametered (lettersOf modes)) letter) []
+argumentOf letter modes args = argumentAmong letter (lettersOf modes) args
 
 unfoldable pub goodModes : List ℕ → List (List ℕ) → Bool
 goodModes modes args = goodLetters modes && goodArguments (parametered (lettersOf modes)) args

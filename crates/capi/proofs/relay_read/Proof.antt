@@ -1,5 +1,5 @@
 -- `relay_read` meets its contract: number and count are those that the reader promises of its answer. Assumes nothing.
-use mathlib.Core.Path.{_≡_, _∙_}
+use mathlib.Core.Path.{_∙_}
 use borrow.Author.Needs.{needs}
 use Rattle.capi.proofs.relay_read.Statement.{statement}
 use Rattle.capi.proofs.relay_read.Tie as tie

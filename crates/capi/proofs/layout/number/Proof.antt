@@ -1,6 +1,6 @@
 -- `number` meets its contract: the numbers of the code are those that C's rules give, which is computed, and past the last there is none. Assumes nothing.
 use borrow.Author.Needs.{needs}
-use mathlib.Core.Path.{_≡_, refl, sym}
+use mathlib.Core.Path.{refl, sym}
 use lib.ListN.{List·getD-eq-default}
 use Rattle.capi.specs.Layout.{layout, numbers, numbersOf, placed, ended, widest, upTo}
 use Rattle.capi.proofs.layout.number.Statement.{statement}
