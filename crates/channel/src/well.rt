@@ -132,40 +132,7 @@ fn good_member(m: Member) -> bool
     m.status <= BOTH
 }
 
-// Whether the first n are members.
-fn all_good(members: [Member; Record::MEMBERS], n: usize) -> bool
-    requires { ⌜ n ≤ memberLimit ⌝ }
-    ensures { λ r. ⌜ r ≡ all goodMember (take n members) ⌝ }
-{
-    let mut i = 0;
-    while i < n {
-        let m = members[i];
-        if !good_member(m) {
-            return false;
-        }
-        i += 1;
-    }
-    true
-}
-
-// Whether the ids of the first n ascend.
-fn ascending(members: [Member; Record::MEMBERS], n: usize) -> bool
-    requires { ⌜ n ≤ memberLimit ⌝ }
-    ensures { λ r. ⌜ r ≡ ascends byId (take n members) ⌝ }
-{
-    let mut i = 0;
-    while i + 1 < n {
-        let m = members[i];
-        let next = members[i + 1];
-        if !is_below(m, next) {
-            return false;
-        }
-        i += 1;
-    }
-    true
-}
-
-// Whether the first n, one or more, are members in ascending order.
+// Whether the first n, one or more, are members in ascending order: class and order are tested in one loop.
 pub(crate) fn good_members(members: [Member; Record::MEMBERS], n: usize) -> bool
     requires { ⌜ n ≤ memberLimit ⌝ }
     ensures { λ r. ⌜ r ≡ leb 1 n && (all goodMember (take n members) && ascends byId (take n members)) ⌝ }
@@ -173,8 +140,18 @@ pub(crate) fn good_members(members: [Member; Record::MEMBERS], n: usize) -> bool
     if n == 0 {
         return false;
     }
-    if !all_good(members, n) {
-        return false;
+    let mut i = 0;
+    while i + 1 < n {
+        let m = members[i];
+        let next = members[i + 1];
+        if !good_member(m) {
+            return false;
+        }
+        if !is_below(m, next) {
+            return false;
+        }
+        i += 1;
     }
-    ascending(members, n)
+    let last = members[i];
+    good_member(last)
 }

@@ -2,5 +2,5 @@
 pub mod Folds
 pub mod Channels
 pub mod UserIds
-mod Packed
+mod Places
 pub mod Examples

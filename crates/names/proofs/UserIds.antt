@@ -1,17 +1,18 @@
 -- Laws of server ids and user ids: how long they are, that every byte of them is one of 'A' to 'Z' or '0' to '9' and so no SPACE, and that a user id begins
 -- with a digit, and so with no mark. Assumes nothing.
-use Prim.Native.Nat.{ℕ, _+_}
+use Prim.Native.Nat.{ℕ, zero, suc, _+_}
 use mathlib.Core.Path.{_≡_, refl, sym, ap, _∙_}
-use mathlib.Core.Bool.{Bool, true, false, true≢false, _&&_, _||_, and-true, and-false}
+use mathlib.Core.Bool.{Bool, true, false, true≢false, _&&_, _||_, and-true, and-false, and-assoc}
 use mathlib.Core.List.{List, [], _∷_}
 use native.Mathlib.Omega.{arith}
 use lib.ListN.{length, take, drop, getD, take-append-drop}
+use lib.Seq.{length-take-le}
 use lib.Dec.{eqb}
-use borrow.Author.Tests.{ne-eqb, eqb-true}
+use borrow.Author.Tests.{eq-eqb, ne-eqb, eqb-true}
 use Rattle.octets.specs.Bytes.{within, isNonSpace, isDigit, isIdByte}
 use Rattle.octets.specs.Lists.{all, isNil, startsWith}
 use Rattle.octets.proofs.Bools.{and-left, and-right, and-three}
-use Rattle.octets.proofs.Lists.{drop-step, all-head, all-cons, all-append, all-imp}
+use Rattle.octets.proofs.Lists.{drop-step, all-step, all-head, all-cons, all-append, all-imp}
 use Rattle.octets.proofs.Clean.{digit-id, id-clean}
 use Rattle.names.specs.Names.{serverIdLength, userIdLength, isServerId, isUserId}
 
@@ -77,26 +78,25 @@ user-unmarked (b ∷ s) mark h k =
     let d = all-head isDigit b [] (server-parts (take serverIdLength (b ∷ s)) (user-parts (b ∷ s) h .0) .0) in
     ne-eqb b mark (λ e. true≢false (sym d ∙ ap isDigit e ∙ k))
 
--- ---- a user id held whole: bytes of ids behind the first one, which is a digit, and a letter in the fourth place
--- the tests in another order, a letter being tested as a byte of an id besides
-sorted : (a b c d x e : Bool) → ((a && true) && (b && (c && true))) && (d && e) ≡ (b && (c && ((d || x) && e))) && (a && d)
-sorted false b c d x e = sym (and-false (b && (c && ((d || x) && e))))
-sorted true false c d x e = refl
-sorted true true false d x e = refl
-sorted true true true true x e = sym (and-true e)
-sorted true true true false x e = sym (and-false (x && e))
+-- ---- a user id held whole: bytes of ids behind the first one, which is a digit, and a letter behind the server id
+-- a test of all is one of the first n and one of the others
+split : (p : ℕ → Bool) (n : ℕ) (s : List ℕ) → all p s ≡ all p (take n s) && all p (drop n s)
+unfolding all
+split p zero s = refl
+split p (suc n) [] = refl
+split p (suc n) (x ∷ s) = ap (λ (t : Bool). p x && t) (split p n s) ∙ sym (and-assoc (p x) (all p (take n s)) (all p (drop n s)))
 
-pub id-tests : (id : List ℕ) → length id ≡ userIdLength → isUserId id ≡ all isIdByte (drop 1 id) && (isDigit (getD id 0 0) && within 65 (getD id 3 0) 90)
+-- the tests in another order, a letter being tested as a byte of an id besides
+sorted : (d a l x e : Bool) → ((d && true) && a) && (l && e) ≡ (a && ((l || x) && e)) && (d && l)
+sorted false a l x e = sym (and-false (a && ((l || x) && e)))
+sorted true false l x e = refl
+sorted true true true x e = sym (and-true e)
+sorted true true false x e = sym (and-false (x && e))
+
+pub id-tests : (id : List ℕ) → length id ≡ userIdLength → isUserId id ≡ all isIdByte (drop 1 id) && (isDigit (getD id 0 0) && within 65 (getD id serverIdLength 0) 90)
 unfolding isUserId isServerId isIdByte all
 id-tests [] = λ h. absurd (omega arith)
-id-tests (a ∷ []) = λ h. absurd (omega arith)
-id-tests (a ∷ b ∷ []) = λ h. absurd (omega arith)
-id-tests (a ∷ b ∷ c ∷ []) = λ h. absurd (omega arith)
-id-tests (a ∷ b ∷ c ∷ d ∷ []) = λ h. absurd (omega arith)
-id-tests (a ∷ b ∷ c ∷ d ∷ e ∷ []) = λ h. absurd (omega arith)
-id-tests (a ∷ b ∷ c ∷ d ∷ e ∷ f ∷ []) = λ h. absurd (omega arith)
-id-tests (a ∷ b ∷ c ∷ d ∷ e ∷ f ∷ g ∷ []) = λ h. absurd (omega arith)
-id-tests (a ∷ b ∷ c ∷ d ∷ e ∷ f ∷ g ∷ i ∷ []) = λ h. absurd (omega arith)
-id-tests (a ∷ b ∷ c ∷ d ∷ e ∷ f ∷ g ∷ i ∷ j ∷ []) = λ h.
-    sorted (isDigit a) (isIdByte b) (isIdByte c) (within 65 d 90) (within 48 d 57) (isIdByte e && (isIdByte f && (isIdByte g && (isIdByte i && (isIdByte j && true)))))
-id-tests (a ∷ b ∷ c ∷ d ∷ e ∷ f ∷ g ∷ i ∷ j ∷ k ∷ l) = λ h. absurd (omega arith)
+id-tests (a ∷ t) = λ h.
+    let short : length (a ∷ take 2 t) ≡ serverIdLength = omega (arith, length-take-le 2 t (omega arith)) in
+    rw (eq-eqb (length (a ∷ t)) userIdLength h, eq-eqb (length (a ∷ take 2 t)) serverIdLength short, split isIdByte 2 t, all-step isIdByte t 2 0 (omega arith))
+    (sorted (isDigit a) (all isIdByte (take 2 t)) (within 65 (getD t 2 0) 90) (within 48 (getD t 2 0) 57) (all isIdByte (drop 3 t)))

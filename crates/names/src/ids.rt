@@ -1,19 +1,15 @@
-// User ids held whole, as nine bytes by value: the test, and their order and equality with eight bytes taken as one number.
+// User ids held whole, as nine bytes by value: the test, and their order and equality, byte by byte.
 ghost use mathlib.Core.Path.{_≡_};
 ghost use mathlib.Core.Bool.{cond};
-ghost use lib.ListN.{take, drop};
-ghost use lib.Dec.{eqb};
+ghost use lib.ListN.{drop};
+ghost use lib.Dec.{eqb, ltb};
 ghost use Rattle.octets.specs.Bytes.{within, isIdByte};
 ghost use Rattle.octets.specs.Lists.{all, same};
 ghost use Rattle.octets.specs.Order.{compare};
 ghost use Rattle.octets.specs.Ascending.{isLess};
 ghost use Rattle.names.specs.Names.{isUserId};
-ghost use Rattle.names.specs.Private.{frontLength, packed};
 use crate::SERVER_ID;
 use crate::USER_ID;
-
-// The bytes that are taken as one number.
-const FRONT: usize = 8;
 
 // 0 for a byte within a range, 1 for any other.
 fn outside(b: u8, lo: u8, hi: u8) -> u8
@@ -69,37 +65,37 @@ pub fn is_id(id: [u8; USER_ID]) -> bool
     letter <= b'Z'
 }
 
-// The first eight bytes as one number, the first of them the highest. Such numbers are ordered as the bytes are.
-fn front(id: [u8; USER_ID]) -> u64
-    ensures { λ r. ⌜ r ≡ packed (take frontLength id) ⌝ }
+// Whether a byte is smaller than another, or the same one where what follows it is smaller: that counts as one more of the other byte.
+fn under(a: u8, b: u8, less: bool) -> bool
+    ensures { λ r. ⌜ r ≡ cond (eqb a b) less (ltb a b) ⌝ }
 {
-    let mut x = 0u64;
-    let mut i = 0;
-    while i < FRONT {
-        x = x * 256 + (id[i] as u64);
-        i += 1;
-    }
-    x
+    (a as u16) < (b as u16) + (less as u16)
 }
 
-// Whether the first of two ids is the smaller one, by the order of `compare_ids`.
+// Whether the first of two ids is the smaller one: byte by byte, as unsigned numbers, from the last byte to the first, so that no byte's outcome decides
+// what is done next.
 pub fn is_before(a: [u8; USER_ID], b: [u8; USER_ID]) -> bool
     ensures { λ r. ⌜ r ≡ isLess (compare a b) ⌝ }
 {
-    let x = front(a);
-    let y = front(b);
-    if x == y {
-        return a[FRONT] < b[FRONT];
+    let mut less = false;
+    let mut i = USER_ID;
+    while 0 < i {
+        i -= 1;
+        less = under(a[i], b[i], less);
     }
-    x < y
+    less
 }
 
-// Whether two ids are the same.
+// Whether two ids are the same, byte by byte.
 pub fn is_same(a: [u8; USER_ID], b: [u8; USER_ID]) -> bool
     ensures { λ r. ⌜ r ≡ same a b ⌝ }
 {
-    if front(a) != front(b) {
-        return false;
+    let mut i = 0;
+    while i < USER_ID {
+        if a[i] != b[i] {
+            return false;
+        }
+        i += 1;
     }
-    a[FRONT] == b[FRONT]
+    true
 }

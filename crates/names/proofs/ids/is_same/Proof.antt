@@ -1,39 +1,55 @@
--- `is_same` meets its contract: ids are the same if the numbers of their fronts are, and their last bytes. Assumes nothing.
+-- `is_same` meets its contract. The invariant: what stands from i on is the same exactly if the whole is. Assumes nothing.
+use mathlib.Core.Path.{_≡_, refl, sym, ap, _∙_}
+use Prim.Native.Nat.{ℕ, _+_, _-_, _≤_, _<_}
+use native.Mathlib.Omega.{arith}
+use lib.ListN.{drop, getD, length}
 use borrow.Author.Needs.{needs}
-use Rattle.names.specs.Private.{frontLength}
-use Rattle.names.proofs.Packed.{differ-front, same-last}
+use Rattle.octets.specs.Lists.{same}
+use Rattle.names.specs.Names.{userIdLength}
+use Rattle.names.proofs.Places.{same-go, same-stop, same-past}
 use Rattle.names.proofs.ids.is_same.Statement.{statement}
 use Rattle.names.proofs.ids.is_same.Tie as tie
 
-front-requires : tie.Need-front-requires
-front-requires c κs = search needs
+abbrev Inv-loop : tie.InvT-loop
+Inv-loop a b i₀ i = (i ≤ userIdLength) × (same (drop i a) (drop i b) ≡ same a b)
 
-front-requires-2 : tie.Need-front-requires-2
-front-requires-2 c κs = search needs
+abbrev μ-loop : tie.MeasureT-loop
+μ-loop a b i₀ i = userIdLength - i
 
-returns : tie.Need-returns
+loop-holds : tie.Need-loop-holds Inv-loop μ-loop
+loop-holds c = (search needs, refl)
+
+array-read-if1 : tie.Need-array-read-if1 Inv-loop μ-loop
+array-read-if1 c = search needs
+
+array-read-if1-2 : tie.Need-array-read-if1-2 Inv-loop μ-loop
+array-read-if1-2 c = search needs
+
+returns : tie.Need-returns Inv-loop μ-loop
 returns c =
+    let l = c .before .before .loop in
     let a = c .before .before .before .args in
-    differ-front frontLength (a .t1) (a .t2) (search needs) (search needs) (λ i. search needs) (λ i. search needs) _ _ (c .before .before .front .ensures) (c .before .front2 .ensures) (c .if1 .taken)
+    sym (same-stop (a .t1) (a .t2) (l .i) (search needs) (search needs) (c .if1 .taken)) ∙ l .inv .1
 
-array-read-result : tie.Need-array-read-result
-array-read-result c = search needs
+add-i : tie.Need-add-i Inv-loop μ-loop
+add-i c = search needs
 
-array-read-result-2 : tie.Need-array-read-result-2
-array-read-result-2 c = search needs
+loop-less : tie.Need-loop-less Inv-loop μ-loop
+loop-less c = search needs
 
-returns-2 : tie.Need-returns-2
+loop-again : tie.Need-loop-again Inv-loop μ-loop
+loop-again c =
+    let l = c .before .before .loop in
+    let a = c .before .before .before .args in
+    (search needs, sym (same-go (a .t1) (a .t2) (l .i) (search needs) (search needs) (c .if1 .left)) ∙ l .inv .1)
+
+returns-2 : tie.Need-returns-2 Inv-loop μ-loop
 returns-2 c =
-    let a = c .before .before .before .args in
-    same-last frontLength (a .t1) (a .t2) (search needs) (search needs) (λ i. search needs) (λ i. search needs) _ _ (c .before .before .front .ensures) (c .before .front2 .ensures) (c .if1 .left)
+    let l = c .before .loop in
+    let a = c .before .before .args in
+    sym (same-past (a .t1) (a .t2) (l .i) (search needs) (search needs)) ∙ l .inv .1
 
 pub is-same-spec : {M : Type 1} → statement M
 is-same-spec =
     tie.close
-    (tie.spec
-    front-requires
-    front-requires-2
-    returns
-    array-read-result
-    array-read-result-2
-    returns-2)
+    (tie.spec Inv-loop μ-loop loop-holds array-read-if1 array-read-if1-2 returns add-i loop-less loop-again returns-2)
