@@ -7,10 +7,10 @@ use mathlib.Core.Option.{some, none}
 use Rattle.refusal.specs.Numbers.{emptyPrefix, badCommand}
 use Rattle.refusal.specs.Rules.{firstOf}
 use Rattle.octets.specs.Bytes.{within, isPlain, isLetter, isDigit, isIdByte, isNameByte, isKeyByte}
-use Rattle.octets.specs.Lists.{all, sameBy, padded, startsWith}
+use Rattle.laws.specs.Lists.{all, sameBy, padded, startsWith}
 use Rattle.octets.specs.Order.{compare}
-use Rattle.octets.specs.Bits.{hasBit}
-use Rattle.octets.specs.Ascending.{insert, put, unite, ascends}
+use Rattle.laws.specs.Bits.{hasBit}
+use Rattle.ascending.specs.Ascending.{insert, put, unite, ascends}
 use Rattle.names.specs.Fold.{fold, sameName}
 use Rattle.names.specs.Names.{isChannel, isServerId, isUserId}
 use Rattle.glob.specs.Mask.{star, question, matchesByte, firstThen, afterRun, matchRules, answerFor}

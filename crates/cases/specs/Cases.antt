@@ -7,7 +7,7 @@ use mathlib.Core.Option.{some, none}
 use lib.ListN.{length}
 use lib.Dec.{eqb}
 use Rattle.refusal.specs.Numbers.{accepted, emptyLine, emptyPrefix, badCommand}
-use Rattle.octets.specs.Lists.{same}
+use Rattle.laws.specs.Lists.{same}
 use Rattle.names.specs.Fold.{sameName}
 use Rattle.glob.specs.declared.Match.{Match}
 use Rattle.glob.specs.Mask.{star, question, answerFor}

@@ -12,10 +12,10 @@ use lib.Dec.{eqb, leb}
 use borrow.Author.Tests.{lt-ltb, le-ltb, leb-true, eqb-true}
 use Rattle.refusal.specs.Numbers.{accepted, notWellFormed, badName, tooManyMembers}
 use Rattle.refusal.specs.Rules.{firstOf}
-use Rattle.octets.specs.Lists.{all, padded}
-use Rattle.octets.specs.Ascending.{unite}
-use Rattle.octets.proofs.Bools.{and-left, and-intro}
-use Rattle.octets.proofs.Lists.{all-from, padded-take}
+use Rattle.laws.specs.Lists.{all, padded}
+use Rattle.ascending.specs.Ascending.{unite}
+use Rattle.laws.proofs.Bools.{and-left, and-intro}
+use Rattle.laws.proofs.Lists.{all-from, padded-take}
 use Rattle.names.specs.Names.{nameLimit}
 use Rattle.names.specs.Fold.{sameName}
 use Rattle.channel.specs.declared.Member.{Member}

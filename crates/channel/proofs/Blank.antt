@@ -7,8 +7,8 @@ use Prim.Native.Nat.{ℕ, suc, _<_}
 use native.Mathlib.Omega.{arith}
 use lib.ListN.{length, getD, replicate}
 use borrow.Author.Tests.{eqb-true}
-use Rattle.octets.specs.Lists.{all, padded}
-use Rattle.octets.proofs.Lists.{all-head, all-tail, all-at}
+use Rattle.laws.specs.Lists.{all, padded}
+use Rattle.laws.proofs.Lists.{all-head, all-tail, all-at}
 use Rattle.names.specs.Names.{nameLimit, userIdLength}
 use Rattle.channel.specs.declared.Member.{Member}
 use Rattle.channel.specs.declared.Record.{Record}

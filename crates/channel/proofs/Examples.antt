@@ -5,10 +5,10 @@ use mathlib.Core.List.{List, [], _∷_}
 use Rattle.refusal.specs.Numbers.{accepted}
 use Rattle.refusal.specs.Rules.{firstOf}
 use Rattle.octets.specs.Bytes.{within, isDigit, isIdByte, isNameByte, isKeyByte, isPlain}
-use Rattle.octets.specs.Lists.{all, sameBy, padded, startsWith}
+use Rattle.laws.specs.Lists.{all, sameBy, padded, startsWith}
 use Rattle.octets.specs.Order.{compare}
-use Rattle.octets.specs.Bits.{hasBit}
-use Rattle.octets.specs.Ascending.{insert, put, unite, ascends}
+use Rattle.laws.specs.Bits.{hasBit}
+use Rattle.ascending.specs.Ascending.{insert, put, unite, ascends}
 use Rattle.names.specs.Fold.{fold, sameName}
 use Rattle.names.specs.Names.{isChannel, isServerId, isUserId}
 use Rattle.channel.specs.Modes.{withMode, keyMode, modePlace, placeAmong}

@@ -6,8 +6,8 @@ use native.Mathlib.Nat.{zero-add}
 use native.Mathlib.Omega.{arith}
 use lib.ListN.{length, take, getD, set, replicate, length-append, List·getD-eq-default}
 use lib.Seq.{sets, set-append-seam, set-getD, take-set-lt}
-use Rattle.octets.specs.Lists.{padded}
-use Rattle.octets.proofs.Lists.{getD-padded, take-padded, sets-padded}
+use Rattle.laws.specs.Lists.{padded}
+use Rattle.laws.proofs.Lists.{getD-padded, take-padded, sets-padded}
 use Rattle.channel.specs.declared.Member.{Member}
 use Rattle.channel.specs.declared.Roster.{Roster}
 use Rattle.channel.specs.Limits.{memberLimit}

@@ -8,9 +8,9 @@ use native.Mathlib.Omega.{arith}
 use lib.ListN.{length, take, drop, length-take}
 use lib.Dec.{leb}
 use borrow.Author.Tests.{le-leb, lt-leb, lt-ltb, leb-true, leb-false}
-use Rattle.octets.specs.Lists.{all}
-use Rattle.octets.proofs.Bools.{and-right}
-use Rattle.octets.specs.Ascending.{ascends}
+use Rattle.laws.specs.Lists.{all}
+use Rattle.laws.proofs.Bools.{and-right}
+use Rattle.ascending.specs.Ascending.{ascends}
 use Rattle.names.specs.Names.{nameLimit, isChannel}
 use Rattle.channel.specs.declared.Member.{Member}
 use Rattle.channel.specs.declared.Record.{Record}

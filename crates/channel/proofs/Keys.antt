@@ -9,13 +9,12 @@ use lib.Dec.{leb}
 use borrow.Author.Tests.{leb-true, not-true}
 use Rattle.octets.specs.declared.Order.{Order}
 use Rattle.octets.specs.declared.Order.the-variants.{Less, Same, More}
-use Rattle.octets.specs.Order.{compare}
+use Rattle.octets.specs.Order.{compare, isLess}
 use Rattle.octets.specs.Bytes.{colon, isKeyByte}
-use Rattle.octets.specs.Lists.{all, isNil, startsWith}
-use Rattle.octets.specs.Ascending.{isLess}
-use Rattle.octets.proofs.Bools.{and-left, and-right, and-three}
+use Rattle.laws.specs.Lists.{all, isNil, startsWith}
+use Rattle.laws.proofs.Bools.{and-left, and-right, and-three}
 use Rattle.octets.proofs.Ordered.{compare-nil, Below, compare-refl, compare-same, compare-trans, below-more, more-below}
-use Rattle.octets.proofs.Joins.{Joining}
+use Rattle.laws.proofs.Joins.{Joining}
 use Rattle.channel.specs.Limits.{keyLimit}
 use Rattle.channel.specs.Key.{isKey, greater}
 

@@ -11,8 +11,8 @@ use lib.Pow.{pow-lt}
 use lib.ListN.{length, getD}
 use lib.Dec.{eqb, ltb}
 use borrow.Author.Tests.{eqb-true, lt-ltb, ltb-true}
-use Rattle.octets.specs.Bits.{hasBit}
-use Rattle.octets.proofs.Bitwise.{bit-union, bit-power}
+use Rattle.laws.specs.Bits.{hasBit}
+use Rattle.laws.proofs.Bitwise.{bit-union, bit-power}
 use Rattle.channel.specs.Modes.{letters, modeCount, keyMode, limitMode, hasMode, withMode, placeAmong, modePlace}
 
 -- no modes

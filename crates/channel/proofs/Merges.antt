@@ -6,15 +6,15 @@ use mathlib.Core.Bool.{Bool, false, _||_, or-assoc, or-false}
 use mathlib.Core.List.{List, [], _∷_, _++_, append-assoc, append-nil, List·Memᴰ, List·Memᴰ·head, List·Memᴰ·tail}
 use native.Mathlib.Omega.{arith}
 use lib.ListN.{length}
-use Rattle.octets.specs.Joins.{total}
-use Rattle.octets.proofs.Joins.{joining-max, joining-bits}
-use Rattle.octets.proofs.Ascends.{Ascending}
-use Rattle.octets.proofs.Contents.{has-unite, same-length, unite-comm, unite-self}
+use Rattle.laws.specs.Joins.{total}
+use Rattle.laws.proofs.Joins.{joining-max, joining-bits}
+use Rattle.ascending.proofs.Ascends.{Ascending}
+use Rattle.ascending.proofs.Contents.{has-unite, same-length, unite-comm, unite-self}
 use Rattle.channel.specs.Channel.{Channel, byId}
 use Rattle.channel.specs.Merging.{given, standing, merge}
 use Rattle.channel.specs.Plain.{earliest, everyone, plain, spelled}
 use Rattle.channel.proofs.Keys.{joining-greater}
-use Rattle.channel.proofs.Sides.{channel-path, keyed-byId, lawful-byId, named, Timed, stands-own, has-standing, ascending-standing, ascending-merge}
+use Rattle.channel.proofs.Sides.{channel-path, stays-byId, lawful-byId, named, Timed, stands-own, has-standing, ascending-standing, ascending-merge}
 use Rattle.channel.proofs.Plains.{earliest-append, has-everyone, ascending-everyone, merge-plain, plain-single}
 
 -- A record whose members ascend, and which has a time.
@@ -90,7 +90,7 @@ merge-assoc a b c p q r =
 -- ---- whatever the times
 merge-has : (x : List ℕ) (a b : Channel) → named x (merge a b) ≡ (named x a || named x b)
 unfolding merge
-merge-has x a b = has-unite byId keyed-byId x _ _ ∙ ap₂ _||_ (has-standing _ a x) (has-standing _ b x)
+merge-has x a b = has-unite byId stays-byId x _ _ ∙ ap₂ _||_ (has-standing _ a x) (has-standing _ b x)
 
 ascending-folded : (l : Channel) (s : List Channel) → Ascending byId (l .members) → Ascending byId (folded l s .members)
 unfolding folded

@@ -7,12 +7,12 @@ use native.Mathlib.Numerals.{add-one}
 use native.Mathlib.Omega.{arith}
 use lib.ListN.{length, take, getD, set}
 use lib.Seq.{take-suc, take-all}
-use Rattle.octets.specs.Lists.{padded}
-use Rattle.octets.specs.Order.{compare}
-use Rattle.octets.specs.Ascending.{isLess, put, unite}
-use Rattle.octets.proofs.Lists.{getD-padded}
+use Rattle.laws.specs.Lists.{padded}
+use Rattle.octets.specs.Order.{compare, isLess}
+use Rattle.ascending.specs.Ascending.{put, unite}
+use Rattle.laws.proofs.Lists.{getD-padded}
 use Rattle.octets.proofs.Ordered.{Below, compare-trans}
-use Rattle.octets.proofs.Ascends.{put-some, put-few, Under, Ascending, less-says, ascends-passes, put-between, under-upto, unite-append, ascending-put}
+use Rattle.ascending.proofs.Ascends.{put-some, put-few, Under, Ascending, less-says, ascends-passes, put-between, under-upto, unite-append, ascending-put}
 use Rattle.channel.specs.declared.Member.{Member}
 use Rattle.channel.specs.declared.Roster.{Roster}
 use Rattle.channel.specs.Limits.{memberLimit}
@@ -20,7 +20,7 @@ use Rattle.channel.specs.Channel.{byId}
 use Rattle.channel.specs.Record.{nobody}
 use Rattle.channel.specs.Members.{roster, ordered}
 use Rattle.channel.specs.Private.{Sorted}
-use Rattle.channel.proofs.Sides.{keyed-byId}
+use Rattle.channel.proofs.Sides.{stays-byId}
 use Rattle.channel.proofs.Gathering.{Gathers, gathers-more, gathers-take, roster-gathers}
 
 under-append : (x : List ℕ) (a b : List Member) → Under byId x a → Under byId x b → Under byId x (a ++ b)
@@ -63,7 +63,7 @@ module _ (entries : List Member) (i : ℕ) (list : List Member) (count : ℕ) (l
         record {
           few = omega (arith, s .few);
           gathers = rw (next, is) (gathers-more list count so-far e (s .gathers));
-          ascending = rw next (ascending-put byId keyed-byId e so-far (s .ascending));
+          ascending = rw next (ascending-put byId stays-byId e so-far (s .ascending));
           behind = λ k p. rw (next, is) (under-append k so-far (e ∷ []) (s .behind k (compare-trans (last .id) (e .id) k b p)) (p, tt));
         }
 
@@ -83,7 +83,7 @@ module _ (entries : List Member) (i : ℕ) (list : List Member) (count : ℕ) (l
 
       pub inserted-put : (x : Member) → Inserted entries (i + 1) (r .list) (r .count) (getD (r .list) (r .count - 1) x)
       inserted-put x =
-          let asc : Ascending byId (put byId e so-far) = ascending-put byId keyed-byId e so-far (s .ascending) in
+          let asc : Ascending byId (put byId e so-far) = ascending-put byId stays-byId e so-far (s .ascending) in
           record {
             few = inserted-count .1;
             gathers = rw next g;

@@ -8,8 +8,8 @@ use native.Mathlib.Omega.{arith}
 use lib.ListN.{length, take, drop, getD, drop-of-length-le}
 use lib.Seq.{take-suc}
 use borrow.Author.Tests.{eq-eqb, ne-eqb}
-use Rattle.octets.specs.Lists.{same}
-use Rattle.octets.proofs.Lists.{nil-length, drop-step}
+use Rattle.laws.specs.Lists.{same}
+use Rattle.laws.proofs.Lists.{nil-length, drop-step}
 use Rattle.channel.specs.declared.Member.{Member}
 use Rattle.channel.specs.declared.Record.{Record}
 use Rattle.channel.specs.declared.Roster.{Roster}

@@ -7,12 +7,12 @@ use native.Mathlib.Numerals.{add-one}
 use native.Mathlib.Omega.{arith}
 use lib.ListN.{length, take, drop, getD, set, length-append, length-drop, take-append-drop, drop-of-length-le, List·getD-append}
 use lib.Seq.{split-at, take-suc, take-length, drop-length, length-take-le, getD-take, append-snoc}
-use Rattle.octets.specs.Lists.{same, padded}
-use Rattle.octets.specs.Order.{compare}
-use Rattle.octets.specs.Ascending.{isLess, put}
-use Rattle.octets.proofs.Lists.{drop-step, getD-any, getD-padded, length-padded}
+use Rattle.laws.specs.Lists.{same, padded}
+use Rattle.octets.specs.Order.{compare, isLess}
+use Rattle.ascending.specs.Ascending.{put}
+use Rattle.laws.proofs.Lists.{drop-step, getD-any, getD-padded, length-padded}
 use Rattle.octets.proofs.Bytes.{same-true}
-use Rattle.octets.proofs.Ascends.{Above, Under, Ascending, joined, less-says, less-fails, ascends-says, put-between, put-joined, under-take, under-upto}
+use Rattle.ascending.proofs.Ascends.{Above, Under, Ascending, joined, less-says, less-fails, ascends-says, put-between, put-joined, under-take, under-upto}
 use Rattle.channel.specs.declared.Member.{Member}
 use Rattle.channel.specs.declared.Roster.{Roster}
 use Rattle.channel.specs.Limits.{memberLimit}

@@ -9,17 +9,17 @@ use lib.Bits.{bitOr}
 use lib.ListN.{length, length-map}
 use lib.Dec.{eqb}
 use borrow.Author.Tests.{eqb-true, eqb-false, eq-eqb, ne-eqb}
-use Rattle.octets.specs.Lists.{same}
-use Rattle.octets.specs.Joins.{total}
-use Rattle.octets.proofs.Joins.{Joining, Within, join-none, total-append, total-none, total-mem, total-same, joining-or, joining-max, joining-bits}
-use Rattle.octets.proofs.Ascends.{Ascending, ascending-unite, unite-append, length-unite-left}
-use Rattle.octets.proofs.Contents.{has, has-unite, same-length, ascending-restated, has-restated, content-restated}
+use Rattle.laws.specs.Lists.{same}
+use Rattle.laws.specs.Joins.{total}
+use Rattle.laws.proofs.Joins.{Joining, Within, join-none, total-append, total-none, total-mem, total-same, joining-or, joining-max, joining-bits}
+use Rattle.ascending.proofs.Ascends.{Ascending, ascending-unite, unite-append, length-unite-left}
+use Rattle.ascending.proofs.Contents.{has, has-unite, same-length, ascending-restated, has-restated, content-restated}
 use Rattle.channel.specs.Key.{greater}
 use Rattle.channel.specs.Channel.{Channel, byId}
 use Rattle.channel.specs.Merging.{given, merge}
 use Rattle.channel.specs.Plain.{earliest, counts, counted, entries, everyone, statusIn, statusAt, plain, spelled}
 use Rattle.channel.proofs.Keys.{joining-greater}
-use Rattle.channel.proofs.Sides.{channel-path, keyed-byId, lawful-byId, named, stands-counts, status-absent, status-unite, same-members, has-standing, status-standing, ascending-merge}
+use Rattle.channel.proofs.Sides.{channel-path, keyed-byId, stays-byId, lawful-byId, named, stands-counts, status-absent, status-unite, same-members, has-standing, status-standing, ascending-merge}
 
 -- ---- time
 earliest-le : (l : Channel) (s : List Channel) (k : Channel) → List·Memᴰ k (l ∷ s) → earliest l s ≤ k .time
@@ -52,12 +52,12 @@ has-entries x (c ∷ s) = total-append _||_ false joining-or (λ m. same x (m .i
 -- every id that any line names, and no other
 pub has-everyone : (x : List ℕ) (s : List Channel) → has byId x (everyone s) ≡ total _||_ false (named x) s
 unfolding everyone
-has-everyone x s = has-unite byId keyed-byId x [] (entries s) ∙ has-entries x s
+has-everyone x s = has-unite byId stays-byId x [] (entries s) ∙ has-entries x s
 
 -- ascending, and so each once
 pub ascending-everyone : (s : List Channel) → Ascending byId (everyone s)
 unfolding everyone
-ascending-everyone s = ascending-unite byId keyed-byId [] (entries s) tt
+ascending-everyone s = ascending-unite byId stays-byId [] (entries s) tt
 
 entries-append : (s t : List Channel) → entries (s ++ t) ≡ entries s ++ entries t
 unfolding entries
@@ -161,7 +161,7 @@ merge-plain l k s t p q =
     (both greater [] joining-greater (λ c. c .key) (λ c u. refl) l k s t g)
     (both max 0 joining-max (λ c. c .limit) (λ c u. refl) l k s t g)
     (same-members _ _ (ascending-merge (plain l s) (plain k t) (ascending-plain l s)) (ascending-plain l (s ++ k ∷ t))
-    (λ x. has-unite byId keyed-byId x _ _ ∙ ap₂ _||_ (has-standing _ (plain l s) x ∙ plain-has x l s) (has-standing _ (plain k t) x ∙ plain-has x k t)
+    (λ x. has-unite byId stays-byId x _ _ ∙ ap₂ _||_ (has-standing _ (plain l s) x ∙ plain-has x l s) (has-standing _ (plain k t) x ∙ plain-has x k t)
     ∙ sym (total-append _||_ false joining-or (named x) (l ∷ s) (k ∷ t)) ∙ sym (plain-has x l (s ++ k ∷ t)))
     (λ x. status-unite x _ _ ∙ ap₂ bitOr (status-standing _ (plain l s) x) (status-standing _ (plain k t) x)
     ∙ both bitOr 0 joining-bits (λ c. statusIn x (c .members)) (plain-status x) l k s t g))

@@ -9,10 +9,10 @@ use lib.Bits.{bitOr, or-lt}
 use lib.ListN.{length}
 use lib.Dec.{leb, ltb}
 use borrow.Author.Tests.{leb-true, ltb-true, ltb-false, le-leb, lt-ltb, le-ltb}
-use Rattle.octets.specs.Lists.{all, isNil}
-use Rattle.octets.proofs.Bools.{and-left, and-right, and-intro, beq-says, beq-refl}
-use Rattle.octets.proofs.Lists.{all-map, all-head, all-tail, all-passed}
-use Rattle.octets.proofs.Ascends.{Ascending, ascends-says, ascends-passes, all-unite, length-unite-left}
+use Rattle.laws.specs.Lists.{all, isNil}
+use Rattle.laws.proofs.Bools.{and-left, and-right, and-intro, beq-says, beq-refl}
+use Rattle.laws.proofs.Lists.{all-map, all-head, all-tail, all-passed}
+use Rattle.ascending.proofs.Ascends.{Ascending, ascends-says, ascends-passes, all-unite, length-unite-left}
 use Rattle.names.specs.Names.{isChannel, isUserId}
 use Rattle.names.proofs.Channels.{channel-length}
 use Rattle.channel.specs.declared.Member.{Member}

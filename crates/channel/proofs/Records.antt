@@ -9,9 +9,9 @@ use lib.ListN.{length, drop, getD, replicate}
 use lib.Seq.{length-take-le}
 use lib.Dec.{leb}
 use borrow.Author.Tests.{eqb-true, leb-true, le-leb}
-use Rattle.octets.specs.Lists.{all}
-use Rattle.octets.proofs.Bools.{and-left, and-right, and-three}
-use Rattle.octets.proofs.Lists.{all-head, all-tail, all-from, take-padded, all-padded, padded-take}
+use Rattle.laws.specs.Lists.{all}
+use Rattle.laws.proofs.Bools.{and-left, and-right, and-three}
+use Rattle.laws.proofs.Lists.{all-head, all-tail, all-from, take-padded, all-padded, padded-take}
 use Rattle.names.specs.Names.{nameLimit, userIdLength}
 use Rattle.channel.specs.declared.Member.{Member}
 use Rattle.channel.specs.declared.Record.{Record}

@@ -10,12 +10,12 @@ use lib.Bits.{bitOr, or-zero-l}
 use lib.ListN.{length, drop}
 use lib.Dec.{leb}
 use borrow.Author.Tests.{le-leb}
-use Rattle.octets.specs.Lists.{all, isNil, same}
-use Rattle.octets.proofs.Bools.{and-three}
-use Rattle.octets.proofs.Lists.{all-head, all-tail, all-cons, all-padded, take-padded}
+use Rattle.laws.specs.Lists.{all, isNil, same}
+use Rattle.laws.proofs.Bools.{and-three}
+use Rattle.laws.proofs.Lists.{all-head, all-tail, all-cons, all-padded, take-padded}
 use Rattle.octets.proofs.Bytes.{same-true}
-use Rattle.octets.proofs.Ascends.{Above, Ascending}
-use Rattle.octets.proofs.Contents.{has}
+use Rattle.ascending.proofs.Ascends.{Above, Ascending}
+use Rattle.ascending.proofs.Contents.{has}
 use Rattle.names.specs.Names.{nameLimit}
 use Rattle.channel.specs.declared.Member.{Member}
 use Rattle.channel.specs.declared.Record.{Record}

@@ -6,9 +6,9 @@ use mathlib.Core.Bool.{true, false}
 use mathlib.Core.List.{List, []}
 use native.Mathlib.Omega.{arith}
 use lib.Bits.{bitOr, or-zero-l, or-zero-r}
-use Rattle.refusal.specs.Rules.{ascend, ascendFrom}
-use Rattle.octets.specs.Ascending.{unite}
-use Rattle.octets.proofs.Joins.{join-none}
+use Rattle.refusal.specs.Rules.{ascend, ascendFrom, placeIn}
+use Rattle.ascending.specs.Ascending.{unite}
+use Rattle.laws.proofs.Joins.{join-none}
 use Rattle.channel.specs.declared.Member.{Member}
 use Rattle.channel.specs.declared.Record.{Record}
 use Rattle.channel.specs.Key.{greater}
@@ -55,5 +55,5 @@ module _ (a b : Channel) where
 
 -- the numbers of merging ascend, so the lowest that applies is given
 pub rules-ascend : (a b : Record) → ascend (mergeRules a b) ≡ true
-unfolding mergeRules ascendFrom
+unfolding mergeRules ascendFrom placeIn
 rules-ascend a b = refl

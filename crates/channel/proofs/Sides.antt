@@ -8,10 +8,10 @@ use native.Mathlib.Omega.{arith}
 use lib.Bits.{bitOr}
 use lib.ListN.{length, length-map}
 use borrow.Author.Tests.{eq-eqb, ne-eqb}
-use Rattle.octets.specs.Ascending.{unite}
-use Rattle.octets.proofs.Joins.{joining-bits}
-use Rattle.octets.proofs.Ascends.{Keyed, Lawful, Ascending, ascending-unite}
-use Rattle.octets.proofs.Contents.{has, content-absent, content-unite, same-entries, ascending-restated, has-restated, content-restated}
+use Rattle.ascending.specs.Ascending.{unite}
+use Rattle.laws.proofs.Joins.{joining-bits}
+use Rattle.ascending.proofs.Ascends.{Keyed, Lawful, Stays, Ascending, keyed-stays, ascending-unite}
+use Rattle.ascending.proofs.Contents.{has, content-absent, content-unite, same-entries, ascending-restated, has-restated, content-restated}
 use Rattle.channel.specs.declared.Member.{Member}
 use Rattle.channel.specs.Channel.{Channel, byId}
 use Rattle.channel.specs.Merging.{stands, given, bare, standing, merge}
@@ -23,6 +23,9 @@ channel-path p q r s t u = λ i. record { name = p i; time = q i; modes = r i; k
 
 pub keyed-byId : Keyed byId
 keyed-byId = record { key-made = λ k p. refl; load-made = λ k p. refl; made = λ e. refl }
+
+pub stays-byId : Stays byId
+stays-byId = keyed-stays byId keyed-byId
 
 pub lawful-byId : Lawful byId 0
 lawful-byId = record { keyed = keyed-byId; joining = joining-bits }
@@ -99,4 +102,4 @@ pub ascending-merge : (a b : Channel) → Ascending byId (a .members) → Ascend
 unfolding merge
 ascending-merge a b h =
     let m : ℕ = min (a .time) (b .time) in
-    ascending-unite byId keyed-byId (standing m a) (standing m b) (ascending-standing m a h)
+    ascending-unite byId stays-byId (standing m a) (standing m b) (ascending-standing m a h)

@@ -10,8 +10,8 @@ use lib.Seq.{take-all, length-take-le, getD-take}
 use lib.Dec.{leb}
 use lib.Pow.{shl-exact, shl-shr, shr-le}
 use borrow.Author.Tests.{ne-eqb, eqb-true, eqb-false, leb-true, leb-false}
-use Rattle.octets.specs.Lists.{all}
-use Rattle.octets.proofs.Lists.{drop-step, all-step}
+use Rattle.laws.specs.Lists.{all}
+use Rattle.laws.proofs.Lists.{drop-step, all-step}
 use Rattle.channel.specs.WellFormed.{isZero}
 
 -- ---- the first n at a place

@@ -9,12 +9,12 @@ use lib.ListN.{length, take, drop, getD, set, length-append, drop-of-length-le}
 use lib.Seq.{length-take-le, append-snoc}
 use Rattle.octets.specs.declared.Order.{Order}
 use Rattle.octets.specs.declared.Order.the-variants.{Less, Same, More}
-use Rattle.octets.specs.Lists.{padded}
+use Rattle.laws.specs.Lists.{padded}
 use Rattle.octets.specs.Order.{compare}
-use Rattle.octets.specs.Ascending.{unite, ascends}
-use Rattle.octets.proofs.Lists.{length-padded}
+use Rattle.ascending.specs.Ascending.{unite, ascends}
+use Rattle.laws.proofs.Lists.{length-padded}
 use Rattle.octets.proofs.Ordered.{compare-same, more-below}
-use Rattle.octets.proofs.Ascends.{Above, Ascending, ascends-says, ascending-drop, unite-nil-left, unite-nil-right, unite-less, unite-more, unite-same}
+use Rattle.ascending.proofs.Ascends.{Above, Ascending, ascends-says, ascending-drop, unite-nil-left, unite-nil-right, unite-less, unite-more, unite-same}
 use Rattle.channel.specs.declared.Member.{Member}
 use Rattle.channel.specs.declared.Roster.{Roster}
 use Rattle.channel.specs.declared.merging.Taken.{Taken}
@@ -23,7 +23,7 @@ use Rattle.channel.specs.Channel.{byId}
 use Rattle.channel.specs.Record.{nobody}
 use Rattle.channel.specs.Members.{roster}
 use Rattle.channel.specs.Private.{Held, Fills, asGiven, takenFrom}
-use Rattle.channel.proofs.Sides.{keyed-byId}
+use Rattle.channel.proofs.Sides.{stays-byId}
 use Rattle.channel.proofs.Tests.{front-step}
 use Rattle.channel.proofs.Gathering.{Gathers, gathers-take, gathers-more, gathers-roster}
 
@@ -116,7 +116,7 @@ module _ (A B : List Member) (i j : ℕ) (x y : Member) (ea : drop i A ≡ x ∷
       let z : j ≡ j + 0 = omega arith in
       ap₂ (unite byId) ea eb ∙ unite-less byId x y (drop (i + 1) A) (drop (j + 1) B) asc p
       ∙ ap (λ (l : List Member). x ∷ unite byId (drop (i + 1) A) l) (sym eb ∙ ap (λ (k : ℕ). drop k B) z)
-  unite-taken Same p = ap₂ (unite byId) ea eb ∙ unite-same byId x y (drop (i + 1) A) (drop (j + 1) B) asc keyed-byId (compare-same (x .id) (y .id) p)
+  unite-taken Same p = ap₂ (unite byId) ea eb ∙ unite-same byId x y (drop (i + 1) A) (drop (j + 1) B) asc stays-byId (compare-same (x .id) (y .id) p)
   unite-taken More p =
       let z : i ≡ i + 0 = omega arith in
       ap₂ (unite byId) ea eb ∙ unite-more byId x y (drop (i + 1) A) (drop (j + 1) B) asc (more-below (x .id) (y .id) p)

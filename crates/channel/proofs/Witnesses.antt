@@ -9,12 +9,12 @@ use lib.ListN.{length}
 use lib.Dec.{eqb}
 use borrow.Author.Tests.{eqb-true}
 use Rattle.octets.specs.Bytes.{within, isDigit, isIdByte, isNameByte, isKeyByte, isPlain}
-use Rattle.octets.specs.Lists.{all, sameBy, padded, startsWith}
+use Rattle.laws.specs.Lists.{all, sameBy, padded, startsWith}
 use Rattle.octets.specs.Order.{compare}
-use Rattle.octets.specs.Bits.{hasBit}
-use Rattle.octets.specs.Ascending.{insert, put, unite, ascends}
-use Rattle.octets.proofs.Joins.{Within}
-use Rattle.octets.proofs.Lists.{all-head, all-tail, all-at}
+use Rattle.laws.specs.Bits.{hasBit}
+use Rattle.ascending.specs.Ascending.{insert, put, unite, ascends}
+use Rattle.laws.proofs.Joins.{Within}
+use Rattle.laws.proofs.Lists.{all-head, all-tail, all-at}
 use Rattle.names.specs.Names.{userIdLength, isChannel, isServerId, isUserId}
 use Rattle.channel.specs.declared.Member.{Member}
 use Rattle.channel.specs.declared.Record.{Record}

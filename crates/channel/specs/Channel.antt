@@ -2,7 +2,7 @@
 use Prim.Native.Nat.{ℕ}
 use mathlib.Core.List.{List}
 use lib.Bits.{bitOr}
-use Rattle.octets.specs.Ascending.{Kind}
+use Rattle.ascending.specs.Ascending.{Kind}
 use Rattle.channel.specs.declared.Member.{Member}
 
 pub record Channel : Type 0 where

@@ -5,9 +5,8 @@ use mathlib.Core.List.{List}
 use lib.ListN.{length}
 use lib.Dec.{leb}
 use Rattle.octets.specs.Bytes.{colon, isKeyByte}
-use Rattle.octets.specs.Lists.{all, startsWith}
-use Rattle.octets.specs.Order.{compare}
-use Rattle.octets.specs.Ascending.{isLess}
+use Rattle.laws.specs.Lists.{all, startsWith}
+use Rattle.octets.specs.Order.{compare, isLess}
 use Rattle.channel.specs.Limits.{keyLimit}
 
 -- 1 to 23 bytes from 33 to 126 without comma, not starting with ':'

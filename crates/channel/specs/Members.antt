@@ -3,8 +3,8 @@ use Prim.Native.Nat.{ℕ}
 use mathlib.Core.Bool.{Bool, false, cond, _||_}
 use mathlib.Core.List.{List, [], _∷_}
 use lib.ListN.{length}
-use Rattle.octets.specs.Lists.{isNil, padded, same}
-use Rattle.octets.specs.Ascending.{unite}
+use Rattle.laws.specs.Lists.{isNil, padded, same}
+use Rattle.ascending.specs.Ascending.{unite}
 use Rattle.channel.specs.declared.Member.{Member}
 use Rattle.channel.specs.declared.Record.{Record}
 use Rattle.channel.specs.declared.Roster.{Roster}

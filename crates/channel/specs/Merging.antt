@@ -8,7 +8,7 @@ use lib.ListN.{length}
 use lib.Dec.{eqb, ltb}
 use Rattle.refusal.specs.Numbers.{accepted, notWellFormed, badName, tooManyMembers}
 use Rattle.refusal.specs.Rules.{Rule, _when_, firstOf}
-use Rattle.octets.specs.Ascending.{unite}
+use Rattle.ascending.specs.Ascending.{unite}
 use Rattle.names.specs.Fold.{sameName}
 use Rattle.channel.specs.declared.Member.{Member}
 use Rattle.channel.specs.declared.Record.{Record}

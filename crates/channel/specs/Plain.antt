@@ -5,9 +5,9 @@ use mathlib.Core.Bool.{Bool, cond}
 use mathlib.Core.List.{List, [], _∷_, _++_, map}
 use lib.Bits.{bitOr}
 use lib.Dec.{eqb}
-use Rattle.octets.specs.Lists.{same}
-use Rattle.octets.specs.Joins.{total}
-use Rattle.octets.specs.Ascending.{unite}
+use Rattle.laws.specs.Lists.{same}
+use Rattle.laws.specs.Joins.{total}
+use Rattle.ascending.specs.Ascending.{unite}
 use Rattle.channel.specs.declared.Member.{Member}
 use Rattle.channel.specs.Key.{greater}
 use Rattle.channel.specs.Channel.{Channel, member, byId}

@@ -7,8 +7,8 @@ use lib.Bits.{bitOr}
 use lib.ListN.{length, take}
 use Rattle.octets.specs.declared.Order.{Order}
 use Rattle.octets.specs.declared.Order.the-variants.{Less, Same, More}
-use Rattle.octets.specs.Lists.{padded}
-use Rattle.octets.specs.Ascending.{ascends}
+use Rattle.laws.specs.Lists.{padded}
+use Rattle.ascending.specs.Ascending.{ascends}
 use Rattle.channel.specs.declared.Member.{Member}
 use Rattle.channel.specs.declared.Record.{Record}
 use Rattle.channel.specs.declared.Roster.{Roster}

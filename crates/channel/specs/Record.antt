@@ -1,7 +1,7 @@
 -- The record that holds a channel: arrays with the unused room zero.
 use mathlib.Core.List.{[]}
 use lib.ListN.{length, take, replicate}
-use Rattle.octets.specs.Lists.{padded}
+use Rattle.laws.specs.Lists.{padded}
 use Rattle.names.specs.Names.{nameLimit, userIdLength}
 use Rattle.channel.specs.declared.Member.{Member}
 use Rattle.channel.specs.declared.Record.{Record}

@@ -4,8 +4,8 @@ use mathlib.Core.Bool.{Bool, not, _&&_, _||_, Bool·beq}
 use mathlib.Core.List.{List, [], _∷_}
 use lib.ListN.{length, drop}
 use lib.Dec.{eqb, leb, ltb}
-use Rattle.octets.specs.Lists.{all, isNil}
-use Rattle.octets.specs.Ascending.{ascends}
+use Rattle.laws.specs.Lists.{all, isNil}
+use Rattle.ascending.specs.Ascending.{ascends}
 use Rattle.names.specs.Names.{nameLimit, isChannel, isUserId}
 use Rattle.channel.specs.declared.Member.{Member}
 use Rattle.channel.specs.declared.Record.{Record}

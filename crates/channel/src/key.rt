@@ -1,8 +1,7 @@
 // Keys: which bytes are one, and the greater of two, handed back as the very reference that was lent.
 ghost use mathlib.Core.Path.{_≡_};
 ghost use mathlib.Core.Bool.{cond};
-ghost use Rattle.octets.specs.Order.{compare as compareOf};
-ghost use Rattle.octets.specs.Ascending.{isLess};
+ghost use Rattle.octets.specs.Order.{compare as compareOf, isLess};
 ghost use Rattle.channel.specs.Key.{isKey};
 use crate::Record;
 use octets::Class;

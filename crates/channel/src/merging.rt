@@ -5,7 +5,7 @@ ghost use mathlib.Core.List.{map, _++_};
 ghost use Prim.Native.Nat.{_≤_, suc, min, max};
 ghost use lib.ListN.{take, drop};
 ghost use Rattle.octets.specs.Order.{compare};
-ghost use Rattle.octets.specs.Ascending.{ascends, unite};
+ghost use Rattle.ascending.specs.Ascending.{ascends, unite};
 ghost use Rattle.names.specs.Fold.{sameName};
 ghost use Rattle.channel.specs.Limits.{memberLimit};
 ghost use Rattle.channel.specs.Key.{greater};

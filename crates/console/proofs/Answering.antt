@@ -11,13 +11,13 @@ use borrow.Author.Tests.{eqb-false, ltb-true}
 use Rattle.refusal.specs.Rules.{emitted}
 use Rattle.refusal.proofs.Rules.{emitted-all}
 use Rattle.octets.specs.Bytes.{lf, space, comma}
-use Rattle.octets.specs.Bits.{hasBit}
-use Rattle.octets.specs.Lists.{isNil, prefixed, separated}
+use Rattle.laws.specs.Bits.{hasBit}
+use Rattle.laws.specs.Lists.{isNil, prefixed, separated}
 use Rattle.octets.specs.Decimals.{digitsOf}
 use Rattle.octets.specs.Room.{part, putAt, endOf, front}
 use Rattle.octets.specs.Held.{Adds}
 use Rattle.octets.proofs.Digits.{digits-ten, digits-within}
-use Rattle.octets.proofs.Lists.{nil-length}
+use Rattle.laws.proofs.Lists.{nil-length}
 use Rattle.octets.proofs.Room.{part-front, end-fits, put-behind, holds-nothing}
 use Rattle.links.specs.Links.{linkCount, isLink, linksFrom, linksIn}
 use Rattle.message.specs.Grammar.{lineLimit}

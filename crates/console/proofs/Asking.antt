@@ -12,10 +12,10 @@ use borrow.Author.Tests.{eq-eqb, ne-eqb, lt-ltb, le-ltb, eqb-true}
 use Rattle.octets.specs.declared.Decimal.{Decimal}
 use Rattle.octets.specs.declared.Decimal.the-variants.{Value, Malformed}
 use Rattle.octets.specs.Bytes.{lf, cr, space, isDigit, within}
-use Rattle.octets.specs.Lists.{isNil, all}
+use Rattle.laws.specs.Lists.{isNil, all}
 use Rattle.octets.specs.Decimals.{isDecimal, decimalUpTo}
 use Rattle.octets.specs.Room.{part}
-use Rattle.octets.proofs.Lists.{nil-length}
+use Rattle.laws.proofs.Lists.{nil-length}
 use Rattle.octets.proofs.Room.{part-front, part-back}
 use Rattle.message.specs.declared.Span.{Span}
 use Rattle.message.specs.Grammar.{word, spaces}

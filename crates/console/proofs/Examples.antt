@@ -3,8 +3,8 @@ use Prim.Native.Nat.{ℕ}
 use mathlib.Core.Path.{_≡_, refl}
 use mathlib.Core.List.{List as ListOf, [], _∷_, map}
 use Rattle.octets.specs.Bytes.{cr, lf, space, isDigit, within}
-use Rattle.octets.specs.Bits.{hasBit}
-use Rattle.octets.specs.Lists.{all, startsWith, prefixed, separated}
+use Rattle.laws.specs.Bits.{hasBit}
+use Rattle.laws.specs.Lists.{all, startsWith, prefixed, separated}
 use Rattle.octets.specs.Decimals.{leadsWithZero, isDecimal, valueFrom, valueUpTo, decimalUpTo, digitsUpTo, digitsOf}
 use Rattle.links.specs.Links.{linksFrom}
 use Rattle.message.specs.Grammar.{word}

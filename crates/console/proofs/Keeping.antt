@@ -12,10 +12,10 @@ use borrow.Author.Tests.{ne-eqb, lt-ltb, le-ltb, ltb-true, ltb-false, leb-true, 
 use Rattle.octets.specs.declared.Decimal.{Decimal}
 use Rattle.octets.specs.declared.Decimal.the-variants.{Value, Malformed}
 use Rattle.octets.specs.Bytes.{cr, space}
-use Rattle.octets.specs.Joins.{total}
-use Rattle.octets.specs.Lists.{isNil}
+use Rattle.laws.specs.Joins.{total}
+use Rattle.laws.specs.Lists.{isNil}
 use Rattle.octets.proofs.Digits.{digits-within, decimal-read}
-use Rattle.octets.proofs.Lists.{nil-length}
+use Rattle.laws.proofs.Lists.{nil-length}
 use Rattle.message.specs.Grammar.{word}
 use Rattle.console.specs.declared.requests.Request.{Request}
 use Rattle.console.specs.declared.requests.Request.the-variants.{Register, Unregister, Take, List, Unknown}

@@ -10,7 +10,7 @@ use lib.Dec.{eqb, leb}
 use borrow.Author.Tests.{eq-eqb, ne-eqb, eqb-true, eqb-false, leb-true, leb-false}
 use Rattle.octets.specs.Bytes.{lf}
 use Rattle.octets.specs.Room.{part, putAt}
-use Rattle.octets.proofs.Lists.{drop-step}
+use Rattle.laws.proofs.Lists.{drop-step}
 use Rattle.octets.proofs.Room.{part-front, put-fits}
 use Rattle.console.specs.Lines.{inputLimit, kept, firstLine, endsLine}
 

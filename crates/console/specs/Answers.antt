@@ -3,7 +3,7 @@ use Prim.Native.Nat.{ℕ}
 use mathlib.Core.Bool.{cond}
 use mathlib.Core.List.{List, [], _∷_, _++_, map}
 use Rattle.octets.specs.Bytes.{lf, space, comma}
-use Rattle.octets.specs.Lists.{isNil, separated}
+use Rattle.laws.specs.Lists.{isNil, separated}
 use Rattle.octets.specs.Decimals.{digitsOf}
 use Rattle.links.specs.Links.{linksIn}
 

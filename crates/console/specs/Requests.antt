@@ -8,7 +8,7 @@ use lib.Dec.{eqb, ltb}
 use Rattle.octets.specs.declared.Decimal.{Decimal}
 use Rattle.octets.specs.declared.Decimal.the-variants.{Value, Malformed}
 use Rattle.octets.specs.Bytes.{cr}
-use Rattle.octets.specs.Lists.{isNil}
+use Rattle.laws.specs.Lists.{isNil}
 use Rattle.octets.specs.Decimals.{decimalUpTo}
 use Rattle.message.specs.Grammar.{word}
 use Rattle.console.specs.declared.requests.Request.{Request}

@@ -1,7 +1,7 @@
 // What an input line asks for.
 ghost use mathlib.Core.Path.{_≡_};
 ghost use mathlib.Core.Bool.{cond};
-ghost use Rattle.octets.specs.Lists.{isNil};
+ghost use Rattle.laws.specs.Lists.{isNil};
 ghost use Rattle.console.specs.declared.requests.Request.the-variants.{Register, Unregister, List, Unknown};
 ghost use Rattle.console.specs.Requests.{ended as endedOf, linkIn, numbered, takingIn, requestIn, lineFrom};
 use message::next_word;

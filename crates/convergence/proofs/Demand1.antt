@@ -2,13 +2,13 @@
 use Prim.Native.Nat.{ℕ}
 use mathlib.Core.Path.{_≡_, refl, sym, ap}
 use mathlib.Core.List.{List}
-use native.Mathlib.Omega.{arith}
 use lib.ListN.{length}
 use Rattle.refusal.specs.Numbers.{accepted}
+use Rattle.refusal.proofs.Rules.{first-listed}
 use Rattle.octets.specs.Room.{front}
 use Rattle.table.specs.declared.Table.{Table}
-use Rattle.relay.specs.Relay.{refused, processAnswer, sent}
-use Rattle.relay.proofs.Numbers.{process-listed}
+use Rattle.relay.specs.Relay.{processRules, refused, processAnswer, sent}
+use Rattle.relay.proofs.Taking.{rules-ascend}
 use Rattle.relay.proofs.Answering.{answer-refused, sent-nothing}
 use Rattle.convergence.specs.Demands.{ruled, Listed, Demand1}
 use Rattle.convergence.specs.Ours.{ours}
@@ -24,7 +24,7 @@ module _ (t : Table) (link : ℕ) (line out : List ℕ) (bad : ruled t link line
   refuses = λ i. (answered i, untouched i)
 
   listed : Listed (ours t link line out .0 .number)
-  listed = rw answered (omega (arith, bad), process-listed t link line (length out))
+  listed = rw answered (first-listed (processRules t link line (length out)) (rules-ascend t link line (length out)) bad)
 
 pub demand1 : Demand1 ours
 demand1 = record { one = λ t link line out. (ours t link line out, refl, λ b e. sym e); refuses = refuses; listed = listed }

@@ -9,9 +9,9 @@ use native.Mathlib.Omega.{arith}
 use lib.ListN.{length}
 use borrow.Author.Tests.{eqb-true}
 use Rattle.refusal.specs.Numbers.{accepted}
-use Rattle.octets.specs.Lists.{padded}
-use Rattle.octets.proofs.Lists.{map-padded}
-use Rattle.octets.proofs.Joins.{within-map}
+use Rattle.laws.specs.Lists.{padded}
+use Rattle.laws.proofs.Lists.{map-padded}
+use Rattle.laws.proofs.Joins.{within-map}
 use Rattle.names.specs.Fold.{fold, sameName}
 use Rattle.names.specs.Names.{nameLimit}
 use Rattle.names.proofs.Folds.{folds-name, length-folds}

@@ -9,12 +9,12 @@ use lib.ListN.{length, set}
 use lib.Dec.{eqb}
 use borrow.Author.Tests.{eq-eqb, eqb-true, eqb-false}
 use Rattle.refusal.specs.Numbers.{accepted, notWellFormed}
-use Rattle.octets.specs.Bits.{hasBit}
+use Rattle.laws.specs.Bits.{hasBit}
 use Rattle.octets.specs.Bytes.{capital}
-use Rattle.octets.specs.Lists.{all}
+use Rattle.laws.specs.Lists.{all}
 use Rattle.octets.specs.Order.{compare}
-use Rattle.octets.specs.Ascending.{insert, put, unite}
-use Rattle.octets.proofs.Lists.{all-replicate}
+use Rattle.ascending.specs.Ascending.{insert, put, unite}
+use Rattle.laws.proofs.Lists.{all-replicate}
 use Rattle.message.specs.Reading.{contentOf}
 use Rattle.channel.specs.declared.Record.{Record}
 use Rattle.channel.specs.declared.Merged.{Merged}

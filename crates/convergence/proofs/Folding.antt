@@ -12,7 +12,7 @@ use borrow.Author.Tests.{eqb-true, eqb-false}
 use Rattle.refusal.specs.Numbers.{accepted}
 use Rattle.refusal.specs.Rules.{firstOf}
 use Rattle.octets.specs.Bytes.{capital}
-use Rattle.octets.proofs.Ascends.{Ascending}
+use Rattle.ascending.proofs.Ascends.{Ascending}
 use Rattle.names.specs.Fold.{fold}
 use Rattle.names.proofs.Folds.{folds-name}
 use Rattle.message.specs.Reading.{contentOf}

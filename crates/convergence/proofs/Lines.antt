@@ -9,11 +9,11 @@ use native.Mathlib.Omega.{arith}
 use lib.ListN.{length, getD, replicate, length-replicate}
 use Rattle.refusal.specs.Numbers.{accepted, emptyPrefix, zeroTime, badLink}
 use Rattle.refusal.specs.Rules.{firstOf}
-use Rattle.octets.specs.Bits.{hasBit}
+use Rattle.laws.specs.Bits.{hasBit}
 use Rattle.octets.specs.Bytes.{capital, within, isPlain, isLetter, isDigit, isIdByte, isNameByte, isKeyByte}
-use Rattle.octets.specs.Lists.{all, sameBy, startsWith}
+use Rattle.laws.specs.Lists.{all, sameBy, startsWith}
 use Rattle.octets.specs.Order.{compare}
-use Rattle.octets.specs.Ascending.{insert, put, unite}
+use Rattle.ascending.specs.Ascending.{insert, put, unite}
 use Rattle.octets.specs.Decimals.{leadsWithZero, isDecimal, valueFrom}
 use Rattle.names.specs.Fold.{fold}
 use Rattle.names.specs.Names.{isChannel, isServerId, isUserId}

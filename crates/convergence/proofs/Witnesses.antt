@@ -7,10 +7,10 @@ use mathlib.Core.List.{List, [], _∷_, _++_, map, List·Memᴰ·head, List·Mem
 use native.Mathlib.Omega.{arith}
 use lib.ListN.{set}
 use Rattle.refusal.specs.Numbers.{accepted, badLink, emptyPrefix, zeroTime}
-use Rattle.octets.specs.Bits.{hasBit}
-use Rattle.octets.specs.Lists.{sameBy}
+use Rattle.laws.specs.Bits.{hasBit}
+use Rattle.laws.specs.Lists.{sameBy}
 use Rattle.octets.specs.Order.{compare}
-use Rattle.octets.specs.Ascending.{insert, put, unite}
+use Rattle.ascending.specs.Ascending.{insert, put, unite}
 use Rattle.channel.specs.Key.{greater}
 use Rattle.channel.specs.Channel.{Channel, member}
 use Rattle.channel.specs.Record.{encode}

@@ -8,9 +8,9 @@ use mathlib.Core.Logic.{_⊎_}
 use mathlib.Core.List.{List, [], _∷_, _++_, map, List·Memᴰ}
 use lib.ListN.{length, take, getD, set, replicate}
 use lib.Dec.{eqb}
-use Rattle.refusal.specs.Numbers.{accepted, notWellFormed, noRoom}
+use Rattle.refusal.specs.Numbers.{accepted, order}
 use Rattle.refusal.specs.Rules.{firstOf}
-use Rattle.octets.specs.Bits.{hasBit}
+use Rattle.laws.specs.Bits.{hasBit}
 use Rattle.octets.specs.Bytes.{capital}
 use Rattle.octets.specs.Room.{front}
 use Rattle.names.specs.Fold.{fold}
@@ -43,9 +43,9 @@ abbrev pub ruled : Table → ℕ → List ℕ → List ℕ → ℕ
 ruled t link line out = firstOf (processRules t link line (length out))
 
 -- ---- demand 1
--- the fixed list of numbers: 1 to 25
+-- the number is from the fixed list
 abbrev pub Listed : ℕ → Type 0
-Listed number = (notWellFormed ≤ number) × (number ≤ noRoom)
+Listed number = List·Memᴰ number order
 
 -- there is one such, and no other
 abbrev pub One : {A : Type 0} → (A → Type 0) → Type 0

@@ -4,7 +4,7 @@ use mathlib.Core.Bool.{cond}
 use mathlib.Core.List.{List}
 use lib.Dec.{eqb}
 use Rattle.refusal.specs.Numbers.{accepted, notWellFormed}
-use Rattle.octets.specs.Lists.{all}
+use Rattle.laws.specs.Lists.{all}
 use Rattle.table.specs.declared.Table.{Table}
 use Rattle.table.specs.Table.{isFree}
 use Rattle.relay.specs.declared.Taken.{Taken}

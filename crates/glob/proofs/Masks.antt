@@ -7,14 +7,14 @@ use native.Mathlib.Numerals.{add-one}
 use lib.ListN.{length, drop, getD, drop-of-length-le}
 use lib.Seq.{drop-drop}
 use borrow.Author.Tests.{eq-eqb, ne-eqb}
-use Rattle.refusal.specs.Rules.{ascend, ascendFrom}
-use Rattle.octets.proofs.Bools.{and-right}
-use Rattle.octets.proofs.Lists.{drop-step}
+use Rattle.refusal.specs.Rules.{ascend, ascendFrom, placeIn}
+use Rattle.laws.proofs.Bools.{and-right}
+use Rattle.laws.proofs.Lists.{drop-step}
 use Rattle.glob.specs.Mask.{star, matchesByte, firstThen, afterRun, matches, matchRules}
 
--- The numbers ascend: the lowest that applies is given.
+-- The rules stand in the order of their numbers: the first in it that applies is given.
 pub rules-ascend : (mask text : List ℕ) → ascend (matchRules mask text) ≡ true
-unfolding ascendFrom matchRules
+unfolding ascendFrom matchRules placeIn
 rules-ascend mask text = refl
 
 -- ---- after a run

@@ -12,8 +12,8 @@ use lib.ListN.{length, drop, getD, drop-of-length-le}
 use lib.Seq.{drop-drop}
 use lib.Dec.{eqb}
 use borrow.Author.Tests.{eq-eqb, ne-eqb, eqb-true, eqb-false}
-use Rattle.octets.proofs.Bools.{both-ways}
-use Rattle.octets.proofs.Lists.{drop-step}
+use Rattle.laws.proofs.Bools.{both-ways}
+use Rattle.laws.proofs.Lists.{drop-step}
 use Rattle.glob.specs.declared.State.{State}
 use Rattle.glob.specs.declared.Progress.{Progress}
 use Rattle.glob.specs.declared.Progress.the-variants.{On, Done}

@@ -9,7 +9,7 @@ use lib.ListN.{length}
 use lib.Seq.{take-append-seam}
 use borrow.Author.Tests.{lt-ltb, le-ltb}
 use Rattle.refusal.specs.Numbers.{accepted, badLink, lineTooLong, noRoom}
-use Rattle.refusal.specs.Rules.{firstOf, emitted, ascend, ascendFrom}
+use Rattle.refusal.specs.Rules.{firstOf, emitted, ascend, ascendFrom, placeIn}
 use Rattle.refusal.proofs.Rules.{emitted-none, emitted-all}
 use Rattle.octets.specs.Room.{putAt, front}
 use Rattle.octets.proofs.Room.{put-front, put-behind}
@@ -28,9 +28,9 @@ unfolding lineIn recordOf
 line-back link line more = rw (div-add-mod' (length line) 256) (take-append-seam line more)
 
 -- ---- the answer
--- The numbers ascend: the lowest that applies is given.
+-- The rules stand in the order of their numbers: the first in it that applies is given.
 pub rules-ascend : (link : ℕ) (line log : List ℕ) → ascend (logRules link line log) ≡ true
-unfolding ascendFrom logRules
+unfolding ascendFrom logRules placeIn
 rules-ascend link line log = refl
 
 module _ (link : ℕ) (line log : List ℕ) where

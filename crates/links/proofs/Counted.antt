@@ -8,8 +8,8 @@ use native.Mathlib.Omega.{arith}
 use lib.Count.{ones, onesIn, ones-step}
 use lib.Dec.{eqb}
 use lib.ListN.{length}
-use Rattle.octets.specs.Bits.{hasBit}
-use Rattle.octets.proofs.Bitwise.{bit-half, bit-last}
+use Rattle.laws.specs.Bits.{hasBit}
+use Rattle.laws.proofs.Bitwise.{bit-half, bit-last}
 use Rattle.links.specs.Links.{linkCount, linksFrom, linksIn}
 
 length-cond : (t : Bool) (x : ℕ) (l : List ℕ) → length (cond t (x ∷ l) l) ≡ cond t 1 0 + length l

@@ -4,7 +4,7 @@ use mathlib.Core.Path.{_≡_, refl}
 use mathlib.Core.List.{[], _∷_}
 use native.Mathlib.Omega.{arith}
 use lib.Count.{ones}
-use Rattle.octets.specs.Bits.{hasBit}
+use Rattle.laws.specs.Bits.{hasBit}
 use Rattle.links.specs.declared.Links.{Links}
 use Rattle.links.specs.Links.{links, noLinks, withLink, lessLink, withoutLink, relaySet, linksFrom, linksIn}
 use Rattle.links.proofs.Sets.{with-is, with-none, less-in, less-out}

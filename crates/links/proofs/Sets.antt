@@ -6,9 +6,9 @@ use Prim.Native.Nat.{ℕ, _-_, _^_, _≤_, _<_}
 use lib.Bits.{bitOr}
 use lib.Dec.{eqb}
 use borrow.Author.Tests.{eq-eqb, lt-ltb, le-ltb, eqb-true, ltb-true, ltb-false}
-use Rattle.octets.specs.Bits.{hasBit}
-use Rattle.octets.proofs.Joins.{joining-bits}
-use Rattle.octets.proofs.Bitwise.{bit-union, bit-power, bit-off}
+use Rattle.laws.specs.Bits.{hasBit}
+use Rattle.laws.proofs.Joins.{joining-bits}
+use Rattle.laws.proofs.Bitwise.{bit-union, bit-power, bit-off}
 use Rattle.links.specs.declared.Links.{Links}
 use Rattle.links.specs.Links.{linkCount, isLink, links, withLink, lessLink, withoutLink, relaySet}
 

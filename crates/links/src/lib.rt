@@ -2,7 +2,7 @@
 // relay set, and how many links a set has. Every set is well formed, and any number is taken: one above 31 is no link.
 ghost use mathlib.Core.Path.{_≡_};
 ghost use lib.ListN.{length};
-ghost use Rattle.octets.specs.Bits.{hasBit};
+ghost use Rattle.laws.specs.Bits.{hasBit};
 ghost use Rattle.links.specs.Links.{linkCount, noLinks, withLink, withoutLink, lessLink, relaySet, linksIn};
 
 // The registered links.

@@ -9,7 +9,7 @@ use lib.ListN.{replicate}
 use Rattle.refusal.specs.Numbers.{lineTooLong}
 use Rattle.refusal.specs.Rules.{firstOf}
 use Rattle.octets.specs.Bytes.{space, colon, within, isPlain, isLetter}
-use Rattle.octets.specs.Lists.{all, sameBy, startsWith}
+use Rattle.laws.specs.Lists.{all, sameBy, startsWith}
 use Rattle.message.specs.Grammar.{word, spaces, prefix, prefixEnd, commandStart, command, commandEnd, isCommand, rest, params}
 use Rattle.message.specs.Content.{contentIn}
 use Rattle.message.specs.Reading.{crlf, endsLine, bodyOf, bodyRules, lineRules, numberFor, isRead, contentOf}

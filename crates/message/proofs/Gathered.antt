@@ -8,7 +8,7 @@ use native.Mathlib.Nat.{zero-add}
 use native.Mathlib.Omega.{arith}
 use lib.ListN.{length, drop, set}
 use lib.Seq.{sets}
-use Rattle.octets.proofs.Lists.{sets-padded}
+use Rattle.laws.proofs.Lists.{sets-padded}
 use Rattle.message.specs.declared.Span.{Span}
 use Rattle.message.specs.declared.Message.{Message}
 use Rattle.message.specs.Grammar.{Part, paramLimit, word, spaces, rest, hasPrefix, prefix, prefixEnd, commandStart, commandEnd, command, params}

@@ -9,8 +9,8 @@ use lib.Seq.{take-at, take-nil, drop-length}
 use lib.Dec.{eqb}
 use Rattle.octets.specs.Bytes.{space, colon}
 use Rattle.octets.specs.Room.{part}
-use Rattle.octets.proofs.Lists.{drop-inside, drop-next, front-part, getD-padded}
-use Rattle.octets.specs.Lists.{startsWith}
+use Rattle.laws.proofs.Lists.{drop-inside, drop-next, front-part, getD-padded}
+use Rattle.laws.specs.Lists.{startsWith}
 use Rattle.message.specs.declared.Span.{Span}
 use Rattle.message.specs.declared.Message.{Message}
 use Rattle.message.specs.Grammar.{Part, partAt, paramLimit, word, spaces, rest, afterMiddle, hasPrefix, prefix, prefixEnd, commandStart, command, commandEnd, params}

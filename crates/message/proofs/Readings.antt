@@ -10,13 +10,13 @@ use lib.ListN.{length, drop, getD, length-take, length-map, getD-replicate, drop
 use lib.Dec.{eqb, ltb}
 use borrow.Author.Tests.{eq-eqb, ne-eqb, lt-ltb, le-ltb, ltb-true, ltb-false, eqb-true, eqb-false, not-false}
 use Rattle.refusal.specs.Numbers.{accepted, lineTooLong, noLineEnd, forbiddenByte, emptyLine, emptyPrefix, badCommand, tooManyParams}
-use Rattle.refusal.specs.Rules.{firstOf, ascend, ascendFrom}
-use Rattle.refusal.proofs.Rules.{first-none}
+use Rattle.refusal.specs.Rules.{firstOf, ascend, ascendFrom, placeIn}
+use Rattle.refusal.proofs.Rules.{first-none, numbered}
 use Rattle.octets.specs.Bytes.{cr, lf, isPlain}
-use Rattle.octets.specs.Lists.{all, isNil, sameBy}
+use Rattle.laws.specs.Lists.{all, isNil, sameBy}
 use Rattle.octets.specs.Room.{part}
 use Rattle.octets.proofs.Room.{part-front}
-use Rattle.octets.proofs.Lists.{nil-length, drop-step, length-padded}
+use Rattle.laws.proofs.Lists.{nil-length, drop-step, length-padded}
 use Rattle.message.specs.declared.Span.{Span}
 use Rattle.message.specs.declared.Message.{Message}
 use Rattle.message.specs.declared.Reading.{Reading}
@@ -28,10 +28,15 @@ use Rattle.message.specs.Reading.{endsLine, bodyOf, bodyRules, grammarRu
 use Rattle.message.specs.Scan.{bodyReading}
 use Rattle.message.proofs.Places.{Placed, empty-placed, command-placed, prefix-in-line, command-in-line, param-in-line}
 
--- The numbers ascend: the lowest that applies is given.
+-- The rules stand in the order of their numbers: the first in it that applies is given.
 pub rules-ascend : (line : List ℕ) → ascend (lineRules line) ≡ true
-unfolding ascendFrom lineRules bodyRules
+unfolding ascendFrom lineRules bodyRules placeIn
 rules-ascend line = refl
+
+-- none of them is `accepted`
+pub rules-numbered : (line : List ℕ) → numbered (lineRules line) ≡ true
+unfolding lineRules bodyRules
+rules-numbered line = refl
 
 -- ---- the end of a line
 module _ (line : List ℕ) where

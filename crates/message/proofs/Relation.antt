@@ -9,8 +9,8 @@ use lib.Seq.{append-snoc, drop-drop}
 use lib.Dec.{eqb}
 use borrow.Author.Tests.{eqb-true, not-true}
 use Rattle.octets.specs.Bytes.{space, colon, isNonSpace}
-use Rattle.octets.specs.Lists.{all}
-use Rattle.octets.proofs.Bools.{and-left, and-right}
+use Rattle.laws.specs.Lists.{all}
+use Rattle.laws.proofs.Bools.{and-left, and-right}
 use Rattle.message.specs.Grammar.{Part, partAt, word, isMiddle, rest, afterMiddle, commandStart, command, commandEnd, params}
 use Rattle.message.specs.Content.{bytesOf}
 use Rattle.message.specs.Syntax.{Spaces, Rest, Middle, Parameters}

@@ -9,7 +9,7 @@ use lib.Seq.{take-append-seam, drop-drop, getD-drop}
 use lib.Dec.{eqb}
 use borrow.Author.Tests.{eq-eqb, ne-eqb, eqb-true, eqb-false}
 use Rattle.octets.specs.Bytes.{space, colon}
-use Rattle.octets.proofs.Lists.{drop-step}
+use Rattle.laws.proofs.Lists.{drop-step}
 use Rattle.message.specs.declared.Message.{Message}
 use Rattle.message.specs.Grammar.{partAt, word, spaces, rest, afterMiddle}
 use Rattle.message.specs.Parts.{span}

@@ -10,9 +10,9 @@ use lib.ListN.{length}
 use lib.Dec.{eqb, leb}
 use borrow.Author.Tests.{leb-true, not-true}
 use Rattle.octets.specs.Bytes.{space, isNonSpace}
-use Rattle.octets.specs.Lists.{all}
-use Rattle.octets.specs.Joins.{total}
-use Rattle.octets.proofs.Lists.{all-head, all-tail}
+use Rattle.laws.specs.Lists.{all}
+use Rattle.laws.specs.Joins.{total}
+use Rattle.laws.proofs.Lists.{all-head, all-tail}
 use Rattle.message.specs.Grammar.{word}
 use Rattle.message.specs.Content.{bytesOf}
 use Rattle.message.specs.Words.{wordsAt, afterWord, wordsOf}

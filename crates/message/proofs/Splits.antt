@@ -10,7 +10,7 @@ use lib.Dec.{eqb}
 use borrow.Author.Tests.{ne-eqb, eqb-true, eqb-false}
 use Rattle.octets.specs.Bytes.{space}
 use Rattle.octets.specs.Room.{part}
-use Rattle.octets.proofs.Lists.{drop-step}
+use Rattle.laws.proofs.Lists.{drop-step}
 use Rattle.message.specs.declared.Span.{Span}
 use Rattle.message.specs.Grammar.{Part, partAt, word, spaces}
 use Rattle.message.specs.Content.{bytesOf}

@@ -8,8 +8,8 @@ use lib.ListN.{length}
 use lib.Dec.{eqb}
 use borrow.Author.Tests.{not-true}
 use Rattle.octets.specs.Bytes.{space, isNonSpace}
-use Rattle.octets.specs.Lists.{all, isNil}
-use Rattle.octets.proofs.Lists.{all-head, all-tail}
+use Rattle.laws.specs.Lists.{all, isNil}
+use Rattle.laws.proofs.Lists.{all-head, all-tail}
 use Rattle.message.specs.Grammar.{Part, word}
 use Rattle.message.specs.Content.{bytesOf}
 use Rattle.message.specs.Words.{wordsAt, afterWord}

@@ -6,7 +6,7 @@ use mathlib.Core.List.{List, [], _∷_}
 use lib.ListN.{length, drop}
 use lib.Dec.{eqb, leb}
 use Rattle.octets.specs.Bytes.{space, colon, isNonSpace, isLetter, isDigit}
-use Rattle.octets.specs.Lists.{all, startsWith}
+use Rattle.laws.specs.Lists.{all, startsWith}
 
 -- the most bytes of a line, CR LF counted
 abbrev pub lineLimit : ℕ

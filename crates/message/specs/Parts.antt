@@ -3,7 +3,7 @@ use Prim.Native.Nat.{ℕ, _+_}
 use mathlib.Core.Bool.{false, cond}
 use mathlib.Core.List.{List, map}
 use lib.ListN.{length, replicate}
-use Rattle.octets.specs.Lists.{padded}
+use Rattle.laws.specs.Lists.{padded}
 use Rattle.octets.specs.Room.{part}
 use Rattle.message.specs.declared.Span.{Span}
 use Rattle.message.specs.declared.Message.{Message}

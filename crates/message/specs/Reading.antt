@@ -7,7 +7,7 @@ use lib.Dec.{eqb, ltb}
 use Rattle.refusal.specs.Numbers.{accepted, lineTooLong, noLineEnd, forbiddenByte, emptyLine, emptyPrefix, badCommand, tooManyParams}
 use Rattle.refusal.specs.Rules.{Rule, _when_, firstOf}
 use Rattle.octets.specs.Bytes.{cr, lf, isPlain}
-use Rattle.octets.specs.Lists.{all, isNil, same}
+use Rattle.laws.specs.Lists.{all, isNil, same}
 use Rattle.message.specs.declared.Message.{Message}
 use Rattle.message.specs.declared.Reading.{Reading}
 use Rattle.message.specs.declared.Reading.the-variants.{Line, Refused}

@@ -8,8 +8,8 @@ use lib.ListN.{length}
 use lib.Dec.{eqb, leb}
 use borrow.Author.Tests.{eqb-true, leb-true}
 use Rattle.octets.specs.Bytes.{isNameByte}
-use Rattle.octets.specs.Lists.{all}
-use Rattle.octets.proofs.Bools.{and-left, and-right, and-three}
+use Rattle.laws.specs.Lists.{all}
+use Rattle.laws.proofs.Bools.{and-left, and-right, and-three}
 use Rattle.names.specs.Names.{nameLimit, hash, isChannel}
 
 pub channel-length : (n : List ℕ) → isChannel n ≡ true → length n ≤ nameLimit

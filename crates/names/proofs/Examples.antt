@@ -5,7 +5,7 @@ use mathlib.Core.List.{List, [], _∷_, map}
 use Prim.Native.Nat.{ℕ, _-_}
 use lib.ListN.{replicate}
 use Rattle.octets.specs.Bytes.{nul, bell, lf, cr, space, comma, within, isPlain, isDigit, isIdByte, isNameByte}
-use Rattle.octets.specs.Lists.{all}
+use Rattle.laws.specs.Lists.{all}
 use Rattle.names.specs.Fold.{fold}
 use Rattle.names.specs.Names.{hash, nameLimit, isChannel, isServerId, isUserId}
 

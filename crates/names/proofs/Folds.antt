@@ -11,7 +11,7 @@ use lib.Dec.{eqb}
 use borrow.Author.Tests.{eq-eqb, ne-eqb}
 use Rattle.octets.specs.Bytes.{within}
 use Rattle.octets.proofs.Bytes.{within-bounds, below-within, above-within, same-refl, same-true}
-use Rattle.octets.proofs.Lists.{drop-step, sameBy-cons}
+use Rattle.laws.proofs.Lists.{drop-step, sameBy-cons}
 use Rattle.names.specs.Fold.{fold, sameName}
 use Rattle.names.specs.Names.{hash}
 

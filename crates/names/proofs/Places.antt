@@ -8,10 +8,9 @@ use native.Mathlib.Omega.{arith}
 use lib.ListN.{length, drop, getD, drop-of-length-le}
 use lib.Dec.{eqb, ltb}
 use borrow.Author.Tests.{eq-eqb, ne-eqb, lt-ltb, le-ltb}
-use Rattle.octets.specs.Lists.{same, sameBy}
-use Rattle.octets.specs.Order.{compare}
-use Rattle.octets.specs.Ascending.{isLess}
-use Rattle.octets.proofs.Lists.{drop-step}
+use Rattle.laws.specs.Lists.{same, sameBy}
+use Rattle.octets.specs.Order.{compare, isLess}
+use Rattle.laws.proofs.Lists.{drop-step}
 use Rattle.octets.proofs.Ordered.{heads-same, heads-less, heads-more, trichotomy, compare-refl}
 
 pub less-heads : (x y : ℕ) (s t : List ℕ) → isLess (compare (x ∷ s) (y ∷ t)) ≡ cond (eqb x y) (isLess (compare s t)) (ltb x y)

@@ -10,9 +10,9 @@ use lib.Seq.{length-take-le}
 use lib.Dec.{eqb}
 use borrow.Author.Tests.{eq-eqb, ne-eqb, eqb-true}
 use Rattle.octets.specs.Bytes.{within, isNonSpace, isDigit, isIdByte}
-use Rattle.octets.specs.Lists.{all, isNil, startsWith}
-use Rattle.octets.proofs.Bools.{and-left, and-right, and-three}
-use Rattle.octets.proofs.Lists.{drop-step, all-step, all-head, all-cons, all-append, all-imp}
+use Rattle.laws.specs.Lists.{all, isNil, startsWith}
+use Rattle.laws.proofs.Bools.{and-left, and-right, and-three}
+use Rattle.laws.proofs.Lists.{drop-step, all-step, all-head, all-cons, all-append, all-imp}
 use Rattle.octets.proofs.Clean.{digit-id, id-clean}
 use Rattle.names.specs.Names.{serverIdLength, userIdLength, isServerId, isUserId}
 

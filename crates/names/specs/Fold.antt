@@ -4,7 +4,7 @@ use mathlib.Core.Bool.{Bool, cond}
 use mathlib.Core.List.{List, map}
 use lib.Dec.{eqb}
 use Rattle.octets.specs.Bytes.{within}
-use Rattle.octets.specs.Lists.{same}
+use Rattle.laws.specs.Lists.{same}
 
 -- 'A' to 'Z' become 'a' to 'z'; '[', ']', '\' become '{', '}', '|'
 unfoldable pub fold : ℕ → ℕ

@@ -1,7 +1,7 @@
 // Channel names, server ids and user ids (document 01, 'Names and ids'): the fold that makes names equal, a test for each kind, and the order
 // of user ids. Any bytes are taken and nothing is refused.
 ghost use mathlib.Core.Path.{_≡_};
-ghost use Rattle.octets.specs.Lists.{padded};
+ghost use Rattle.laws.specs.Lists.{padded};
 ghost use Rattle.octets.specs.Order.{compare};
 ghost use Rattle.names.specs.Fold.{fold as foldOf, sameName};
 ghost use Rattle.names.specs.Names.{userIdLength, isChannel, isServerId, isUserId};

@@ -7,9 +7,9 @@ use native.Mathlib.Omega.{arith}
 use lib.Dec.{eqb, leb}
 use borrow.Author.Tests.{eq-eqb, eqb-true, le-leb, lt-leb, leb-true}
 use Rattle.octets.specs.Bytes.{within, isLetter, isDigit, capital}
-use Rattle.octets.specs.Lists.{same}
-use Rattle.octets.proofs.Bools.{and-left, and-right, and-intro}
-use Rattle.octets.proofs.Lists.{sameBy-refl, sameBy-true}
+use Rattle.laws.specs.Lists.{same}
+use Rattle.laws.proofs.Bools.{and-left, and-right, and-intro}
+use Rattle.laws.proofs.Lists.{sameBy-refl, sameBy-true}
 
 -- ---- ranges
 pub within-bounds : (lo b hi : ℕ) → within lo b hi ≡ true → (lo ≤ b) × (b ≤ hi)

@@ -6,7 +6,7 @@ use native.Mathlib.Omega.{arith}
 use lib.Dec.{eqb}
 use borrow.Author.Tests.{ne-eqb}
 use Rattle.octets.specs.Bytes.{nul, bell, lf, cr, space, comma, colon, within, isPlain, isNonSpace, isDigit, isIdByte, isNameByte, isKeyByte}
-use Rattle.octets.proofs.Bools.{and-left, and-right}
+use Rattle.laws.proofs.Bools.{and-left, and-right}
 use Rattle.octets.proofs.Bytes.{within-bounds}
 
 -- a byte above SPACE

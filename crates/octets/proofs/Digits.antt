@@ -12,10 +12,10 @@ use lib.Dec.{eqb, leb, ltb}
 use borrow.Author.Tests.{ne-eqb, eqb-false, lt-ltb, ltb-true, ltb-false, le-leb, lt-leb, leb-true, not-true}
 use Rattle.octets.specs.declared.Decimal.the-variants.{Value, Malformed}
 use Rattle.octets.specs.Bytes.{isDigit}
-use Rattle.octets.specs.Lists.{all, isNil, startsWith}
+use Rattle.laws.specs.Lists.{all, isNil, startsWith}
 use Rattle.octets.specs.Decimals.{zeroDigit, leadsWithZero, isDecimal, valueFrom, valueOf, valueUpTo, decimalUpTo, digit, lastDigit, digitsUpTo, digitsOf}
-use Rattle.octets.proofs.Bools.{and-left, and-right}
-use Rattle.octets.proofs.Lists.{all-head, all-tail, all-cons, all-append}
+use Rattle.laws.proofs.Bools.{and-left, and-right}
+use Rattle.laws.proofs.Lists.{all-head, all-tail, all-cons, all-append}
 use Rattle.octets.proofs.Bytes.{within-bounds, bounds-within}
 
 -- ---- the first of several bytes

@@ -5,7 +5,7 @@ use lib.ListN.{replicate}
 use Rattle.octets.specs.declared.Order.the-variants.{Less, More}
 use Rattle.octets.specs.declared.Decimal.the-variants.{Value, Malformed}
 use Rattle.octets.specs.Bytes.{within, isDigit}
-use Rattle.octets.specs.Lists.{all, startsWith}
+use Rattle.laws.specs.Lists.{all, startsWith}
 use Rattle.octets.specs.Order.{compare}
 use Rattle.octets.specs.Decimals.{leadsWithZero, isDecimal, valueFrom, valueUpTo, decimalUpTo, digitsUpTo, digitsOf}
 

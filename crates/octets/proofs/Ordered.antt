@@ -12,7 +12,7 @@ use borrow.Author.Tests.{eq-eqb, ne-eqb, lt-ltb, le-ltb, eqb-true, eqb-false, lt
 use Rattle.octets.specs.declared.Order.{Order}
 use Rattle.octets.specs.declared.Order.the-variants.{Less, Same, More}
 use Rattle.octets.specs.Order.{compare, opposite}
-use Rattle.octets.specs.Lists.{same}
+use Rattle.laws.specs.Lists.{same}
 use Rattle.octets.proofs.Bytes.{same-true}
 
 -- ---- the first byte of each

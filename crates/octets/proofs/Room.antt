@@ -8,10 +8,10 @@ use native.Mathlib.Omega.{arith}
 use lib.ListN.{length, take, drop, getD, replicate, length-append, length-drop, length-replicate, getD-replicate}
 use lib.Seq.{take-append-seam, drop-append-add, drop-drop, take-at, take-all, length-take-le, getD-append-add, getD-drop}
 use borrow.Author.Tests.{le-leb, leb-true, leb-false, lt-leb}
-use Rattle.octets.specs.Lists.{padded}
+use Rattle.laws.specs.Lists.{padded}
 use Rattle.octets.specs.Room.{part, fits, putAt, endOf, front}
 use Rattle.octets.specs.Held.{Holds, Adds}
-use Rattle.octets.proofs.Lists.{padded-take}
+use Rattle.laws.proofs.Lists.{padded-take}
 
 -- ---- a part at either end
 pub part-front : (s : List ℕ) (n : ℕ) → part s 0 n ≡ take n s

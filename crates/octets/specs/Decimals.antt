@@ -7,7 +7,7 @@ use lib.Dec.{leb, ltb}
 use Rattle.octets.specs.declared.Decimal.{Decimal}
 use Rattle.octets.specs.declared.Decimal.the-variants.{Value, Malformed}
 use Rattle.octets.specs.Bytes.{isDigit}
-use Rattle.octets.specs.Lists.{all, isNil, startsWith}
+use Rattle.laws.specs.Lists.{all, isNil, startsWith}
 
 -- the digit 0
 abbrev pub zeroDigit : ℕ

@@ -1,9 +1,5 @@
 pub mod Bytes
-pub mod Lists
 pub mod Order
-pub mod Joins
-pub mod Ascending
-pub mod Bits
 pub mod Decimals
 pub mod Room
 pub mod Held

@@ -1,6 +1,6 @@
 -- Byte lists in order: by the first byte that differs, as unsigned numbers, a proper beginning being smaller.
 use Prim.Native.Nat.{ℕ}
-use mathlib.Core.Bool.{cond}
+use mathlib.Core.Bool.{Bool, true, false, cond}
 use mathlib.Core.List.{List, [], _∷_}
 use lib.Dec.{eqb, ltb}
 use Rattle.octets.specs.declared.Order.{Order}
@@ -17,3 +17,9 @@ unfoldable pub opposite : Order → Order
 opposite Less = More
 opposite Same = Same
 opposite More = Less
+
+-- the first is smaller
+abbrev pub isLess : Order → Bool
+isLess Less = true
+isLess Same = false
+isLess More = false

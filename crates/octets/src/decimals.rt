@@ -3,7 +3,7 @@ ghost use mathlib.Core.Path.{_≡_};
 ghost use mathlib.Core.Bool.{true};
 ghost use Prim.Native.Nat.{_<_};
 ghost use Rattle.octets.specs.Bytes.{isDigit};
-ghost use Rattle.octets.specs.Lists.{all};
+ghost use Rattle.laws.specs.Lists.{all};
 ghost use Rattle.octets.specs.Decimals.{leadsWithZero, valueUpTo, decimalUpTo, digit as digitOf, digitsOf};
 ghost use Rattle.octets.specs.Room.{putAt, endOf};
 use crate::Class;

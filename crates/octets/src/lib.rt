@@ -8,7 +8,7 @@ ghost use lib.ListN.{length};
 ghost use lib.Seq.{paste};
 ghost use denote.Ref.{ptr};
 ghost use Rattle.octets.specs.Bytes.{within, isPlain, isLetter, isIdByte, isNameByte, isKeyByte, inClass, capital as capitalOf};
-ghost use Rattle.octets.specs.Lists.{all};
+ghost use Rattle.laws.specs.Lists.{all};
 ghost use Rattle.octets.specs.Order.{compare as compareOf};
 ghost use Rattle.octets.specs.Room.{part as partOf, placeIn, putAt, endOf};
 

@@ -1,34 +1,50 @@
--- Laws of ordered rules: what is known where none applies, what is written, and that ascending numbers make the first the lowest. Assumes nothing.
-use mathlib.Core.Path.{_≡_, refl, sym, _∙_}
-use mathlib.Core.Bool.{Bool, true, false, true≢false, cond}
+-- Laws of ordered rules: one passed over, one that decides, two lists one after the other, what is written, and that rules in the order of their numbers
+-- give the first that applies. Most ask only that no number is `accepted`. Assumes nothing.
+use Prim.Native.Nat.{ℕ, suc, _≤_, _<_}
+use mathlib.Core.Path.{_≡_, refl, sym, ap, _∙_}
+use mathlib.Core.Bool.{Bool, true, false, true≢false, not, _&&_}
 use mathlib.Core.Logic.{_⊎_, inl, inr}
-use mathlib.Core.List.{List, [], _∷_, _++_, List·Memᴰ, List·Memᴰ·cases-cons, List·Memᴰ·not-nil}
-use Prim.Native.Nat.{ℕ, _≤_, _<_}
+use mathlib.Core.List.{List, [], _∷_, _++_, List·Memᴰ, List·Memᴰ·cases-cons, List·Memᴰ·not-nil, List·Memᴰ·head, List·Memᴰ·tail}
 use native.Mathlib.Omega.{arith}
-use lib.Dec.{ltb}
-use borrow.Author.Tests.{ne-eqb, ltb-true}
-use Rattle.refusal.specs.Numbers.{accepted}
-use Rattle.refusal.specs.Rules.{Rule, firstOf, emitted, ascendFrom, ascend}
+use lib.ListN.{length}
+use lib.Dec.{eqb, leb, ltb}
+use borrow.Author.Tests.{ne-eqb, eqb-true, eqb-false, leb-true, ltb-true}
+use Rattle.refusal.specs.Numbers.{accepted, order}
+use Rattle.refusal.specs.Rules.{Rule, firstOf, emitted, placeIn, rank, ascendFrom, ascend}
+
+-- ---- one rule
+-- one that doesn't apply is passed over
+pub skip : (r : Rule) (rs : List Rule) → r .applies ≡ false → firstOf (r ∷ rs) ≡ firstOf rs
+unfolding firstOf
+skip r rs e = rw e
+
+-- one that applies decides
+pub stop : (r : Rule) (rs : List Rule) → r .applies ≡ true → firstOf (r ∷ rs) ≡ r .number
+unfolding firstOf
+stop r rs e = rw e
 
 -- ---- where none applies
 pub first-none : (r : Rule) (rs : List Rule) → (r .number ≡ accepted → ⊥) → firstOf (r ∷ rs) ≡ accepted → (r .applies ≡ false) × (firstOf rs ≡ accepted)
-unfolding firstOf
 first-none r rs ne e = go (r .applies) refl
   where
     go : (t : Bool) → r .applies ≡ t → (r .applies ≡ false) × (firstOf rs ≡ accepted)
-    go true h = absurd (ne (rw h at e))
-    go false h = (h, rw h at e)
-
--- ---- a list whose numbers ascend
-above : (n : ℕ) (r : Rule) (rs : List Rule) → ascendFrom n (r ∷ rs) ≡ true → (n < r .number) × (ascendFrom (r .number) rs ≡ true)
-unfolding ascendFrom
-above n r rs e = go (ltb n (r .number)) refl
-  where
-    go : (t : Bool) → ltb n (r .number) ≡ t → (n < r .number) × (ascendFrom (r .number) rs ≡ true)
-    go true h = (ltb-true n (r .number) h, rw h at e)
-    go false h = absurd (true≢false (sym e ∙ rw h))
+    go true h = absurd (ne (sym (stop r rs h) ∙ e))
+    go false h = (h, sym (skip r rs h) ∙ e)
 
 -- ---- two lists of rules, one after the other
+-- no rule's number is `accepted`
+abbrev pub numbered : List Rule → Bool
+numbered [] = true
+numbered (r ∷ rs) = not (eqb (r .number) accepted) && numbered rs
+
+-- the first rule's number, and those of the others
+numbers : (r : Rule) (rs : List Rule) → numbered (r ∷ rs) ≡ true → (r .number ≡ accepted → ⊥) × (numbered rs ≡ true)
+numbers r rs e = go (eqb (r .number) accepted) refl
+  where
+    go : (t : Bool) → eqb (r .number) accepted ≡ t → (r .number ≡ accepted → ⊥) × (numbered rs ≡ true)
+    go true h = absurd (true≢false (sym e ∙ rw h))
+    go false h = (eqb-false (r .number) accepted h, rw h at e)
+
 module _ (ys : List Rule) where
   -- a number of the first list decides
   pub append-some : (xs : List Rule) → (firstOf xs ≡ accepted → ⊥) → firstOf (xs ++ ys) ≡ firstOf xs
@@ -40,30 +56,23 @@ module _ (ys : List Rule) where
       go true e ih = rw e
       go false e ih = rw e (ih (λ f. ne (rw e f)))
 
-  append-none-from : (n : ℕ) (xs : List Rule) → ascendFrom n xs ≡ true → firstOf xs ≡ accepted → firstOf (xs ++ ys) ≡ firstOf ys
-  unfolding firstOf
-  append-none-from n [] a e = refl
-  append-none-from n (x ∷ xs) a e =
-      let h = above n x xs a in
-      let q = first-none x xs (λ z. omega (arith, h .0, z)) e in
-      rw (q .0) (append-none-from (x .number) xs (h .1) (q .1))
-
   -- where none of the first list applies, the second decides
-  pub append-none : (xs : List Rule) → ascend xs ≡ true → firstOf xs ≡ accepted → firstOf (xs ++ ys) ≡ firstOf ys
-  append-none = append-none-from accepted
-
-  both-none-from : (n : ℕ) (xs : List Rule) → ascendFrom n xs ≡ true → firstOf (xs ++ ys) ≡ accepted → (firstOf xs ≡ accepted) × (firstOf ys ≡ accepted)
-  unfolding firstOf
-  both-none-from n [] a e = (refl, e)
-  both-none-from n (x ∷ xs) a e =
-      let h = above n x xs a in
-      let q = first-none x (xs ++ ys) (λ z. omega (arith, h .0, z)) e in
-      let r = both-none-from (x .number) xs (h .1) (q .1) in
-      (rw (q .0) (r .0), r .1)
+  pub append-none : (xs : List Rule) → numbered xs ≡ true → firstOf xs ≡ accepted → firstOf (xs ++ ys) ≡ firstOf ys
+  append-none [] a e = refl
+  append-none (x ∷ xs) a e =
+      let n = numbers x xs a in
+      let q = first-none x xs (n .0) e in
+      skip x (xs ++ ys) (q .0) ∙ append-none xs (n .1) (q .1)
 
   -- where none of both applies, none of either does
-  pub both-none : (xs : List Rule) → ascend xs ≡ true → firstOf (xs ++ ys) ≡ accepted → (firstOf xs ≡ accepted) × (firstOf ys ≡ accepted)
-  both-none = both-none-from accepted
+  pub both-none : (xs : List Rule) → numbered xs ≡ true → firstOf (xs ++ ys) ≡ accepted → (firstOf xs ≡ accepted) × (firstOf ys ≡ accepted)
+  unfolding firstOf
+  both-none [] a e = (refl, e)
+  both-none (x ∷ xs) a e =
+      let n = numbers x xs a in
+      let q = first-none x (xs ++ ys) (n .0) e in
+      let r = both-none xs (n .1) (q .1) in
+      (skip x xs (q .0) ∙ r .0, r .1)
 
 -- ---- what is written
 pub emitted-none : (rules : List Rule) (w : List ℕ) (k : ℕ) → firstOf rules ≡ k → (k ≡ accepted → ⊥) → emitted rules w ≡ []
@@ -74,28 +83,99 @@ pub emitted-all : (rules : List Rule) (w : List ℕ) → firstOf rules ≡ accep
 unfolding emitted
 emitted-all rules w e = rw e
 
--- ---- the lowest number that applies
-member-above : (n : ℕ) (rs : List Rule) → ascendFrom n rs ≡ true → (r : Rule) → List·Memᴰ r rs → n < r .number
-member-above n [] a r m = absurd (List·Memᴰ·not-nil m)
-member-above n (x ∷ rs) a r m =
-    let h = above n x rs a in
-    go (List·Memᴰ·cases-cons m) (λ k. member-above (x .number) rs (h .1) r k)
-  where
-    go : (r ≡ x) ⊎ List·Memᴰ r rs → (List·Memᴰ r rs → x .number < r .number) → n < r .number
-    go (inl e) f = rw e (above n x rs a .0)
-    go (inr k) f = omega (arith, f k, above n x rs a .0)
+-- ---- rules in the order of their numbers
+-- what the check says of the first rule, and of the others
+pub record Leads (k : ℕ) (r : Rule) (rs : List Rule) : Type 0 where
+  pub behind : k ≤ rank (r .number)
+  pub listed : rank (r .number) < length order
+  pub others : ascendFrom (suc (rank (r .number))) rs ≡ true
 
-lowest-from : (n : ℕ) (rs : List Rule) → ascendFrom n rs ≡ true → (r : Rule) → List·Memᴰ r rs → r .applies ≡ true → firstOf rs ≤ r .number
+leads : (k : ℕ) (r : Rule) (rs : List Rule) → ascendFrom k (r ∷ rs) ≡ true → Leads k r rs
+unfolding ascendFrom
+leads k r rs e = go (leb k (rank (r .number))) refl (ltb (rank (r .number)) (length order)) refl
+  where
+    go : (t : Bool) → leb k (rank (r .number)) ≡ t → (u : Bool) → ltb (rank (r .number)) (length order) ≡ u → Leads k r rs
+    go true h true l = record { behind = leb-true k (rank (r .number)) h; listed = ltb-true (rank (r .number)) (length order) l; others = rw (h, l) at e }
+    go true h false l = absurd (true≢false (sym e ∙ rw (h, l)))
+    go false h u l = absurd (true≢false (sym e ∙ rw h))
+
+-- a number whose place is among them is one of them
+placed : (l : List ℕ) (n : ℕ) → placeIn l n < length l → List·Memᴰ n l
+unfolding placeIn
+placed [] n h = absurd (omega arith)
+placed (m ∷ l) n h = go (eqb m n) refl (placed l n)
+  where
+    go : (t : Bool) → eqb m n ≡ t → (placeIn l n < length l → List·Memᴰ n l) → List·Memᴰ n (m ∷ l)
+    go true e ih = List·Memᴰ·head (sym (eqb-true m n e))
+    go false e ih = List·Memᴰ·tail (ih (let f : suc (placeIn l n) < suc (length l) = rw e at h in omega arith))
+
+-- every rule behind a place has a number behind it
+rank-behind : (k : ℕ) (rs : List Rule) → ascendFrom k rs ≡ true → (r : Rule) → List·Memᴰ r rs → k ≤ rank (r .number)
+rank-behind k [] a r m = absurd (List·Memᴰ·not-nil m)
+rank-behind k (x ∷ rs) a r m =
+    let l = leads k x rs a in
+    go l (List·Memᴰ·cases-cons m) (λ h. rank-behind (suc (rank (x .number))) rs (l .others) r h)
+  where
+    go : Leads k x rs → (r ≡ x) ⊎ List·Memᴰ r rs → (List·Memᴰ r rs → suc (rank (x .number)) ≤ rank (r .number)) → k ≤ rank (r .number)
+    go l (inl e) f = rw e (l .behind)
+    go l (inr h) f = omega (arith, f h, l .behind)
+
+-- The number n is that of a rule of the list that applies, and no rule that applies has one that comes before it in the order.
+pub record Given (rs : List Rule) (n : ℕ) : Type 0 where
+  pub rule : Rule
+  pub among : List·Memᴰ rule rs
+  pub applies : rule .applies ≡ true
+  pub number : n ≡ rule .number
+  pub first : (r : Rule) → List·Memᴰ r rs → r .applies ≡ true → rank n ≤ rank (r .number)
+
+lowest-from : (k : ℕ) (rs : List Rule) → ascendFrom k rs ≡ true → (r : Rule) → List·Memᴰ r rs → r .applies ≡ true → Given rs (firstOf rs)
+lowest-from k [] a r m t = absurd (List·Memᴰ·not-nil m)
+lowest-from k (x ∷ rs) a r m t =
+    let l = leads k x rs a in
+    go l (x .applies) refl (List·Memᴰ·cases-cons m) (λ h. lowest-from (suc (rank (x .number))) rs (l .others) r h t)
+  where
+    own : Leads k x rs → (s : Rule) → (s ≡ x) ⊎ List·Memᴰ s rs → rank (x .number) ≤ rank (s .number)
+    own l s (inl e) = rw e (omega arith)
+    own l s (inr h) = omega (arith, rank-behind (suc (rank (x .number))) rs (l .others) s h)
+
+    behind : x .applies ≡ false → (n : ℕ) → Given rs n → (s : Rule) → s .applies ≡ true → (s ≡ x) ⊎ List·Memᴰ s rs → rank n ≤ rank (s .number)
+    behind f n g s u (inl e) = absurd (true≢false (sym u ∙ ap (λ (z : Rule). z .applies) e ∙ f))
+    behind f n g s u (inr h) = g .first s h u
+
+    go : Leads k x rs → (b : Bool) → x .applies ≡ b → (r ≡ x) ⊎ List·Memᴰ r rs → (List·Memᴰ r rs → Given rs (firstOf rs)) → Given (x ∷ rs) (firstOf (x ∷ rs))
+    go l true e c f = rw (stop x rs e) (record { rule = x; among = List·Memᴰ·head refl; applies = e; number = refl; first = λ s h u. own l s (List·Memᴰ·cases-cons h) })
+    go l false e (inl q) f = absurd (true≢false (sym t ∙ ap (λ (z : Rule). z .applies) q ∙ e))
+    go l false e (inr h) f =
+        let g = f h in
+        rw (skip x rs e) (record { rule = g .rule; among = List·Memᴰ·tail (g .among); applies = g .applies; number = g .number; first = λ s h u. behind e (firstOf rs) g s u (List·Memᴰ·cases-cons h) })
+
+-- Where the rules stand in the order of their numbers and one applies, the number given is the first in that order that applies.
+pub lowest : (rs : List Rule) → ascend rs ≡ true → (r : Rule) → List·Memᴰ r rs → r .applies ≡ true → Given rs (firstOf rs)
+lowest rs = lowest-from 0 rs
+
+-- Where none is given, none applies.
+pub none-applies : (rs : List Rule) → numbered rs ≡ true → firstOf rs ≡ accepted → (r : Rule) → List·Memᴰ r rs → r .applies ≡ false
+none-applies [] a e r m = absurd (List·Memᴰ·not-nil m)
+none-applies (x ∷ rs) a e r m =
+    let n = numbers x rs a in
+    let q = first-none x rs (n .0) e in
+    go (q .0) (List·Memᴰ·cases-cons m) (λ h. none-applies rs (n .1) (q .1) r h)
+  where
+    go : x .applies ≡ false → (r ≡ x) ⊎ List·Memᴰ r rs → (List·Memᴰ r rs → r .applies ≡ false) → r .applies ≡ false
+    go f (inl h) g = rw h f
+    go f (inr h) g = g h
+
+listed-from : (k : ℕ) (rs : List Rule) → ascendFrom k rs ≡ true → (firstOf rs ≡ accepted → ⊥) → List·Memᴰ (firstOf rs) order
 unfolding firstOf
-lowest-from n [] a r m t = absurd (List·Memᴰ·not-nil m)
-lowest-from n (x ∷ rs) a r m t = go (List·Memᴰ·cases-cons m) (x .applies) refl (λ k. lowest-from (x .number) rs (above n x rs a .1) r k t)
+listed-from k [] a ne = absurd (ne refl)
+listed-from k (x ∷ rs) a ne =
+    let l = leads k x rs a in
+    go l (x .applies) refl (listed-from (suc (rank (x .number))) rs (l .others))
   where
-    go : (r ≡ x) ⊎ List·Memᴰ r rs → (u : Bool) → x .applies ≡ u → (List·Memᴰ r rs → firstOf rs ≤ r .number) → cond (x .applies) (x .number) (firstOf rs) ≤ r .number
-    go (inl e) true h f = rw (h, e) (omega arith)
-    go (inl e) false h f = absurd (true≢false (sym t ∙ rw e h))
-    go (inr k) true h f = rw h (omega (arith, member-above (x .number) rs (above n x rs a .1) r k))
-    go (inr k) false h f = rw h (f k)
+    go : Leads k x rs → (t : Bool) → x .applies ≡ t → ((firstOf rs ≡ accepted → ⊥) → List·Memᴰ (firstOf rs) order) → List·Memᴰ (firstOf (x ∷ rs)) order
+    go l true e ih = rw e (placed order (x .number) (l .listed))
+    go l false e ih = rw e (ih (λ f. ne (rw e f)))
 
--- Where the numbers ascend, the lowest that applies is given.
-pub lowest : (rs : List Rule) → ascend rs ≡ true → (r : Rule) → List·Memᴰ r rs → r .applies ≡ true → firstOf rs ≤ r .number
-lowest rs = lowest-from accepted rs
+-- A number that is given is from the fixed list.
+pub first-listed : (rs : List Rule) → ascend rs ≡ true → (firstOf rs ≡ accepted → ⊥) → List·Memᴰ (firstOf rs) order
+first-listed rs = listed-from 0 rs

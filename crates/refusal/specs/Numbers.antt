@@ -1,6 +1,7 @@
 -- The numbers of document 01's table, under the names that src/lib.rt gives them there with the table's words.
 -- A contract that cites one here and a function that answers the constant agree, or the function isn't proved.
 use Prim.Native.Nat.{ℕ}
+use mathlib.Core.List.{List, [], _∷_}
 
 abbrev pub accepted : ℕ
 accepted = 0
@@ -79,3 +80,33 @@ unwritable = 24
 
 abbrev pub noRoom : ℕ
 noRoom = 25
+
+-- The fixed list, in the order in which the numbers are looked for: where more than one applies, the first in this list is given. In document 01 that is "the lowest".
+abbrev pub order : List ℕ
+order =
+    notWellFormed
+    ∷ outputTooShort
+    ∷ badLink
+    ∷ lineTooLong
+    ∷ noLineEnd
+    ∷ forbiddenByte
+    ∷ emptyLine
+    ∷ emptyPrefix
+    ∷ badCommand
+    ∷ tooManyParams
+    ∷ unknownCommand
+    ∷ wrongParamCount
+    ∷ badSource
+    ∷ badTime
+    ∷ zeroTime
+    ∷ badName
+    ∷ badModes
+    ∷ badMembers
+    ∷ noSuchChannel
+    ∷ notOnChannel
+    ∷ noFreeSlot
+    ∷ tooManyMembers
+    ∷ textTooLong
+    ∷ unwritable
+    ∷ noRoom
+    ∷ []

@@ -9,8 +9,8 @@ use borrow.Author.Tests.{ne-eqb, not-false, ltb-false}
 use Rattle.refusal.specs.Numbers.{accepted}
 use Rattle.refusal.specs.Rules.{firstOf, emitted}
 use Rattle.refusal.proofs.Rules.{first-none, emitted-none, emitted-all}
-use Rattle.octets.specs.Bits.{hasBit}
-use Rattle.octets.proofs.Bools.{and-left}
+use Rattle.laws.specs.Bits.{hasBit}
+use Rattle.laws.proofs.Bools.{and-left}
 use Rattle.message.specs.Grammar.{lineLimit}
 use Rattle.message.specs.Reading.{contentOf}
 use Rattle.message.proofs.Readings.{read-small}

@@ -6,13 +6,13 @@ use Prim.Native.Nat.{ℕ, _≤_, _<_, _^_}
 use native.Mathlib.Omega.{arith}
 use borrow.Author.Tests.{lt-ltb, le-ltb, ltb-false, not-false}
 use Rattle.refusal.specs.Numbers.{accepted, notWellFormed, outputTooShort, badLink}
-use Rattle.refusal.specs.Rules.{firstOf, ascendFrom}
+use Rattle.refusal.specs.Rules.{firstOf}
 use Rattle.refusal.proofs.Rules.{first-none, append-some, append-none}
-use Rattle.octets.specs.Bits.{hasBit}
-use Rattle.octets.proofs.Bitwise.{bit-past}
+use Rattle.laws.specs.Bits.{hasBit}
+use Rattle.laws.proofs.Bitwise.{bit-past}
 use Rattle.message.specs.Grammar.{lineLimit}
 use Rattle.message.specs.Reading.{lineRules, numberFor, isRead, contentOf}
-use Rattle.message.proofs.Readings.{rules-ascend, number-none, refused-number}
+use Rattle.message.proofs.Readings.{rules-numbered, number-none, refused-number}
 use Rattle.links.specs.Links.{linkCount, isLink}
 use Rattle.channel.specs.declared.Record.{Record}
 use Rattle.table.specs.declared.Table.{Table}
@@ -65,7 +65,7 @@ module _ (t : Table) (link : ℕ) (line : List ℕ) (n : ℕ) where
   entry-refuses ne = append-some (takenRules (t .slots) line) (entryRules (goodTable t) n (t .links .set) link) ne
 
   pub enters : entry ≡ accepted → firstOf (processRules t link line n) ≡ firstOf (takenRules (t .slots) line)
-  unfolding processRules ascendFrom
+  unfolding processRules
   enters e = append-none (takenRules (t .slots) line) (entryRules (goodTable t) n (t .links .set) link) refl e
 
 -- ---- the reader's numbers
@@ -77,7 +77,7 @@ module _ (line : List ℕ) where
   module _ (r : isRead line ≡ true) where
     pub command-decides : (slots : List Record) → firstOf (takenRules slots line) ≡ firstOf (commandRules (commandIn line) slots (contentOf line))
     unfolding takenRules numberFor
-    command-decides slots = append-none (commandRules (commandIn line) slots (contentOf line)) (lineRules line) (rules-ascend line) (number-none line r)
+    command-decides slots = append-none (commandRules (commandIn line) slots (contentOf line)) (lineRules line) (rules-numbered line) (number-none line r)
 
     -- what a command asks for is what the line does
     pub command-asks : (k : Command) → commandIn line ≡ k → (q : Request) → Requested (λ slots. commandRules k slots (contentOf line)) k line q

@@ -9,12 +9,12 @@ use lib.ListN.{length, replicate}
 use lib.Dec.{ltb}
 use Rattle.refusal.specs.Numbers.{accepted}
 use Rattle.refusal.specs.Rules.{firstOf}
-use Rattle.octets.proofs.Bools.{and-left}
+use Rattle.laws.proofs.Bools.{and-left}
 use Rattle.octets.specs.Bytes.{within, isPlain, isLetter, isDigit, isIdByte, isNameByte, isKeyByte, capital}
-use Rattle.octets.specs.Lists.{all, sameBy, padded, startsWith}
+use Rattle.laws.specs.Lists.{all, sameBy, padded, startsWith}
 use Rattle.octets.specs.Order.{compare}
-use Rattle.octets.specs.Bits.{hasBit}
-use Rattle.octets.specs.Ascending.{insert, put, unite, ascends}
+use Rattle.laws.specs.Bits.{hasBit}
+use Rattle.ascending.specs.Ascending.{insert, put, unite, ascends}
 use Rattle.octets.specs.Decimals.{leadsWithZero, isDecimal, valueFrom, digitsUpTo, digitsOf}
 use Rattle.names.specs.Fold.{fold, sameName}
 use Rattle.names.specs.Names.{isChannel, isServerId, isUserId}

@@ -10,14 +10,14 @@ use lib.ListN.{length, getD, set}
 use lib.Dec.{ltb}
 use borrow.Author.Tests.{eq-eqb, le-ltb}
 use Rattle.refusal.specs.Numbers.{accepted, outputTooShort, badLink}
-use Rattle.refusal.specs.Rules.{Rule, _when_, firstOf, ascend, ascendFrom}
-use Rattle.refusal.proofs.Rules.{first-none, append-some, append-none, both-none}
-use Rattle.octets.specs.Bits.{hasBit}
+use Rattle.refusal.specs.Rules.{Rule, _when_, firstOf}
+use Rattle.refusal.proofs.Rules.{first-none, numbered, append-some, append-none, both-none}
+use Rattle.laws.specs.Bits.{hasBit}
 use Rattle.octets.specs.Bytes.{capital}
 use Rattle.octets.proofs.Bytes.{same-refl}
 use Rattle.message.specs.Grammar.{lineLimit}
 use Rattle.message.specs.Reading.{bodyRules, lineRules, numberFor, isRead, contentOf}
-use Rattle.message.proofs.Readings.{rules-ascend, refused-number}
+use Rattle.message.proofs.Readings.{rules-numbered, refused-number}
 use Rattle.channel.specs.declared.Record.{Record}
 use Rattle.channel.specs.Limits.{memberLimit}
 use Rattle.channel.specs.Channel.{Channel}
@@ -53,9 +53,9 @@ earlierRules links link line n =
     ∷ badLink when not (isLink link && hasBit (links .set) link)
     ∷ (lineRules line ++ joinRules (contentOf line))
 
-earlier-ascend : (links : Links) (link : ℕ) (line : List ℕ) (n : ℕ) → ascend (earlierRules links link line n) ≡ true
-unfolding ascendFrom lineRules bodyRules joinRules
-earlier-ascend links link line n = refl
+earlier-numbered : (links : Links) (link : ℕ) (line : List ℕ) (n : ℕ) → numbered (earlierRules links link line n) ≡ true
+unfolding lineRules bodyRules joinRules
+earlier-numbered links link line n = refl
 
 module _ (line : List ℕ) (is : IsJoin line) where
   -- no rule of the line applies: it is SJOIN, and what it tells of is proper
@@ -67,7 +67,7 @@ module _ (line : List ℕ) (is : IsJoin line) where
       lines =
           let a = first-none _ _ (λ z. omega arith) e in
           let b = first-none _ _ (λ z. omega arith) (a .1) in
-          both-none (joinRules (contentOf line)) (lineRules line) (rules-ascend line) (b .1)
+          both-none (joinRules (contentOf line)) (lineRules line) (rules-numbered line) (b .1)
 
       go : IsJoin line → (map capital (contentOf line .command) ≡ sjoin) × Proper (channelIn (contentOf line))
       go (inl s) = (s, read-proper line (eq-eqb (firstOf (lineRules line)) accepted (lines .0)) (lines .1))
@@ -95,7 +95,7 @@ module _ (line : List ℕ) (is : IsJoin line) where
 
     -- none of those: 21 and 22 are left
     pub join-entered : firstOf (earlierRules (t .links) link line n) ≡ accepted → firstOf (processRules t link line n) ≡ firstOf (joinedRules (t .slots) (channelIn (contentOf line)))
-    join-entered e = process-rules ∙ append-none _ _ (earlier-ascend (t .links) link line n) e
+    join-entered e = process-rules ∙ append-none _ _ (earlier-numbered (t .links) link line n) e
 
 -- ---- the slots
 pub slots-joined : (slots : List Record) (line : List ℕ) → map capital (contentOf line .command) ≡ sjoin → slotsBy slots line ≡ joined slots (channelIn (contentOf line))

@@ -9,8 +9,8 @@ use lib.ListN.{length, getD}
 use borrow.Author.Tests.{le-leb, lt-leb}
 use Rattle.refusal.specs.Numbers.{accepted, wrongParamCount, badSource, badName, noSuchChannel, notOnChannel}
 use Rattle.refusal.specs.Rules.{firstOf}
-use Rattle.octets.specs.Lists.{padded}
-use Rattle.octets.proofs.Lists.{padded-whole}
+use Rattle.laws.specs.Lists.{padded}
+use Rattle.laws.proofs.Lists.{padded-whole}
 use Rattle.names.specs.Names.{userIdLength, isChannel, isUserId}
 use Rattle.names.proofs.UserIds.{no-user-id, user-length}
 use Rattle.message.specs.Content.{Content}

@@ -9,6 +9,5 @@ pub mod Relayed
 pub mod Taking
 pub mod Enacted
 pub mod Answering
-pub mod Numbers
 pub mod Joining
 pub mod Examples

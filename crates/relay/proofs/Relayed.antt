@@ -11,7 +11,7 @@ use Rattle.refusal.specs.Numbers.{accepted}
 use Rattle.refusal.specs.Rules.{firstOf}
 use Rattle.refusal.proofs.Rules.{both-none}
 use Rattle.octets.specs.Bytes.{capital}
-use Rattle.octets.specs.Lists.{all, same}
+use Rattle.laws.specs.Lists.{all, same}
 use Rattle.octets.proofs.Bytes.{same-true}
 use Rattle.names.specs.Names.{isChannel}
 use Rattle.names.proofs.Folds.{name-lengths}
@@ -22,7 +22,7 @@ use Rattle.channel.specs.Merging.{merge}
 use Rattle.channel.proofs.Proper.{Proper, well-says}
 use Rattle.message.specs.Content.{Content}
 use Rattle.message.specs.Reading.{lineRules, numberFor, isRead, contentOf}
-use Rattle.message.proofs.Readings.{rules-ascend}
+use Rattle.message.proofs.Readings.{rules-numbered}
 use Rattle.writer.specs.Form.{written}
 use Rattle.writer.specs.Writing.{forwarded}
 use Rattle.writer.proofs.Rounds.{forwarded-reads}
@@ -48,12 +48,12 @@ use Rattle.relay.specs.Relay.{resultIn, resulting, joinedRules, outgoing
 pub rules-none : (slots : List Record) (line : List ℕ) → firstOf (takenRules slots line) ≡ accepted → (isRead line ≡ true) × (firstOf (commandRules (commandIn line) slots (contentOf line)) ≡ accepted)
 unfolding takenRules isRead numberFor
 rules-none slots line e =
-    let a = both-none (commandRules (commandIn line) slots (contentOf line)) (lineRules line) (rules-ascend line) e in
+    let a = both-none (commandRules (commandIn line) slots (contentOf line)) (lineRules line) (rules-numbered line) e in
     (eq-eqb (firstOf (lineRules line)) accepted (a .0), a .1)
 
 -- with SJOIN neither of those of the line nor of those of its slot
 pub join-none : (slots : List Record) (c : Content) → firstOf (commandRules Sjoin slots c) ≡ accepted → (firstOf (joinRules c) ≡ accepted) × (firstOf (joinedRules slots (channelIn c)) ≡ accepted)
-join-none slots c e = both-none (joinedRules slots (channelIn c)) (joinRules c) (judged.rules-ascend c) e
+join-none slots c e = both-none (joinedRules slots (channelIn c)) (joinRules c) (judged.rules-numbered c) e
 
 -- ---- the command
 sjoin-word : (w : List ℕ) → commandOf w ≡ Sjoin → map capital w ≡ sjoin

@@ -1,7 +1,7 @@
 -- Taking a line: a well-formed table stays well formed; an SJOIN changes one slot, by merging or opening; from rule 4 on all depends on the slots and the
 -- line alone; and the numbers ascend. True since merging, opening and removing members keep a record well formed, each slot keeps its name or is emptied,
 -- and the slot that is opened takes a name that none holds. Assumes nothing.
-use Prim.Native.Nat.{ℕ, _≤_, _<_}
+use Prim.Native.Nat.{ℕ, suc, _≤_, _<_}
 use mathlib.Core.Path.{_≡_, refl, sym, ap, _∙_}
 use mathlib.Core.Bool.{Bool, true, false, not, cond, _&&_, true≢false, false≢true}
 use mathlib.Core.Logic.{_⊎_, inl, inr}
@@ -12,13 +12,13 @@ use lib.Seq.{getD-set-same, getD-set-other}
 use lib.Dec.{eqb, ltb}
 use borrow.Author.Tests.{eqb-true, ltb-false, not-false}
 use Rattle.refusal.specs.Numbers.{accepted, notWellFormed, outputTooShort, badLink}
-use Rattle.refusal.specs.Rules.{firstOf, emitted, ascend, ascendFrom}
+use Rattle.refusal.specs.Rules.{firstOf, emitted, ascend, ascendFrom, placeIn, rank}
 use Rattle.refusal.proofs.Rules.{first-none}
-use Rattle.octets.specs.Bits.{hasBit}
-use Rattle.octets.specs.Lists.{all}
-use Rattle.octets.proofs.Bools.{and-left, and-right, and-intro}
-use Rattle.octets.proofs.Lists.{all-map, at-all}
-use Rattle.octets.proofs.Replaced.{all-set}
+use Rattle.laws.specs.Bits.{hasBit}
+use Rattle.laws.specs.Lists.{all}
+use Rattle.laws.proofs.Bools.{and-left, and-right, and-intro}
+use Rattle.laws.proofs.Lists.{all-map, at-all}
+use Rattle.laws.proofs.Replaced.{all-set}
 use Rattle.names.specs.Fold.{sameName}
 use Rattle.names.proofs.Folds.{name-refl}
 use Rattle.links.specs.Links.{isLink}
@@ -263,12 +263,12 @@ after-alone t u a b line n m e h k =
       f .2 ∙ ap (λ (s : List Record). emitted (takenRules s line) (relayed s line)) e ∙ sym (g .2),
     )
 
--- ---- the numbers ascend: the lowest that applies is given
+-- ---- the rules stand in the order of their numbers: the first in it that applies is given
 pub rules-ascend : (t : Table) (link : ℕ) (line : List ℕ) (n : ℕ) → ascend (processRules t link line n) ≡ true
-unfolding ascendFrom processRules takenRules lineRules bodyRules joinRules joinedRules partRules quitRules
+unfolding ascendFrom processRules takenRules lineRules bodyRules joinRules joinedRules partRules quitRules placeIn
 rules-ascend t link line n = go (commandIn line)
   where
-    go : (k : Command) → ascendFrom badLink (lineRules line ++ commandRules k (t .slots) (contentOf line)) ≡ true
+    go : (k : Command) → ascendFrom (suc (rank badLink)) (lineRules line ++ commandRules k (t .slots) (contentOf line)) ≡ true
     go Sjoin = refl
     go Part = refl
     go Quit = refl

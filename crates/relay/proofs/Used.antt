@@ -10,7 +10,7 @@ use borrow.Author.Tests.{le-ltb}
 use Rattle.refusal.specs.Numbers.{accepted, noFreeSlot}
 use Rattle.refusal.specs.Rules.{firstOf}
 use Rattle.refusal.proofs.Rules.{append-some, append-none}
-use Rattle.octets.specs.Lists.{all}
+use Rattle.laws.specs.Lists.{all}
 use Rattle.message.specs.Content.{Content}
 use Rattle.message.specs.Reading.{isRead, contentOf}
 use Rattle.channel.specs.declared.Record.{Record}
@@ -30,7 +30,7 @@ use Rattle.table.proofs.WellFormed.{holding-name}
 use Rattle.table.proofs.Using.{held-well}
 use Rattle.sjoin.specs.declared.Told.{Told}
 use Rattle.sjoin.specs.Join.{joinRules, channelIn, toldBy}
-use Rattle.sjoin.proofs.Judged.{rules-ascend}
+use Rattle.sjoin.proofs.Judged.{rules-numbered}
 use Rattle.sjoin.proofs.Answers.{told-number, told-says}
 use Rattle.sjoin.proofs.Wellformed.{read-proper}
 use Rattle.relay.specs.declared.Change.{Change}
@@ -110,7 +110,7 @@ module _ (slots : List Record) (line : List ℕ) (told : Told) (is : told ≡ to
     incoming-is = ap (λ (t : Told). t .«record») is ∙ told-says line read (sym (ap (λ (t : Told). t .number) is) ∙ none)
 
     rest : firstOf (joinRules content ++ joinedRules slots incoming) ≡ firstOf (joinedRules slots incoming)
-    rest = append-none (joinedRules slots incoming) (joinRules content) (rules-ascend content) (sym number ∙ none)
+    rest = append-none (joinedRules slots incoming) (joinRules content) (rules-numbered content) (sym number ∙ none)
 
     pub join-full : slotFor slots (incoming .name) ≡ Full → (j : Change) → j ≡ unchanged noFreeSlot → Sjoined j
     join-full e j f = refused-judged _ Sjoin slots content noFreeSlot j f (λ z. omega (arith, z)) (rest ∙ full-rules slots incoming e)

@@ -7,9 +7,9 @@ use lib.ListN.{length, drop, getD, length-map, drop-of-length-le}
 use lib.Dec.{eqb}
 use borrow.Author.Tests.{eq-eqb, ne-eqb}
 use Rattle.octets.specs.Bytes.{capital}
-use Rattle.octets.specs.Lists.{same}
+use Rattle.laws.specs.Lists.{same}
 use Rattle.octets.proofs.Bytes.{same-refl, same-true}
-use Rattle.octets.proofs.Lists.{drop-step, sameBy-cons}
+use Rattle.laws.proofs.Lists.{drop-step, sameBy-cons}
 
 -- the word in capitals is the name
 abbrev pub isWord : List ℕ → List ℕ → Bool

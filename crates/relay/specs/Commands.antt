@@ -5,7 +5,7 @@ use mathlib.Core.List.{List, [], _∷_, map}
 use mathlib.Core.Option.{Option, some, none, Option·getD}
 use lib.ListN.{getD}
 use Rattle.octets.specs.Bytes.{capital}
-use Rattle.octets.specs.Lists.{same}
+use Rattle.laws.specs.Lists.{same}
 use Rattle.names.specs.Names.{isUserId}
 use Rattle.message.specs.Content.{Content}
 use Rattle.sjoin.specs.Telling.{sjoin}

@@ -7,7 +7,7 @@ use lib.ListN.{length, set}
 use lib.Dec.{eqb, leb, ltb}
 use Rattle.refusal.specs.Numbers.{accepted, notWellFormed, outputTooShort, badLink, unknownCommand, wrongParamCount, badSource, badName, noSuchChannel, notOnChannel, noFreeSlot, tooManyMembers}
 use Rattle.refusal.specs.Rules.{Rule, _when_, firstOf, emitted}
-use Rattle.octets.specs.Bits.{hasBit}
+use Rattle.laws.specs.Bits.{hasBit}
 use Rattle.names.specs.Names.{isChannel}
 use Rattle.message.specs.Grammar.{lineLimit}
 use Rattle.message.specs.Content.{Content}

@@ -7,7 +7,7 @@ ghost use lib.ListN.{length};
 ghost use Prim.Native.Nat.{_≤_};
 ghost use Rattle.refusal.specs.Numbers.{accepted};
 ghost use Rattle.octets.specs.Bytes.{capital as capitalOf};
-ghost use Rattle.octets.specs.Lists.{same};
+ghost use Rattle.laws.specs.Lists.{same};
 ghost use Rattle.names.specs.Names.{nameLimit};
 ghost use Rattle.message.specs.Reading.{isRead, contentOf, messageOf};
 ghost use Rattle.channel.specs.Record.{decode};

@@ -10,11 +10,11 @@ use lib.Dec.{leb}
 use borrow.Author.Tests.{ne-eqb, le-leb, ltb-true, ltb-false}
 use Rattle.refusal.specs.Numbers.{accepted}
 use Rattle.refusal.specs.Rules.{firstOf}
-use Rattle.octets.specs.Lists.{isNil}
+use Rattle.laws.specs.Lists.{isNil}
 use Rattle.octets.specs.Decimals.{isDecimal, valueFrom, valueOf, digitsOf}
-use Rattle.octets.proofs.Lists.{nil-length}
+use Rattle.laws.proofs.Lists.{nil-length}
 use Rattle.octets.proofs.Digits.{value-digits, decimal-digits}
-use Rattle.octets.proofs.Ascends.{unite-nil-left}
+use Rattle.ascending.proofs.Ascends.{unite-nil-left}
 use Rattle.names.specs.Names.{isServerId}
 use Rattle.channel.specs.Limits.{timeLimit, limitLimit}
 use Rattle.channel.specs.Modes.{keyMode, limitMode, hasMode, placeAmong}

@@ -9,7 +9,7 @@ use lib.ListN.{length, take, drop, getD, length-append, length-take, take-append
 use lib.Seq.{getD-take, take-append-seam}
 use borrow.Author.Tests.{le-leb, lt-leb}
 use Rattle.octets.specs.Bytes.{space}
-use Rattle.octets.specs.Lists.{prefixed, separated}
+use Rattle.laws.specs.Lists.{prefixed, separated}
 use Rattle.octets.specs.Decimals.{digitsOf}
 use Rattle.octets.specs.Room.{part}
 use Rattle.octets.specs.Held.{Holds, Adds}

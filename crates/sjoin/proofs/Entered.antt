@@ -5,10 +5,10 @@ use mathlib.Core.Bool.{Bool, true, false, not, cond, _&&_}
 use mathlib.Core.List.{List, [], _∷_, _++_, map}
 use native.Mathlib.Omega.{arith}
 use Rattle.octets.specs.Bytes.{within, isNonSpace, isDigit}
-use Rattle.octets.specs.Lists.{all, isNil, startsWith}
-use Rattle.octets.specs.Bits.{hasBit}
-use Rattle.octets.proofs.Bools.{and-intro}
-use Rattle.octets.proofs.Lists.{nil-map, all-head, all-tail, all-cons, all-imp}
+use Rattle.laws.specs.Lists.{all, isNil, startsWith}
+use Rattle.laws.specs.Bits.{hasBit}
+use Rattle.laws.proofs.Bools.{and-intro}
+use Rattle.laws.proofs.Lists.{nil-map, all-head, all-tail, all-cons, all-imp}
 use Rattle.names.specs.Names.{isUserId}
 use Rattle.names.proofs.UserIds.{user-some, user-solid, user-unmarked}
 use Rattle.channel.specs.declared.Member.{Member}

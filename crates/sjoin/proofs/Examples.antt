@@ -7,9 +7,9 @@ use mathlib.Core.List.{List, [], _∷_}
 use Rattle.refusal.specs.Numbers.{accepted}
 use Rattle.refusal.specs.Rules.{firstOf}
 use Rattle.octets.specs.Bytes.{within, isPlain, isLetter, isDigit, isIdByte, isNameByte}
-use Rattle.octets.specs.Lists.{all, sameBy, startsWith}
+use Rattle.laws.specs.Lists.{all, sameBy, startsWith}
 use Rattle.octets.specs.Order.{compare}
-use Rattle.octets.specs.Ascending.{insert, put, unite}
+use Rattle.ascending.specs.Ascending.{insert, put, unite}
 use Rattle.octets.specs.Decimals.{leadsWithZero, isDecimal, valueFrom}
 use Rattle.names.specs.Names.{isChannel, isServerId, isUserId}
 use Rattle.channel.specs.Modes.{withMode, placeAmong}

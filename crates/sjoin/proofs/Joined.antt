@@ -11,9 +11,9 @@ use borrow.Author.Tests.{not-false, eqb-true}
 use Rattle.refusal.specs.Numbers.{accepted}
 use Rattle.refusal.specs.Rules.{firstOf}
 use Rattle.refusal.proofs.Rules.{first-none}
-use Rattle.octets.specs.Lists.{all}
+use Rattle.laws.specs.Lists.{all}
 use Rattle.octets.specs.Decimals.{isDecimal, valueFrom, valueOf}
-use Rattle.octets.proofs.Bools.{and-left, and-right}
+use Rattle.laws.proofs.Bools.{and-left, and-right}
 use Rattle.names.specs.Names.{isChannel}
 use Rattle.channel.specs.Limits.{keyLimit}
 use Rattle.channel.specs.Modes.{placeAmong}

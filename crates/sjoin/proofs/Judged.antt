@@ -9,7 +9,8 @@ use lib.ListN.{length}
 use lib.Dec.{leb}
 use borrow.Author.Tests.{eq-eqb, ne-eqb, le-leb, lt-leb, leb-true}
 use Rattle.refusal.specs.Numbers.{accepted, wrongParamCount, badSource, badTime, zeroTime, badName, badModes, badMembers}
-use Rattle.refusal.specs.Rules.{firstOf, ascend, ascendFrom}
+use Rattle.refusal.specs.Rules.{firstOf, ascend, ascendFrom, placeIn}
+use Rattle.refusal.proofs.Rules.{numbered}
 use Rattle.octets.specs.declared.Decimal.the-variants.{Value, Malformed}
 use Rattle.octets.specs.Decimals.{isDecimal, valueOf, decimalUpTo}
 use Rattle.octets.proofs.Digits.{value-digits, decimal-digits, decimal-read, value-in}
@@ -21,10 +22,15 @@ use Rattle.sjoin.specs.Modes.{lettersOf, goodLetters, parametered, goodA
 use Rattle.sjoin.specs.Entries.{goodEntries}
 use Rattle.sjoin.specs.Join.{timeIn, nameIn, modesIn, listIn, argumentsIn, isSource, fewest, most, goodCount, goodTime, joinRules}
 
--- The numbers ascend: the lowest that applies is given.
+-- The rules stand in the order of their numbers: the first in it that applies is given.
 pub rules-ascend : (c : Content) → ascend (joinRules c) ≡ true
-unfolding ascendFrom joinRules
+unfolding ascendFrom joinRules placeIn
 rules-ascend c = refl
+
+-- none of them is `accepted`
+pub rules-numbered : (c : Content) → numbered (joinRules c) ≡ true
+unfolding joinRules
+rules-numbered c = refl
 
 -- ---- a missing prefix is the empty one, which is no server id
 source-is : (p : Option (List ℕ)) → isServerId (Option·getD p []) ≡ isSource p

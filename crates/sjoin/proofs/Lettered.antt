@@ -5,10 +5,10 @@ use mathlib.Core.Bool.{Bool, true, cond, _&&_}
 use mathlib.Core.List.{List, [], _∷_, _++_}
 use lib.Dec.{eqb}
 use borrow.Author.Tests.{eqb-true}
-use Rattle.octets.specs.Lists.{all, sameBy, same, startsWith}
-use Rattle.octets.specs.Bits.{hasBit}
-use Rattle.octets.proofs.Bools.{and-three}
-use Rattle.octets.proofs.Bounded.{allBelow, all-below}
+use Rattle.laws.specs.Lists.{all, sameBy, same, startsWith}
+use Rattle.laws.specs.Bits.{hasBit}
+use Rattle.laws.proofs.Bools.{and-three}
+use Rattle.laws.proofs.Bounded.{allBelow, all-below}
 use Rattle.octets.proofs.Bytes.{same-true}
 use Rattle.channel.specs.Modes.{keyMode, limitMode, hasMode, withMode, placeAmong}
 use Rattle.sjoin.specs.Modes.{keyLetter, limitLetter, lettersOf, once, goodLetters, modesByte, parametered}

@@ -8,7 +8,7 @@ use lib.Dec.{eqb, leb}
 use borrow.Author.Tests.{ne-eqb, le-leb, leb-true, leb-false}
 use Rattle.octets.specs.declared.Decimal.the-variants.{Value, Malformed}
 use Rattle.octets.specs.Decimals.{isDecimal, valueOf, decimalUpTo, digitsOf}
-use Rattle.octets.proofs.Bools.{and-three}
+use Rattle.laws.proofs.Bools.{and-three}
 use Rattle.octets.proofs.Digits.{value-digits, decimal-digits, decimal-read, value-in}
 use Rattle.channel.specs.Limits.{limitLimit}
 use Rattle.sjoin.specs.Modes.{isLimit, limitIn}

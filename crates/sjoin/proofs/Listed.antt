@@ -6,9 +6,9 @@ use mathlib.Core.List.{List}
 use native.Mathlib.Omega.{arith}
 use lib.ListN.{length, length-drop}
 use borrow.Author.Tests.{le-leb}
-use Rattle.octets.specs.Lists.{all, isNil, startsWith}
-use Rattle.octets.proofs.Bools.{and-right}
-use Rattle.octets.proofs.Lists.{all-imp}
+use Rattle.laws.specs.Lists.{all, isNil, startsWith}
+use Rattle.laws.proofs.Bools.{and-right}
+use Rattle.laws.proofs.Lists.{all-imp}
 use Rattle.names.specs.Names.{userIdLength}
 use Rattle.names.proofs.UserIds.{user-length}
 use Rattle.channel.specs.Limits.{memberLimit}

@@ -8,11 +8,11 @@ use lib.Bits.{bitOr, or-zero-l, or-zero-r}
 use lib.ListN.{length, drop, getD, drop-of-length-le}
 use lib.Dec.{eqb}
 use borrow.Author.Tests.{eq-eqb, eqb-true, lt-ltb, le-ltb, ltb-true}
-use Rattle.octets.specs.Lists.{all, startsWith}
-use Rattle.octets.specs.Joins.{total}
-use Rattle.octets.proofs.Bools.{both-ways, and-swap, not-or}
-use Rattle.octets.proofs.Lists.{drop-step}
-use Rattle.octets.proofs.Joins.{joining-bits}
+use Rattle.laws.specs.Lists.{all, startsWith}
+use Rattle.laws.specs.Joins.{total}
+use Rattle.laws.proofs.Bools.{both-ways, and-swap, not-or}
+use Rattle.laws.proofs.Lists.{drop-step}
+use Rattle.laws.proofs.Joins.{joining-bits}
 use Rattle.channel.specs.Modes.{letters, modeCount, hasMode, withMode, modePlace}
 use Rattle.channel.proofs.Letters.{has-no-mode, has-with, with-union, place-found}
 use Rattle.sjoin.specs.Modes.{plus, isMode, lacks, once, goodLetters, modesByte}

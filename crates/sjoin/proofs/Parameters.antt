@@ -8,7 +8,7 @@ use lib.ListN.{length, take, drop, getD, drop-of-length-le, length-take, List·g
 use lib.Seq.{getD-take, getD-drop}
 use lib.Dec.{eqb}
 use borrow.Author.Tests.{eq-eqb, ne-eqb, eqb-true, eqb-false}
-use Rattle.octets.proofs.Lists.{drop-step}
+use Rattle.laws.proofs.Lists.{drop-step}
 use Rattle.channel.specs.Modes.{placeAmong}
 use Rattle.message.specs.Content.{Content}
 use Rattle.sjoin.specs.Modes.{lettersOf, hasParameter, parametered, goodArgument, goodArguments, argumentOf}

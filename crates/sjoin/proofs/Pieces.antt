@@ -10,11 +10,11 @@ use lib.Seq.{getD-take}
 use lib.Dec.{ltb}
 use borrow.Author.Tests.{lt-ltb, le-ltb}
 use Rattle.refusal.specs.Numbers.{accepted, outputTooShort, noRoom}
-use Rattle.refusal.specs.Rules.{firstOf, ascendFrom, ascend}
+use Rattle.refusal.specs.Rules.{firstOf, ascendFrom, ascend, placeIn}
 use Rattle.octets.specs.Bytes.{space, colon}
 use Rattle.octets.specs.Decimals.{digitsOf}
 use Rattle.octets.specs.Room.{part}
-use Rattle.octets.proofs.Lists.{drop-step}
+use Rattle.laws.proofs.Lists.{drop-step}
 use Rattle.channel.specs.declared.Member.{Member}
 use Rattle.channel.specs.Modes.{keyMode, limitMode, hasMode}
 use Rattle.channel.specs.Channel.{Channel}
@@ -91,7 +91,7 @@ join-text sid c =
 -- ---- when it is written
 module _ (sid : List ℕ) (c : Channel) (out : List ℕ) where
   pub tell-rules-ascend : ascend (tellRules sid c out) ≡ true
-  unfolding tellRules ascendFrom
+  unfolding tellRules ascendFrom placeIn
   tell-rules-ascend = refl
 
   pub tell-short : length out < lineLimit → firstOf (tellRules sid c out) ≡ outputTooShort

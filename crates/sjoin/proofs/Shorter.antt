@@ -13,15 +13,15 @@ use lib.Dec.{eqb, leb, ltb}
 use borrow.Author.Tests.{ne-eqb, eqb-true, eqb-false, ltb-true}
 use Rattle.refusal.specs.Numbers.{accepted}
 use Rattle.refusal.specs.Rules.{firstOf}
-use Rattle.octets.specs.Lists.{all, isNil, startsWith}
-use Rattle.octets.specs.Bits.{hasBit}
+use Rattle.laws.specs.Lists.{all, isNil, startsWith}
+use Rattle.laws.specs.Bits.{hasBit}
 use Rattle.octets.specs.Decimals.{isDecimal, valueFrom, valueOf, digitsOf}
-use Rattle.octets.proofs.Bools.{and-left, and-right}
-use Rattle.octets.proofs.Lists.{all-head}
+use Rattle.laws.proofs.Bools.{and-left, and-right}
+use Rattle.laws.proofs.Lists.{all-head}
 use Rattle.octets.proofs.Digits.{digits-value}
 use Rattle.octets.proofs.Fewer.{digits-fewer}
-use Rattle.octets.proofs.Ascends.{joined, unite-few}
-use Rattle.octets.proofs.Weights.{weight, weight-unite}
+use Rattle.ascending.proofs.Ascends.{joined, unite-few}
+use Rattle.ascending.proofs.Weights.{weight, weight-unite}
 use Rattle.names.specs.Names.{isChannel}
 use Rattle.channel.specs.declared.Member.{Member}
 use Rattle.channel.specs.Limits.{limitLimit}

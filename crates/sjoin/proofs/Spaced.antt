@@ -6,9 +6,9 @@ use mathlib.Core.List.{List, [], _∷_, _++_, map}
 use lib.ListN.{length}
 use borrow.Author.Tests.{not-true}
 use Rattle.octets.specs.Bytes.{isNonSpace}
-use Rattle.octets.specs.Lists.{all, isNil}
-use Rattle.octets.proofs.Bools.{and-left, and-right}
-use Rattle.octets.proofs.Lists.{all-head, all-tail}
+use Rattle.laws.specs.Lists.{all, isNil}
+use Rattle.laws.proofs.Bools.{and-left, and-right}
+use Rattle.laws.proofs.Lists.{all-head, all-tail}
 use Rattle.channel.specs.declared.Member.{Member}
 use Rattle.message.specs.Grammar.{word}
 use Rattle.message.specs.Content.{bytesOf}

@@ -3,9 +3,9 @@
 use Prim.Native.Nat.{ℕ}
 use mathlib.Core.Path.{_≡_, refl}
 use mathlib.Core.List.{List, [], _∷_}
-use Rattle.octets.specs.Bits.{hasBit}
+use Rattle.laws.specs.Bits.{hasBit}
 use Rattle.octets.specs.Decimals.{digitsUpTo, digitsOf}
-use Rattle.octets.specs.Lists.{all, startsWith, prefixed, separated}
+use Rattle.laws.specs.Lists.{all, startsWith, prefixed, separated}
 use Rattle.channel.specs.Channel.{Channel, member}
 use Rattle.channel.proofs.Examples.{1ab}
 use Rattle.message.specs.Reading.{crlf}

@@ -11,11 +11,11 @@ use lib.Dec.{eqb, ltb}
 use borrow.Author.Tests.{not-true, eqb-false, leb-true, ltb-true, lt-ltb}
 use Rattle.refusal.specs.Numbers.{accepted}
 use Rattle.refusal.specs.Rules.{firstOf}
-use Rattle.octets.specs.Lists.{all, isNil, startsWith}
+use Rattle.laws.specs.Lists.{all, isNil, startsWith}
 use Rattle.octets.specs.Decimals.{isDecimal, valueFrom, valueOf}
-use Rattle.octets.proofs.Bools.{and-left, and-right, and-intro, or-not, eqb-swap}
-use Rattle.octets.proofs.Lists.{all-head, all-tail, nil-map}
-use Rattle.octets.proofs.Ascends.{unite-some, unite-few, all-unite, ascending-unite}
+use Rattle.laws.proofs.Bools.{and-left, and-right, and-intro, or-not, eqb-swap}
+use Rattle.laws.proofs.Lists.{all-head, all-tail, nil-map}
+use Rattle.ascending.proofs.Ascends.{unite-some, unite-few, all-unite, ascending-unite}
 use Rattle.channel.specs.Limits.{timeLimit, limitLimit}
 use Rattle.channel.specs.Modes.{modeCount, hasMode, withMode, placeAmong, modePlace}
 use Rattle.channel.specs.Key.{isKey}
@@ -24,7 +24,7 @@ use Rattle.channel.specs.Record.{encode}
 use Rattle.channel.specs.WellFormed.{bothStatuses, goodMember, wellFormed}
 use Rattle.channel.proofs.Keys.{key-some}
 use Rattle.channel.proofs.Letters.{has-no-mode, has-either, has-with, one-small}
-use Rattle.channel.proofs.Sides.{keyed-byId}
+use Rattle.channel.proofs.Sides.{stays-byId}
 use Rattle.channel.proofs.Proper.{Proper, member-passes, both-statuses, encode-well}
 use Rattle.message.specs.Grammar.{lineLimit}
 use Rattle.message.specs.Content.{Content}
@@ -122,7 +122,7 @@ module _ (c : Content) (none : firstOf (joinRules c) ≡ accepted) (small : leng
         some = unite-some byId [] n (nil-map memberOf (wordsOf (listIn c)) ∙ words-some);
         few = omega (arith, unite-few byId [] n, length-map (wordsOf (listIn c)) memberOf, list-room (listIn c) (good .list) small);
         listed = all-unite byId goodMember both-statuses [] n refl (named-good (wordsOf (listIn c)) (list-entries (listIn c) (good .list)));
-        ascending = ascending-unite byId keyed-byId [] n tt;
+        ascending = ascending-unite byId stays-byId [] n tt;
       }
 
 -- ---- of a line

@@ -8,11 +8,11 @@ use native.Mathlib.Omega.{arith}
 use lib.ListN.{length}
 use lib.Dec.{eqb, leb}
 use Rattle.octets.specs.Bytes.{colon, within, isPlain, isNonSpace, isLetter, isDigit, isIdByte, isNameByte, isKeyByte}
-use Rattle.octets.specs.Bits.{hasBit}
-use Rattle.octets.specs.Lists.{all, isNil, startsWith}
+use Rattle.laws.specs.Bits.{hasBit}
+use Rattle.laws.specs.Lists.{all, isNil, startsWith}
 use Rattle.octets.specs.Decimals.{digitsOf}
-use Rattle.octets.proofs.Bools.{and-left, and-right, and-intro}
-use Rattle.octets.proofs.Lists.{all-head, all-tail, all-cons, all-append, all-imp}
+use Rattle.laws.proofs.Bools.{and-left, and-right, and-intro}
+use Rattle.laws.proofs.Lists.{all-head, all-tail, all-cons, all-append, all-imp}
 use Rattle.octets.proofs.Clean.{digit-id, id-clean, id-colon, name-clean, key-clean}
 use Rattle.octets.proofs.Digits.{all-digits, digits-some}
 use Rattle.names.specs.Names.{isChannel, isServerId, isUserId}

@@ -4,7 +4,7 @@ use Prim.Native.Nat.{ℕ, _+_}
 use mathlib.Core.Bool.{Bool, not, cond, _&&_}
 use mathlib.Core.List.{List, map}
 use lib.ListN.{drop}
-use Rattle.octets.specs.Lists.{all, isNil, startsWith}
+use Rattle.laws.specs.Lists.{all, isNil, startsWith}
 use Rattle.names.specs.Names.{isUserId}
 use Rattle.channel.specs.declared.Member.{Member}
 use Rattle.channel.specs.Channel.{member}

@@ -6,8 +6,8 @@ use mathlib.Core.List.{List, [], _∷_}
 use lib.Bits.{bitOr}
 use lib.ListN.{drop, getD}
 use lib.Dec.{eqb, leb, ltb}
-use Rattle.octets.specs.Lists.{all, startsWith}
-use Rattle.octets.specs.Joins.{total}
+use Rattle.laws.specs.Lists.{all, startsWith}
+use Rattle.laws.specs.Joins.{total}
 use Rattle.octets.specs.Decimals.{isDecimal, valueOf}
 use Rattle.channel.specs.Limits.{limitLimit}
 use Rattle.channel.specs.Modes.{modeCount, withMode, placeAmong, modePlace}

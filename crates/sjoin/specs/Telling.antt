@@ -9,8 +9,8 @@ use lib.Dec.{ltb}
 use Rattle.refusal.specs.Numbers.{outputTooShort, noRoom}
 use Rattle.refusal.specs.Rules.{Rule, _when_}
 use Rattle.octets.specs.Bytes.{space}
-use Rattle.octets.specs.Lists.{separated}
-use Rattle.octets.specs.Bits.{hasBit}
+use Rattle.laws.specs.Lists.{separated}
+use Rattle.laws.specs.Bits.{hasBit}
 use Rattle.octets.specs.Decimals.{digitsOf}
 use Rattle.octets.specs.Room.{fits}
 use Rattle.channel.specs.declared.Member.{Member}

@@ -3,7 +3,7 @@ ghost use mathlib.Core.Path.{_≡_};
 ghost use mathlib.Core.Bool.{true};
 ghost use Prim.Native.Nat.{_≤_};
 ghost use lib.ListN.{length};
-ghost use Rattle.octets.specs.Lists.{all};
+ghost use Rattle.laws.specs.Lists.{all};
 ghost use Rattle.channel.specs.Limits.{memberLimit};
 ghost use Rattle.channel.specs.Members.{roster};
 ghost use Rattle.message.specs.Words.{wordsOf};

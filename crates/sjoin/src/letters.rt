@@ -1,6 +1,6 @@
 // The modes of an SJOIN line: their letters, and which of them have a parameter.
 ghost use mathlib.Core.Path.{_≡_};
-ghost use Rattle.octets.specs.Lists.{startsWith};
+ghost use Rattle.laws.specs.Lists.{startsWith};
 ghost use Rattle.sjoin.specs.Modes.{hasParameter, goodLetters, modesByte, limitIn, goodArgument};
 use channel::Record;
 use channel::key::is_key;

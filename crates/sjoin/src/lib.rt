@@ -12,7 +12,7 @@ ghost use Prim.Native.Nat.{_≤_};
 ghost use lib.ListN.{length};
 ghost use Rattle.refusal.specs.Numbers.{accepted};
 ghost use Rattle.refusal.specs.Rules.{firstOf, emitted};
-ghost use Rattle.octets.specs.Lists.{padded};
+ghost use Rattle.laws.specs.Lists.{padded};
 ghost use Rattle.octets.specs.Room.{front};
 ghost use Rattle.octets.specs.Decimals.{valueOf};
 ghost use Rattle.names.specs.Names.{nameLimit};

@@ -7,8 +7,8 @@ use Prim.Native.Nat.{ℕ, zero, suc}
 use native.Mathlib.Omega.{arith}
 use lib.ListN.{replicate, length-replicate}
 use borrow.Author.Tests.{eq-eqb}
-use Rattle.octets.proofs.Bools.{and-intro}
-use Rattle.octets.proofs.Lists.{all-cons, all-replicate}
+use Rattle.laws.proofs.Bools.{and-intro}
+use Rattle.laws.proofs.Lists.{all-cons, all-replicate}
 use Rattle.names.specs.Fold.{sameName}
 use Rattle.channel.specs.declared.Record.{Record}
 use Rattle.channel.specs.Limits.{slotCount}

@@ -8,10 +8,10 @@ use Prim.Native.Nat.{ℕ, zero, suc}
 use native.Mathlib.Omega.{arith}
 use lib.ListN.{getD, set, length-take}
 use borrow.Author.Tests.{eq-eqb, ne-eqb, eqb-true, eqb-false, not-true}
-use Rattle.octets.specs.Lists.{all}
-use Rattle.octets.proofs.Bools.{and-left, and-right, and-intro, both-ways}
-use Rattle.octets.proofs.Lists.{all-head, all-tail, all-cons, all-imp}
-use Rattle.octets.proofs.Replaced.{all-set}
+use Rattle.laws.specs.Lists.{all}
+use Rattle.laws.proofs.Bools.{and-left, and-right, and-intro, both-ways}
+use Rattle.laws.proofs.Lists.{all-head, all-tail, all-cons, all-imp}
+use Rattle.laws.proofs.Replaced.{all-set}
 use Rattle.names.specs.Fold.{sameName}
 use Rattle.names.proofs.Folds.{name-sym}
 use Rattle.channel.specs.declared.Record.{Record}

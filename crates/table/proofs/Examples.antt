@@ -8,9 +8,9 @@ use native.Mathlib.Omega.{arith}
 use lib.ListN.{replicate, getD}
 use Rattle.refusal.specs.Numbers.{accepted, notWellFormed, badLink}
 use Rattle.octets.specs.Bytes.{within, isPlain, isDigit, isIdByte, isNameByte, isKeyByte}
-use Rattle.octets.specs.Lists.{all, sameBy, padded, startsWith}
-use Rattle.octets.specs.Ascending.{ascends}
-use Rattle.octets.specs.Bits.{hasBit}
+use Rattle.laws.specs.Lists.{all, sameBy, padded, startsWith}
+use Rattle.ascending.specs.Ascending.{ascends}
+use Rattle.laws.specs.Bits.{hasBit}
 use Rattle.names.specs.Fold.{fold, sameName}
 use Rattle.names.specs.Names.{isChannel, isServerId, isUserId}
 use Rattle.links.specs.Links.{links, noLinks, withLink, withoutLink}

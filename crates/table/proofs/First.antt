@@ -7,8 +7,8 @@ use native.Mathlib.Omega.{arith}
 use lib.ListN.{length, drop, getD}
 use lib.Dec.{ltb}
 use borrow.Author.Tests.{lt-ltb, le-ltb, ltb-true, ltb-false}
-use Rattle.octets.specs.Lists.{all}
-use Rattle.octets.proofs.Lists.{drop-step}
+use Rattle.laws.specs.Lists.{all}
+use Rattle.laws.proofs.Lists.{drop-step}
 use Rattle.table.specs.Slots.{firstAt}
 
 ltb-suc : (a b : ℕ) → ltb (suc a) (suc b) ≡ ltb a b

@@ -4,8 +4,8 @@ use mathlib.Core.Bool.{Bool, true, false, not, _&&_}
 use mathlib.Core.List.{List, [], _∷_}
 use Prim.Native.Nat.{ℕ, _+_, _≤_, _<_}
 use lib.ListN.{length, drop, getD, drop-of-length-le}
-use Rattle.octets.specs.Lists.{all}
-use Rattle.octets.proofs.Lists.{drop-step, getD-any, all-past, all-stop, all-go}
+use Rattle.laws.specs.Lists.{all}
+use Rattle.laws.proofs.Lists.{drop-step, getD-any, all-past, all-stop, all-go}
 use Rattle.channel.specs.declared.Record.{Record}
 use Rattle.channel.specs.Record.{emptyRecord}
 use Rattle.table.specs.Table.{alike, distinct}

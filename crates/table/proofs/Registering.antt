@@ -5,7 +5,7 @@ use Prim.Native.Nat.{ℕ, _≤_, _<_}
 use lib.Dec.{eqb}
 use borrow.Author.Tests.{lt-ltb, le-ltb, ltb-true, ltb-false}
 use Rattle.refusal.specs.Numbers.{accepted, notWellFormed, badLink}
-use Rattle.refusal.specs.Rules.{firstOf, ascend, ascendFrom}
+use Rattle.refusal.specs.Rules.{firstOf, ascend, ascendFrom, placeIn}
 use Rattle.links.specs.declared.Links.{Links}
 use Rattle.links.specs.Links.{linkCount, isLink, withLink, withoutLink}
 use Rattle.links.proofs.Sets.{with-twice, without-twice}
@@ -13,9 +13,9 @@ use Rattle.table.specs.declared.Table.{Table}
 use Rattle.table.specs.declared.Registered.{Registered}
 use Rattle.table.specs.Table.{goodTable, linkRules, relinked, registerAnswer, unregisterAnswer}
 
--- The numbers ascend: the lowest that applies is given.
+-- The rules stand in the order of their numbers: the first in it that applies is given.
 pub rules-ascend : (t : Table) (link : ℕ) → ascend (linkRules t link) ≡ true
-unfolding ascendFrom linkRules
+unfolding ascendFrom linkRules placeIn
 rules-ascend t link = refl
 
 -- ---- the answer, by the rule that applies

@@ -5,8 +5,8 @@ use mathlib.Core.List.{List}
 use Prim.Native.Nat.{ℕ}
 use lib.ListN.{getD}
 use borrow.Author.Tests.{eqb-false}
-use Rattle.octets.specs.Lists.{all}
-use Rattle.octets.proofs.Lists.{all-at}
+use Rattle.laws.specs.Lists.{all}
+use Rattle.laws.proofs.Lists.{all-at}
 use Rattle.channel.specs.declared.Record.{Record}
 use Rattle.channel.specs.Record.{emptyRecord}
 use Rattle.channel.specs.WellFormed.{wellFormed}

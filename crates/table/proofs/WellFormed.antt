@@ -7,10 +7,10 @@ use native.Mathlib.Omega.{arith}
 use lib.ListN.{length, getD, replicate}
 use lib.Dec.{ltb}
 use borrow.Author.Tests.{eq-eqb, ne-eqb, ltb-true, ltb-false, not-true}
-use Rattle.octets.specs.Lists.{all}
+use Rattle.laws.specs.Lists.{all}
 use Rattle.octets.specs.Room.{part}
-use Rattle.octets.proofs.Bools.{and-left, and-right, and-intro}
-use Rattle.octets.proofs.Lists.{all-at, all-replicate}
+use Rattle.laws.proofs.Bools.{and-left, and-right, and-intro}
+use Rattle.laws.proofs.Lists.{all-at, all-replicate}
 use Rattle.names.specs.Fold.{sameName}
 use Rattle.names.proofs.Folds.{name-sym, name-trans}
 use Rattle.channel.specs.declared.Record.{Record}

@@ -6,7 +6,7 @@ use lib.ListN.{length, getD}
 use lib.Dec.{ltb}
 use Rattle.refusal.specs.Numbers.{accepted, noFreeSlot}
 use Rattle.refusal.specs.Rules.{Rule, _when_}
-use Rattle.octets.specs.Lists.{all}
+use Rattle.laws.specs.Lists.{all}
 use Rattle.channel.specs.declared.Record.{Record}
 use Rattle.channel.specs.Record.{emptyRecord}
 use Rattle.table.specs.declared.Found.{Found}

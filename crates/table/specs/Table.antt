@@ -6,7 +6,7 @@ use lib.ListN.{replicate}
 use lib.Dec.{eqb}
 use Rattle.refusal.specs.Numbers.{accepted, notWellFormed, badLink}
 use Rattle.refusal.specs.Rules.{Rule, _when_, firstOf}
-use Rattle.octets.specs.Lists.{all}
+use Rattle.laws.specs.Lists.{all}
 use Rattle.names.specs.Fold.{sameName}
 use Rattle.links.specs.declared.Links.{Links}
 use Rattle.links.specs.Links.{isLink, noLinks, withLink, withoutLink}

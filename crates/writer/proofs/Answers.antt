@@ -15,7 +15,7 @@ use Rattle.refusal.proofs.Rules.{emitted-none, emitted-all}
 use Rattle.octets.specs.Bytes.{capital}
 use Rattle.octets.specs.Room.{putAt, endOf, front}
 use Rattle.octets.specs.Held.{Holds, Adds}
-use Rattle.octets.proofs.Bools.{and-left}
+use Rattle.laws.proofs.Bools.{and-left}
 use Rattle.octets.proofs.Room.{put-front, end-fits, holds-nothing}
 use Rattle.message.specs.declared.Message.{Message}
 use Rattle.message.specs.Grammar.{lineLimit, paramLimit}

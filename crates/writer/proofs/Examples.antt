@@ -7,7 +7,7 @@ use lib.ListN.{replicate}
 use Rattle.refusal.specs.Numbers.{accepted, outputTooShort, unwritable}
 use Rattle.refusal.specs.Rules.{firstOf}
 use Rattle.octets.specs.Bytes.{space, colon, within, isPlain, isLetter}
-use Rattle.octets.specs.Lists.{all, sameBy, startsWith}
+use Rattle.laws.specs.Lists.{all, sameBy, startsWith}
 use Rattle.octets.specs.Room.{part}
 use Rattle.message.specs.declared.Span.{Span}
 use Rattle.message.specs.declared.Message.{Message}

@@ -12,9 +12,9 @@ use borrow.Author.Tests.{eq-eqb, eqb-true, le-leb, leb-true}
 use Rattle.refusal.specs.Numbers.{accepted}
 use Rattle.refusal.specs.Rules.{firstOf}
 use Rattle.octets.specs.Bytes.{space, colon, isPlain}
-use Rattle.octets.specs.Lists.{all, isNil, same}
-use Rattle.octets.proofs.Bools.{and-left, and-right, and-intro, and-swap, both-ways}
-use Rattle.octets.proofs.Lists.{nil-map, all-head, all-tail, all-cons, all-drop, sameBy-refl, sameBy-true}
+use Rattle.laws.specs.Lists.{all, isNil, same}
+use Rattle.laws.proofs.Bools.{and-left, and-right, and-intro, and-swap, both-ways}
+use Rattle.laws.proofs.Lists.{nil-map, all-head, all-tail, all-cons, all-drop, sameBy-refl, sameBy-true}
 use Rattle.octets.proofs.Bytes.{same-refl, same-true}
 use Rattle.message.specs.declared.Span.{Span}
 use Rattle.message.specs.declared.Message.{Message}

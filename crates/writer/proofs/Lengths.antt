@@ -9,7 +9,7 @@ use lib.ListN.{length, drop, length-append, length-drop}
 use lib.Seq.{drop-drop}
 use lib.Dec.{eqb}
 use Rattle.octets.specs.Bytes.{space, colon}
-use Rattle.octets.specs.Lists.{isNil}
+use Rattle.laws.specs.Lists.{isNil}
 use Rattle.message.specs.Grammar.{word, spaces, isMiddle, rest, afterMiddle, hasPrefix, prefix, prefixEnd, commandStart, command, commandEnd, params}
 use Rattle.message.specs.Content.{bytesOf, contentIn}
 use Rattle.message.proofs.Runs.{middle-skip}

@@ -10,8 +10,8 @@ use lib.Seq.{getD-take}
 use lib.Dec.{eqb}
 use borrow.Author.Tests.{eq-eqb, ne-eqb}
 use Rattle.octets.specs.Bytes.{space, colon, isPlain, isNonSpace}
-use Rattle.octets.specs.Lists.{all, isNil, startsWith}
-use Rattle.octets.proofs.Lists.{drop-step, nil-length, nil-map}
+use Rattle.laws.specs.Lists.{all, isNil, startsWith}
+use Rattle.laws.proofs.Lists.{drop-step, nil-length, nil-map}
 use Rattle.message.specs.declared.Span.{Span}
 use Rattle.message.specs.declared.Message.{Message}
 use Rattle.message.specs.Grammar.{isMiddle}

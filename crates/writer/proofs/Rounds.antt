@@ -12,13 +12,13 @@ use lib.ListN.{length, take, length-append, length-map}
 use lib.Dec.{leb}
 use borrow.Author.Tests.{le-leb, le-ltb, ltb-false, not-false}
 use Rattle.refusal.specs.Numbers.{accepted}
-use Rattle.refusal.specs.Rules.{firstOf, ascend, ascendFrom}
+use Rattle.refusal.specs.Rules.{firstOf, ascend, ascendFrom, placeIn}
 use Rattle.refusal.proofs.Rules.{first-none}
 use Rattle.octets.specs.Bytes.{capital}
-use Rattle.octets.specs.Lists.{all, padded}
-use Rattle.octets.proofs.Bools.{and-left, and-right, and-intro}
+use Rattle.laws.specs.Lists.{all, padded}
+use Rattle.laws.proofs.Bools.{and-left, and-right, and-intro}
 use Rattle.octets.proofs.Bytes.{capitals-twice}
-use Rattle.octets.proofs.Lists.{take-padded}
+use Rattle.laws.proofs.Lists.{take-padded}
 use Rattle.message.specs.declared.Span.{Span}
 use Rattle.message.specs.declared.Message.{Message}
 use Rattle.message.specs.Grammar.{Part, lineLimit, paramLimit, hasPrefix, prefix, command, isCommand, params}
@@ -38,12 +38,12 @@ use Rattle.writer.proofs.Lengths.{body-short}
 -- ---- the numbers
 -- The numbers of a message that is to be written ascend: the lowest that applies is given.
 pub write-rules-ascend : (text : List ℕ) (m : Message) (out : List ℕ) → ascend (writeRules text m out) ≡ true
-unfolding ascendFrom writeRules
+unfolding ascendFrom writeRules placeIn
 write-rules-ascend text m out = refl
 
 -- Those of a line that is to be passed on ascend too.
 pub forward-rules-ascend : (line out : List ℕ) → ascend (forwardRules line out) ≡ true
-unfolding ascendFrom forwardRules lineRules bodyRules
+unfolding ascendFrom forwardRules lineRules bodyRules placeIn
 forward-rules-ascend line out = refl
 
 -- A line that is to be passed on gets the reader's number, if the output has room for a line.

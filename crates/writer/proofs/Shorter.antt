@@ -6,7 +6,7 @@ use mathlib.Core.List.{List, [], _∷_, _++_}
 use Prim.Native.Nat.{ℕ, suc, _+_, _≤_}
 use native.Mathlib.Omega.{arith}
 use lib.ListN.{length, length-append}
-use Rattle.octets.specs.Lists.{isNil}
+use Rattle.laws.specs.Lists.{isNil}
 use Rattle.message.specs.Grammar.{isMiddle}
 use Rattle.message.specs.Content.{Content}
 use Rattle.message.proofs.Sizes.{room}

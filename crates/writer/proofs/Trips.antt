@@ -13,9 +13,9 @@ use borrow.Author.Tests.{ne-eqb, leb-true, le-ltb, not-true}
 use Rattle.refusal.specs.Numbers.{accepted}
 use Rattle.refusal.specs.Rules.{firstOf}
 use Rattle.octets.specs.Bytes.{space, colon, isPlain, isNonSpace}
-use Rattle.octets.specs.Lists.{all, isNil, sameBy, startsWith}
-use Rattle.octets.proofs.Bools.{and-left, and-right}
-use Rattle.octets.proofs.Lists.{nil-length, all-head, all-cons, all-append}
+use Rattle.laws.specs.Lists.{all, isNil, sameBy, startsWith}
+use Rattle.laws.proofs.Bools.{and-left, and-right}
+use Rattle.laws.proofs.Lists.{nil-length, all-head, all-cons, all-append}
 use Rattle.message.specs.Grammar.{Part, paramLimit, spaces, isMiddle, rest, hasPrefix, prefix, prefixEnd, commandStart, command, commandEnd, isCommand, params}
 use Rattle.message.specs.Content.{Content, bytesOf, contentIn}
 use Rattle.message.specs.Reading.{crlf, endsLine, bodyOf, bodyRules, grammarRules}

@@ -9,9 +9,9 @@ use lib.ListN.{length, length-map}
 use lib.Dec.{eqb, leb, ltb}
 use borrow.Author.Tests.{ne-eqb, eqb-true, lt-ltb, ltb-true, leb-true}
 use Rattle.octets.specs.Bytes.{nul, lf, cr, space, colon, within, isPlain, isNonSpace, isLetter, isDigit, capital}
-use Rattle.octets.specs.Lists.{all}
-use Rattle.octets.proofs.Bools.{and-left, and-right, and-intro}
-use Rattle.octets.proofs.Lists.{all-head, all-tail, all-cons, all-imp, all-map}
+use Rattle.laws.specs.Lists.{all}
+use Rattle.laws.proofs.Bools.{and-left, and-right, and-intro}
+use Rattle.laws.proofs.Lists.{all-head, all-tail, all-cons, all-imp, all-map}
 use Rattle.octets.proofs.Bytes.{within-bounds, small-bounds, capital-letter, capital-digit}
 use Rattle.message.specs.Grammar.{word, isCommand, isMiddle}
 

@@ -7,7 +7,7 @@ use mathlib.Core.Option.{Option, some, none}
 use lib.ListN.{length, take}
 use lib.Dec.{leb}
 use Rattle.octets.specs.Bytes.{isPlain, isNonSpace}
-use Rattle.octets.specs.Lists.{all, isNil}
+use Rattle.laws.specs.Lists.{all, isNil}
 use Rattle.message.specs.declared.Span.{Span}
 use Rattle.message.specs.declared.Message.{Message}
 use Rattle.message.specs.Grammar.{paramLimit, isCommand, isMiddle}

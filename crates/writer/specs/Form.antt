@@ -8,7 +8,7 @@ use lib.Dec.{eqb, leb}
 use Rattle.refusal.specs.Numbers.{accepted}
 use Rattle.refusal.specs.Rules.{firstOf}
 use Rattle.octets.specs.Bytes.{space, colon, isNonSpace, capital}
-use Rattle.octets.specs.Lists.{all, isNil, same, sameBy, startsWith}
+use Rattle.laws.specs.Lists.{all, isNil, same, sameBy, startsWith}
 use Rattle.message.specs.declared.Span.{Span}
 use Rattle.message.specs.declared.Message.{Message}
 use Rattle.message.specs.Grammar.{paramLimit}

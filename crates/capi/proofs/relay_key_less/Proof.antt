@@ -1,7 +1,7 @@
 -- `relay_key_less` meets its contract: each order is told as the definition tells it. Assumes nothing.
 use mathlib.Core.Path.{sym, ap, _∙_}
 use borrow.Author.Needs.{needs}
-use Rattle.octets.specs.Ascending.{isLess}
+use Rattle.octets.specs.Order.{isLess}
 use Rattle.capi.proofs.relay_key_less.Statement.{statement}
 use Rattle.capi.proofs.relay_key_less.Tie as tie
 

@@ -5,7 +5,7 @@ use lib.ListN.{length, take, drop}
 use borrow.Author.Needs.{needs}
 use borrow.Author.Tests.{le-leb, lt-leb, not-true, not-false}
 use Rattle.names.specs.Names.{isChannel}
-use Rattle.octets.proofs.Lists.{unmapped}
+use Rattle.laws.proofs.Lists.{unmapped}
 use Rattle.octets.proofs.Room.{part-front}
 use Rattle.channel.specs.declared.Record.{Record}
 use Rattle.channel.specs.Limits.{memberLimit}

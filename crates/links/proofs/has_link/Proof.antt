@@ -1,7 +1,7 @@
 -- `has_link` meets its contract: a shift and a mask take the bit out, and past the last link a set of 32 bits has none. Assumes nothing.
 use mathlib.Core.Path.{sym}
 use borrow.Author.Needs.{needs}
-use Rattle.octets.proofs.Bitwise.{bit-tested, bit-past}
+use Rattle.laws.proofs.Bitwise.{bit-tested, bit-past}
 use Rattle.links.specs.Links.{linkCount}
 use Rattle.links.proofs.has_link.Statement.{statement}
 use Rattle.links.proofs.has_link.Tie as tie

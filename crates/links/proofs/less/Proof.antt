@@ -3,8 +3,8 @@ use mathlib.Core.Path.{_≡_, sym, _∙_}
 use mathlib.Core.Bool.{true}
 use Prim.Native.Nat.{_<_}
 use borrow.Author.Needs.{needs}
-use Rattle.octets.specs.Bits.{hasBit}
-use Rattle.octets.proofs.Bitwise.{bit-below, bit-value, shifted-one}
+use Rattle.laws.specs.Bits.{hasBit}
+use Rattle.laws.proofs.Bitwise.{bit-below, bit-value, shifted-one}
 use Rattle.links.specs.Links.{linkCount}
 use Rattle.links.proofs.Sets.{less-in, less-out}
 use Rattle.links.proofs.less.Statement.{statement}

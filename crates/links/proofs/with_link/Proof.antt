@@ -3,7 +3,7 @@ use mathlib.Core.Path.{sym, ap, _∙_}
 use Prim.Native.Nat.{ℕ}
 use lib.Bits.{bitOr}
 use borrow.Author.Needs.{needs}
-use Rattle.octets.proofs.Bitwise.{shifted-one}
+use Rattle.laws.proofs.Bitwise.{shifted-one}
 use Rattle.links.specs.Links.{linkCount, links}
 use Rattle.links.proofs.Sets.{with-is, with-none}
 use Rattle.links.proofs.with_link.Statement.{statement}

@@ -6,7 +6,7 @@ use native.Mathlib.Omega.{arith}
 use lib.ListN.{length, getD}
 use borrow.Author.Needs.{needs}
 use Rattle.octets.specs.Room.{placeIn}
-use Rattle.octets.proofs.Lists.{getD-any}
+use Rattle.laws.proofs.Lists.{getD-any}
 use Rattle.message.specs.declared.Span.{Span}
 use Rattle.message.specs.declared.Message.{Message}
 use Rattle.message.specs.Grammar.{paramLimit}

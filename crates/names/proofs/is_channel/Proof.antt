@@ -8,7 +8,7 @@ use lib.ListN.{length, drop, getD}
 use borrow.Author.Needs.{needs}
 use borrow.Author.Tests.{eq-eqb, ne-eqb, le-leb, lt-leb}
 use Rattle.octets.specs.Bytes.{isNameByte}
-use Rattle.octets.specs.Lists.{all}
+use Rattle.laws.specs.Lists.{all}
 use Rattle.octets.proofs.Room.{part-back}
 use Rattle.names.specs.Names.{hash, nameLimit, isChannel}
 use Rattle.names.proofs.is_channel.Statement.{statement}

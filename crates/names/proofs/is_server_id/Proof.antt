@@ -7,7 +7,7 @@ use lib.ListN.{length, take}
 use borrow.Author.Needs.{needs}
 use borrow.Author.Tests.{eq-eqb, ne-eqb, not-true, not-false}
 use Rattle.octets.specs.Bytes.{isDigit, isIdByte}
-use Rattle.octets.specs.Lists.{all}
+use Rattle.laws.specs.Lists.{all}
 use Rattle.octets.proofs.Room.{part-front, part-back}
 use Rattle.names.specs.Names.{serverIdLength, isServerId}
 use Rattle.names.proofs.is_server_id.Statement.{statement}

@@ -4,7 +4,7 @@ use native.Mathlib.Omega.{arith}
 use lib.ListN.{length}
 use borrow.Author.Needs.{needs}
 use borrow.Author.Tests.{ne-eqb}
-use Rattle.octets.proofs.Lists.{padded-whole}
+use Rattle.laws.proofs.Lists.{padded-whole}
 use Rattle.names.specs.Names.{userIdLength, isUserId}
 use Rattle.names.proofs.is_user_id.Statement.{statement}
 use Rattle.names.proofs.is_user_id.Tie as tie

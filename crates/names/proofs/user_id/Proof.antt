@@ -5,8 +5,8 @@ use Prim.Native.Nat.{ℕ}
 use native.Mathlib.Omega.{arith}
 use lib.ListN.{length, take, length-take}
 use borrow.Author.Needs.{needs}
-use Rattle.octets.specs.Lists.{padded}
-use Rattle.octets.proofs.Lists.{padded-cut}
+use Rattle.laws.specs.Lists.{padded}
+use Rattle.laws.proofs.Lists.{padded-cut}
 use Rattle.octets.proofs.Room.{part-front, put-padded}
 use Rattle.names.specs.Names.{userIdLength}
 use Rattle.names.proofs.user_id.Statement.{statement}

@@ -6,8 +6,8 @@ use lib.ListN.{length, drop}
 use lib.Dec.{eqb}
 use borrow.Author.Needs.{needs}
 use Rattle.octets.specs.Bytes.{inClass}
-use Rattle.octets.specs.Lists.{all}
-use Rattle.octets.proofs.Bitwise.{or-step, or-past}
+use Rattle.laws.specs.Lists.{all}
+use Rattle.laws.proofs.Bitwise.{or-step, or-past}
 use Rattle.octets.proofs.all_in.Statement.{statement}
 use Rattle.octets.proofs.all_in.Tie as tie
 

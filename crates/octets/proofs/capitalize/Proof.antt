@@ -6,7 +6,7 @@ use native.Mathlib.Omega.{arith}
 use lib.ListN.{length, getD, length-set}
 use borrow.Author.Needs.{needs}
 use Rattle.octets.specs.Bytes.{capital}
-use Rattle.octets.proofs.Mapped.{mapped, mapped-none, mapped-at, mapped-step, mapped-all}
+use Rattle.laws.proofs.Mapped.{mapped, mapped-none, mapped-at, mapped-step, mapped-all}
 use Rattle.octets.proofs.capitalize.Statement.{statement}
 use Rattle.octets.proofs.capitalize.Tie as tie
 

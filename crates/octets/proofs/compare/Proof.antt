@@ -8,7 +8,7 @@ use lib.ListN.{length, drop, getD, drop-of-length-le}
 use borrow.Author.Needs.{needs}
 use Rattle.octets.specs.declared.Order.the-variants.{Less, Same, More}
 use Rattle.octets.specs.Order.{compare}
-use Rattle.octets.proofs.Lists.{drop-step}
+use Rattle.laws.proofs.Lists.{drop-step}
 use Rattle.octets.proofs.Ordered.{heads-same, heads-less, heads-more}
 use Rattle.octets.proofs.compare.Statement.{statement}
 use Rattle.octets.proofs.compare.Tie as tie

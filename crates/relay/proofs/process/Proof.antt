@@ -8,7 +8,7 @@ use borrow.Author.Needs.{needs}
 use Rattle.refusal.specs.Numbers.{accepted}
 use Rattle.refusal.specs.Rules.{firstOf}
 use Rattle.octets.specs.Room.{front}
-use Rattle.octets.proofs.Lists.{unmapped}
+use Rattle.laws.proofs.Lists.{unmapped}
 use Rattle.message.specs.Reading.{contentOf}
 use Rattle.channel.specs.Limits.{slotCount}
 use Rattle.table.specs.declared.Table.{Table}

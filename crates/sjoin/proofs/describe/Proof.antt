@@ -8,8 +8,8 @@ use borrow.Author.Needs.{needs}
 use denote.Struct.Struct.{Struct}
 use denote.Struct.Declared.{shape}
 use Rattle.octets.specs.Room.{putAt}
-use Rattle.octets.proofs.Elements.{each-at}
-use Rattle.octets.proofs.Lists.{unmapped}
+use Rattle.laws.proofs.Elements.{each-at}
+use Rattle.laws.proofs.Lists.{unmapped}
 use Rattle.octets.proofs.Room.{put-front}
 use Rattle.names.specs.Names.{nameLimit, userIdLength}
 use Rattle.channel.specs.declared.Member.{Member}

@@ -5,7 +5,7 @@ use Prim.Native.Nat.{ℕ, _≤_}
 use native.Mathlib.Omega.{arith}
 use lib.ListN.{length}
 use borrow.Author.Needs.{needs}
-use Rattle.octets.specs.Lists.{all}
+use Rattle.laws.specs.Lists.{all}
 use Rattle.channel.specs.Limits.{memberLimit}
 use Rattle.channel.specs.Members.{roster, ordered}
 use Rattle.message.specs.Reading.{contentOf}

@@ -9,8 +9,8 @@ use lib.ListN.{length, drop, getD, length-map}
 use borrow.Author.Needs.{needs}
 use denote.Struct.Struct.{Struct}
 use denote.Struct.Declared.{shape}
-use Rattle.octets.proofs.Elements.{each-at}
-use Rattle.octets.proofs.Lists.{unmapped, getD-any}
+use Rattle.laws.proofs.Elements.{each-at}
+use Rattle.laws.proofs.Lists.{unmapped, getD-any}
 use Rattle.names.specs.Fold.{sameName}
 use Rattle.names.proofs.Folds.{lengths-differ, name-past, name-stop, name-go}
 use Rattle.names.specs.Names.{nameLimit}

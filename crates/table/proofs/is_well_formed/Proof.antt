@@ -7,8 +7,8 @@ use native.Mathlib.Omega.{arith}
 use lib.ListN.{length, drop}
 use borrow.Author.Needs.{needs}
 use borrow.Author.Tests.{not-true, not-false}
-use Rattle.octets.specs.Lists.{all}
-use Rattle.octets.proofs.Lists.{all-past, all-stop, all-go, unmapped}
+use Rattle.laws.specs.Lists.{all}
+use Rattle.laws.proofs.Lists.{all-past, all-stop, all-go, unmapped}
 use Rattle.channel.specs.Limits.{slotCount}
 use Rattle.table.specs.Table.{goodSlot, distinct, goodTable}
 use Rattle.table.proofs.Pairs.{left, distinct-past, row-begins, row-ends, row-free, pair-alike, pair-unlike}

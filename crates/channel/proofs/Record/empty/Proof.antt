@@ -4,7 +4,7 @@ use mathlib.Core.List.{List}
 use lib.ListN.{replicate}
 use borrow.Author.Needs.{needs}
 use Rattle.names.specs.Names.{nameLimit}
-use Rattle.octets.specs.Lists.{padded}
+use Rattle.laws.specs.Lists.{padded}
 use Rattle.channel.specs.declared.Member.{Member}
 use Rattle.channel.specs.declared.Record.{Record}
 use Rattle.channel.specs.Limits.{keyLimit}

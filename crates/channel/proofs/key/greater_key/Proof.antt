@@ -2,7 +2,7 @@
 use mathlib.Core.Path.{_≡_, sym, ap, _∙_}
 use mathlib.Core.Bool.{Bool, true, false, cond}
 use borrow.Author.Needs.{needs}
-use Rattle.octets.specs.Ascending.{isLess}
+use Rattle.octets.specs.Order.{isLess}
 use Rattle.channel.proofs.key.greater_key.Statement.{statement}
 use Rattle.channel.proofs.key.greater_key.Tie as tie
 

@@ -8,7 +8,7 @@ use lib.ListN.{length, getD}
 use borrow.Author.Needs.{needs}
 use borrow.Author.Tests.{eq-eqb, ne-eqb, le-leb, lt-leb}
 use Rattle.octets.specs.Bytes.{colon, isKeyByte}
-use Rattle.octets.specs.Lists.{all, startsWith}
+use Rattle.laws.specs.Lists.{all, startsWith}
 use Rattle.channel.specs.Limits.{keyLimit}
 use Rattle.channel.specs.Key.{isKey}
 use Rattle.channel.proofs.key.is_key.Statement.{statement}

@@ -6,8 +6,8 @@ use native.Mathlib.Omega.{arith}
 use lib.ListN.{length, take, drop, length-take}
 use lib.Seq.{getD-take}
 use borrow.Author.Needs.{needs}
-use Rattle.octets.specs.Lists.{same}
-use Rattle.octets.proofs.Lists.{unmapped}
+use Rattle.laws.specs.Lists.{same}
+use Rattle.laws.proofs.Lists.{unmapped}
 use Rattle.channel.specs.declared.Member.{Member}
 use Rattle.channel.specs.Limits.{memberLimit}
 use Rattle.channel.specs.Members.{hasMember}

@@ -2,7 +2,7 @@
 use mathlib.Core.Path.{ap}
 use lib.ListN.{replicate}
 use borrow.Author.Needs.{needs}
-use Rattle.octets.specs.Lists.{padded}
+use Rattle.laws.specs.Lists.{padded}
 use Rattle.channel.specs.declared.Member.{Member}
 use Rattle.channel.specs.Limits.{memberLimit}
 use Rattle.channel.proofs.members.vacant.Statement.{statement}

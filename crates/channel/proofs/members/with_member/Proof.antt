@@ -6,7 +6,7 @@ use native.Mathlib.Omega.{arith}
 use lib.ListN.{take, drop}
 use borrow.Author.Needs.{needs}
 use borrow.Author.Tests.{not-true, not-false}
-use Rattle.octets.proofs.Ascends.{Above}
+use Rattle.ascending.proofs.Ascends.{Above}
 use Rattle.channel.specs.Channel.{byId}
 use Rattle.channel.proofs.Placing.{Shifted, nothing-moved, moved-on, put-first, put-behind, put-equal}
 use Rattle.channel.proofs.members.with_member.Statement.{statement}

@@ -8,11 +8,10 @@ use lib.ListN.{length, take, replicate, length-take}
 use lib.Seq.{sets-eq}
 use denote.Ref.{RefT, now}
 use borrow.Author.Needs.{needs}
-use Rattle.octets.specs.Lists.{padded}
-use Rattle.octets.specs.Order.{compare}
-use Rattle.octets.specs.Ascending.{isLess}
+use Rattle.laws.specs.Lists.{padded}
+use Rattle.octets.specs.Order.{compare, isLess}
 use Rattle.octets.specs.Room.{putAt, endOf}
-use Rattle.octets.proofs.Lists.{sets-padded}
+use Rattle.laws.proofs.Lists.{sets-padded}
 use Rattle.octets.proofs.Room.{part-front, put-fits, end-fits}
 use Rattle.channel.specs.declared.merging.Key.{Key}
 use Rattle.channel.specs.Limits.{keyLimit}

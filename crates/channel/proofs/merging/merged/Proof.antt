@@ -5,9 +5,9 @@ use Prim.Native.Nat.{_≤_}
 use native.Mathlib.Omega.{arith}
 use lib.ListN.{length, take}
 use borrow.Author.Needs.{needs}
-use Rattle.octets.specs.Ascending.{ascends}
-use Rattle.octets.proofs.Ascends.{ascends-passes}
-use Rattle.octets.proofs.Lists.{unmapped}
+use Rattle.ascending.specs.Ascending.{ascends}
+use Rattle.ascending.proofs.Ascends.{ascends-passes}
+use Rattle.laws.proofs.Lists.{unmapped}
 use Rattle.names.specs.Names.{nameLimit}
 use Rattle.channel.specs.declared.Record.{Record}
 use Rattle.channel.specs.Limits.{memberLimit}

@@ -7,7 +7,7 @@ use native.Mathlib.Omega.{arith}
 use lib.ListN.{length, drop}
 use borrow.Author.Needs.{needs}
 use borrow.Author.Tests.{ltb-true, ltb-false}
-use Rattle.octets.specs.Ascending.{unite}
+use Rattle.ascending.specs.Ascending.{unite}
 use Rattle.channel.specs.Limits.{memberLimit}
 use Rattle.channel.specs.Channel.{byId}
 use Rattle.channel.specs.Record.{nobody}

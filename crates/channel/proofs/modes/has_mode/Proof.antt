@@ -1,7 +1,7 @@
 -- `has_mode` meets its contract: a shift and a mask take the bit out, and past the eighth place a byte has none. Assumes nothing.
 use mathlib.Core.Path.{sym}
 use borrow.Author.Needs.{needs}
-use Rattle.octets.proofs.Bitwise.{bit-tested, bit-past}
+use Rattle.laws.proofs.Bitwise.{bit-tested, bit-past}
 use Rattle.channel.specs.Modes.{modeCount}
 use Rattle.channel.proofs.modes.has_mode.Statement.{statement}
 use Rattle.channel.proofs.modes.has_mode.Tie as tie

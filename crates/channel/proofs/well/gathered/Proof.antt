@@ -5,8 +5,8 @@ use mathlib.Core.Bool.{_&&_}
 use Prim.Native.Nat.{_-_}
 use lib.ListN.{length, drop}
 use borrow.Author.Needs.{needs}
-use Rattle.octets.specs.Lists.{all}
-use Rattle.octets.proofs.Bitwise.{or-step, or-past}
+use Rattle.laws.specs.Lists.{all}
+use Rattle.laws.proofs.Bitwise.{or-step, or-past}
 use Rattle.channel.specs.WellFormed.{isZero}
 use Rattle.channel.proofs.well.gathered.Statement.{statement}
 use Rattle.channel.proofs.well.gathered.Tie as tie

@@ -6,7 +6,7 @@ use Prim.Native.Nat.{ℕ}
 use lib.ListN.{length}
 use borrow.Author.Needs.{needs}
 use borrow.Author.Tests.{eq-eqb, ne-eqb, not-true, not-false}
-use Rattle.octets.proofs.Lists.{nil-length}
+use Rattle.laws.proofs.Lists.{nil-length}
 use Rattle.channel.specs.Modes.{hasMode, keyMode}
 use Rattle.channel.specs.Key.{isKey}
 use Rattle.channel.specs.WellFormed.{goodKey}

@@ -9,10 +9,10 @@ use lib.Seq.{length-take-le}
 use lib.Dec.{leb}
 use borrow.Author.Needs.{needs}
 use borrow.Author.Tests.{le-leb, lt-leb, not-true, not-false}
-use Rattle.octets.specs.Lists.{all}
-use Rattle.octets.specs.Order.{compare}
-use Rattle.octets.specs.Ascending.{isLess, ascends}
-use Rattle.octets.proofs.Lists.{all-past}
+use Rattle.laws.specs.Lists.{all}
+use Rattle.octets.specs.Order.{compare, isLess}
+use Rattle.ascending.specs.Ascending.{ascends}
+use Rattle.laws.proofs.Lists.{all-past}
 use Rattle.channel.specs.declared.Member.{Member}
 use Rattle.channel.specs.Channel.{byId}
 use Rattle.channel.specs.WellFormed.{goodMember}

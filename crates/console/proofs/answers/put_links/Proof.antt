@@ -4,7 +4,7 @@ use mathlib.Core.List.{map}
 use native.Mathlib.Omega.{arith}
 use borrow.Author.Needs.{needs}
 use Rattle.octets.specs.Bytes.{comma}
-use Rattle.octets.specs.Lists.{prefixed}
+use Rattle.laws.specs.Lists.{prefixed}
 use Rattle.octets.specs.Decimals.{digitsOf}
 use Rattle.octets.proofs.Room.{Begun, begun, begun-step, begun-end}
 use Rattle.links.specs.Links.{linkCount, linksIn}

@@ -4,7 +4,7 @@ use mathlib.Core.Path.{ap, _∙_}
 use mathlib.Core.Bool.{cond}
 use mathlib.Core.List.{List as ListOf}
 use borrow.Author.Needs.{needs}
-use Rattle.octets.specs.Lists.{isNil}
+use Rattle.laws.specs.Lists.{isNil}
 use Rattle.console.specs.declared.requests.Request.the-variants.{Register, Unregister, List, Unknown}
 use Rattle.console.specs.Requests.{ended, linkIn, numbered}
 use Rattle.console.proofs.Asking.{asks-nothing, asks-register, asks-unregister, asks-list, asks-line}

@@ -6,7 +6,7 @@ use Prim.Native.Nat.{ℕ}
 use native.Mathlib.Omega.{arith}
 use lib.Dec.{eqb}
 use lib.ListN.{length, getD}
-use Rattle.octets.specs.Lists.{startsWith}
+use Rattle.laws.specs.Lists.{startsWith}
 use Rattle.message.specs.Grammar.{hasPrefix}
 use borrow.Author.Needs.{needs}
 use Rattle.message.proofs.scan.has_prefix.Statement.{statement}

@@ -5,7 +5,7 @@ use Prim.Native.Nat.{_≤_}
 use lib.ListN.{length}
 use native.Mathlib.Omega.{arith}
 use lib.Seq.{set-out}
-use Rattle.octets.proofs.Lists.{unmapped}
+use Rattle.laws.proofs.Lists.{unmapped}
 use Rattle.message.specs.Grammar.{paramLimit}
 use Rattle.message.specs.Scan.{withParam}
 use Rattle.message.proofs.scan.with_param.Statement.{statement}

@@ -6,8 +6,7 @@ use native.Mathlib.Omega.{arith}
 use lib.ListN.{drop, getD, length}
 use lib.Dec.{eqb, ltb}
 use borrow.Author.Needs.{needs}
-use Rattle.octets.specs.Order.{compare}
-use Rattle.octets.specs.Ascending.{isLess}
+use Rattle.octets.specs.Order.{compare, isLess}
 use Rattle.names.specs.Names.{userIdLength}
 use Rattle.names.proofs.Places.{less-at, less-past}
 use Rattle.names.proofs.ids.is_before.Statement.{statement}

@@ -4,7 +4,7 @@ use Prim.Native.Nat.{ℕ, _+_, _-_, _≤_, _<_}
 use native.Mathlib.Omega.{arith}
 use lib.ListN.{drop, getD, length}
 use borrow.Author.Needs.{needs}
-use Rattle.octets.specs.Lists.{same}
+use Rattle.laws.specs.Lists.{same}
 use Rattle.names.specs.Names.{userIdLength}
 use Rattle.names.proofs.Places.{same-go, same-stop, same-past}
 use Rattle.names.proofs.ids.is_same.Statement.{statement}

@@ -7,8 +7,8 @@ use lib.ListN.{drop}
 use lib.Dec.{eqb}
 use borrow.Author.Needs.{needs}
 use Rattle.octets.specs.Bytes.{isIdByte}
-use Rattle.octets.specs.Lists.{all}
-use Rattle.octets.proofs.Bitwise.{or-step, or-past}
+use Rattle.laws.specs.Lists.{all}
+use Rattle.laws.proofs.Bitwise.{or-step, or-past}
 use Rattle.names.specs.Names.{userIdLength}
 use Rattle.names.proofs.ids.odd_bytes.Statement.{statement}
 use Rattle.names.proofs.ids.odd_bytes.Tie as tie

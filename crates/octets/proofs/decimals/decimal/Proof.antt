@@ -5,9 +5,9 @@ use lib.ListN.{length}
 use borrow.Author.Needs.{needs}
 use borrow.Author.Tests.{eq-eqb, ne-eqb, not-true, not-false}
 use Rattle.octets.specs.Bytes.{isDigit}
-use Rattle.octets.specs.Lists.{all, isNil}
+use Rattle.laws.specs.Lists.{all, isNil}
 use Rattle.octets.specs.Decimals.{leadsWithZero, isDecimal, decimalUpTo}
-use Rattle.octets.proofs.Lists.{nil-length}
+use Rattle.laws.proofs.Lists.{nil-length}
 use Rattle.octets.proofs.decimals.decimal.Statement.{statement}
 use Rattle.octets.proofs.decimals.decimal.Tie as tie
 

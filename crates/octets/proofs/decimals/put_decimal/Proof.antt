@@ -9,7 +9,7 @@ use lib.Seq.{append-snoc, getD-set-same, drop-set-lt, take-all}
 use borrow.Author.Needs.{needs}
 use Rattle.octets.specs.Room.{putAt, endOf}
 use Rattle.octets.specs.Decimals.{digit, digitsOf}
-use Rattle.octets.proofs.Lists.{drop-step}
+use Rattle.laws.proofs.Lists.{drop-step}
 use Rattle.octets.proofs.Digits.{digits-one, digits-more, digits-some, digits-ten}
 use Rattle.octets.proofs.decimals.put_decimal.Statement.{statement}
 use Rattle.octets.proofs.decimals.put_decimal.Tie as tie

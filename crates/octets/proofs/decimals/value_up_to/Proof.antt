@@ -8,7 +8,7 @@ use lib.ListN.{length, drop, getD, drop-of-length-le}
 use Rattle.octets.specs.declared.Decimal.the-variants.{Value}
 use Rattle.octets.specs.Bytes.{isDigit}
 use Rattle.octets.specs.Decimals.{zeroDigit, valueFrom, valueOf}
-use Rattle.octets.proofs.Lists.{drop-step, all-at}
+use Rattle.laws.proofs.Lists.{drop-step, all-at}
 use Rattle.octets.proofs.Digits.{digit-bounds, value-from-le, value-in, value-over}
 use Rattle.octets.proofs.decimals.value_up_to.Statement.{statement}
 use Rattle.octets.proofs.decimals.value_up_to.Tie as tie

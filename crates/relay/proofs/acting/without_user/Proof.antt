@@ -4,8 +4,8 @@ use Prim.Native.Nat.{_-_, _≤_}
 use native.Mathlib.Omega.{arith}
 use lib.ListN.{length}
 use borrow.Author.Needs.{needs}
-use Rattle.octets.proofs.Lists.{unmapped}
-use Rattle.octets.proofs.Mapped.{mapped, mapped-none, mapped-step, mapped-all}
+use Rattle.laws.proofs.Lists.{unmapped}
+use Rattle.laws.proofs.Mapped.{mapped, mapped-none, mapped-step, mapped-all}
 use Rattle.channel.specs.Limits.{slotCount}
 use Rattle.channel.specs.Members.{without}
 use Rattle.channel.proofs.Removals.{without-free}

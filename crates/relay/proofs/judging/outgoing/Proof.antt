@@ -2,7 +2,7 @@
 use mathlib.Core.Path.{refl}
 use borrow.Author.Needs.{needs}
 use borrow.Author.Tests.{eq-eqb, ne-eqb}
-use Rattle.octets.proofs.Lists.{take-map}
+use Rattle.laws.proofs.Lists.{take-map}
 use Rattle.channel.specs.Record.{decode}
 use Rattle.channel.specs.Merging.{stands, standing, bare}
 use Rattle.relay.specs.Relay.{outgoing}

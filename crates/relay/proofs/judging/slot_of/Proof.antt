@@ -3,7 +3,7 @@ use mathlib.Core.Path.{_≡_, sym, ap, _∙_}
 use native.Mathlib.Omega.{arith}
 use lib.ListN.{length}
 use borrow.Author.Needs.{needs}
-use Rattle.octets.proofs.Lists.{unmapped}
+use Rattle.laws.proofs.Lists.{unmapped}
 use Rattle.channel.specs.Limits.{slotCount}
 use Rattle.channel.specs.Record.{decode}
 use Rattle.channel.proofs.Decoded.{decoded-name}

@@ -5,7 +5,7 @@ use Prim.Native.Nat.{ℕ}
 use lib.ListN.{length}
 use borrow.Author.Needs.{needs}
 use Rattle.octets.specs.Room.{part}
-use Rattle.octets.proofs.Lists.{take-padded}
+use Rattle.laws.proofs.Lists.{take-padded}
 use Rattle.octets.proofs.Room.{part-front, put-padded}
 use Rattle.names.specs.Names.{nameLimit}
 use Rattle.channel.proofs.Decoded.{decoded-name}

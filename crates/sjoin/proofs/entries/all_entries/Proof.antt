@@ -6,7 +6,7 @@ use native.Mathlib.Omega.{arith}
 use lib.ListN.{length}
 use borrow.Author.Needs.{needs}
 use borrow.Author.Tests.{not-true, not-false}
-use Rattle.octets.specs.Lists.{all}
+use Rattle.laws.specs.Lists.{all}
 use Rattle.message.specs.Words.{wordsOf}
 use Rattle.message.proofs.Splits.{wordsFrom, words-past, next-none, next-one, next-in, next-further}
 use Rattle.sjoin.specs.Entries.{isEntry}

@@ -3,7 +3,7 @@ use mathlib.Core.Path.{_≡_, sym}
 use mathlib.Core.Bool.{false}
 use native.Mathlib.Omega.{arith}
 use borrow.Author.Needs.{needs}
-use Rattle.octets.specs.Lists.{isNil}
+use Rattle.laws.specs.Lists.{isNil}
 use Rattle.message.specs.Words.{wordsOf}
 use Rattle.message.proofs.Splits.{next-none, next-one}
 use Rattle.sjoin.specs.Entries.{goodEntries}

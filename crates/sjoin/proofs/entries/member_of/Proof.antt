@@ -1,8 +1,8 @@
 -- `member_of` meets its contract: the id, held whole, and the status. Assumes nothing.
 use mathlib.Core.Path.{ap, _∙_}
 use borrow.Author.Needs.{needs}
-use Rattle.octets.specs.Lists.{padded}
-use Rattle.octets.proofs.Lists.{padded-whole}
+use Rattle.laws.specs.Lists.{padded}
+use Rattle.laws.proofs.Lists.{padded-whole}
 use Rattle.names.specs.Names.{userIdLength}
 use Rattle.sjoin.specs.Entries.{idOf, memberOf}
 use Rattle.sjoin.proofs.Listed.{entry-long}

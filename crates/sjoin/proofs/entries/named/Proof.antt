@@ -8,9 +8,9 @@ use native.Mathlib.Omega.{arith}
 use lib.ListN.{length, take, drop, length-map, length-drop}
 use lib.Seq.{take-all}
 use borrow.Author.Needs.{needs}
-use Rattle.octets.specs.Lists.{all}
+use Rattle.laws.specs.Lists.{all}
 use Rattle.octets.specs.Room.{part}
-use Rattle.octets.proofs.Lists.{drop-inside, drop-next, take-next, all-head, all-tail}
+use Rattle.laws.proofs.Lists.{drop-inside, drop-next, take-next, all-head, all-tail}
 use Rattle.channel.specs.declared.Member.{Member}
 use Rattle.channel.specs.declared.Roster.{Roster}
 use Rattle.channel.specs.Limits.{memberLimit}

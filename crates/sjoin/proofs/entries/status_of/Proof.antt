@@ -4,7 +4,7 @@ use mathlib.Core.Bool.{Bool, cond}
 use mathlib.Core.List.{List}
 use Prim.Native.Nat.{ℕ, _+_}
 use borrow.Author.Needs.{needs}
-use Rattle.octets.specs.Lists.{startsWith}
+use Rattle.laws.specs.Lists.{startsWith}
 use Rattle.sjoin.specs.Modes.{plus}
 use Rattle.sjoin.specs.Entries.{at, voice, operator, past, statusOf}
 use Rattle.sjoin.proofs.entries.status_of.Statement.{statement}

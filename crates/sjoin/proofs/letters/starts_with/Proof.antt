@@ -7,7 +7,7 @@ use native.Mathlib.Omega.{arith}
 use lib.ListN.{length, getD}
 use lib.Dec.{eqb}
 use borrow.Author.Needs.{needs}
-use Rattle.octets.specs.Lists.{startsWith}
+use Rattle.laws.specs.Lists.{startsWith}
 use Rattle.sjoin.proofs.letters.starts_with.Statement.{statement}
 use Rattle.sjoin.proofs.letters.starts_with.Tie as tie
 

@@ -5,7 +5,7 @@ use native.Mathlib.Omega.{arith}
 use lib.ListN.{length, drop}
 use borrow.Author.Needs.{needs}
 use borrow.Author.Tests.{eq-eqb, ne-eqb}
-use Rattle.octets.proofs.Lists.{unmapped}
+use Rattle.laws.proofs.Lists.{unmapped}
 use Rattle.channel.specs.Limits.{slotCount}
 use Rattle.table.specs.Table.{isFree}
 use Rattle.table.specs.Slots.{firstAt}

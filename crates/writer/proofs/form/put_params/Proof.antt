@@ -5,7 +5,7 @@ use Prim.Native.Nat.{_-_, _≤_}
 use native.Mathlib.Omega.{arith}
 use lib.ListN.{length, take, drop, drop-of-length-le, length-take}
 use borrow.Author.Needs.{needs}
-use Rattle.octets.proofs.Lists.{unmapped}
+use Rattle.laws.proofs.Lists.{unmapped}
 use Rattle.octets.proofs.Room.{Begun, begun, begun-step, begun-end}
 use Rattle.message.specs.Grammar.{paramLimit}
 use Rattle.message.specs.Parts.{bytesAt}

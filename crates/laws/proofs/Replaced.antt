@@ -4,8 +4,8 @@ use mathlib.Core.Bool.{Bool, true}
 use mathlib.Core.List.{List, [], _∷_}
 use Prim.Native.Nat.{ℕ, zero, suc}
 use lib.ListN.{set}
-use Rattle.octets.specs.Lists.{all}
-use Rattle.octets.proofs.Lists.{all-head, all-tail, all-cons}
+use Rattle.laws.specs.Lists.{all}
+use Rattle.laws.proofs.Lists.{all-head, all-tail, all-cons}
 
 pub all-set : {A : Type 0} (p : A → Bool) (l : List A) (k : ℕ) (x : A) → all p l ≡ true → p x ≡ true → all p (set l k x) ≡ true
 all-set p [] k x h e = h

@@ -7,16 +7,16 @@ use mathlib.Core.List.{List, [], _∷_, _++_}
 use native.Mathlib.Numerals.{add-one}
 use native.Mathlib.Omega.{arith}
 use lib.ListN.{length, take, drop, getD}
 use Rattle.octets.specs.declared.Order.{Order}
 use Rattle.octets.specs.declared.Order.the-variants.{Less, Same, More}
-use Rattle.octets.specs.Order.{compare}
-use Rattle.octets.specs.Lists.{all, isNil, same}
-use Rattle.octets.specs.Ascending.{Kind, isLess, insert, put, unite, ascends}
-use Rattle.octets.proofs.Bools.{and-left, and-right}
-use Rattle.octets.proofs.Lists.{all-head, all-tail, all-cons}
+use Rattle.octets.specs.Order.{compare, isLess}
+use Rattle.laws.specs.Lists.{all, isNil, same}
+use Rattle.ascending.specs.Ascending.{Kind, insert, put, unite, ascends}
+use Rattle.laws.proofs.Bools.{and-left, and-right}
+use Rattle.laws.proofs.Lists.{all-head, all-tail, all-cons}
 use Rattle.octets.proofs.Bytes.{same-refl}
 use Rattle.octets.proofs.Ordered.{Below, compare-refl, compare-same, compare-trans, below-more, more-below}
-use Rattle.octets.proofs.Joins.{Joining}
+use Rattle.laws.proofs.Joins.{Joining}
 
 -- The parts of an entry fit together.
 pub record Keyed {E P : Type 0} (K : Kind E P) : Type 0 where
@@ -47,6 +47,14 @@ module _ {E P : Type 0} (K : Kind E P) where
   -- d's key with the load of e joined to its own
   abbrev pub joined : E → E → E
   joined e d = K .make (K .key d) (K .join (K .load e) (K .load d))
+
+-- A kind that keeps a key where two loads of it are joined: all that order asks. One whose load has the key in it, as the spelling of a mask its fold, is of
+-- this sort, and is not `Keyed`.
+pub record Stays {E P : Type 0} (K : Kind E P) : Type 0 where
+  pub stays : (e d : E) → K .key e ≡ K .key d → K .key (joined K e d) ≡ K .key d
+
+pub keyed-stays : {E P : Type 0} (K : Kind E P) → Keyed K → Stays K
+keyed-stays K M = record { stays = λ e d h. M .key-made (K .key d) (K .join (K .load e) (K .load d)) }
 
 -- ---- an entry put in its place
 module _ {E P : Type 0} (K : Kind E P) where
@@ -135,11 +143,9 @@ module _ {E P : Type 0} (K : Kind E P) where
     unfolding unite
     unite-more p = ap (λ (l : List E). unite K l b) (put-less K y x a p) ∙ unite-past y (x ∷ a) b (h .0)
 
-    pub unite-same : Keyed K → K .key x ≡ K .key y → unite K (x ∷ a) (y ∷ b) ≡ joined K y x ∷ unite K a b
+    pub unite-same : Stays K → K .key x ≡ K .key y → unite K (x ∷ a) (y ∷ b) ≡ joined K y x ∷ unite K a b
     unfolding unite
-    unite-same M p =
-        ap (λ (l : List E). unite K l b) (put-same K y x a (sym p))
-        ∙ unite-past (joined K y x) a b (rw (M .key-made (K .key x) (K .join (K .load y) (K .load x)), p) (h .0))
+    unite-same S p = ap (λ (l : List E). unite K l b) (put-same K y x a (sym p)) ∙ unite-past (joined K y x) a b (rw (S .stays y x (sym p), p) (h .0))
 
   pub unite-append : (a b c : List E) → unite K a (b ++ c) ≡ unite K (unite K a b) c
   unfolding unite
@@ -179,7 +185,7 @@ module _ {E P : Type 0} (K : Kind E P) where
 
 -- ---- how many
 module _ {E P : Type 0} (K : Kind E P) where
-  length-put : (e : E) (l : List E) → length l ≤ length (put K e l)
+  pub length-put : (e : E) (l : List E) → length l ≤ length (put K e l)
   unfolding put insert
   length-put e [] = omega arith
   length-put e (d ∷ l) = go (compare (K .key e) (K .key d)) (length-put e l)
@@ -227,7 +233,7 @@ module _ {E P : Type 0} (K : Kind E P) where
 
 -- ---- what holds of entries holds of those that are joined from them
 module _ {E P : Type 0} (K : Kind E P) (p : E → Bool) (add : (e d : E) → p e ≡ true → p d ≡ true → p (joined K e d) ≡ true) where
-  all-put : (e : E) (l : List E) → p e ≡ true → all p l ≡ true → all p (put K e l) ≡ true
+  pub all-put : (e : E) (l : List E) → p e ≡ true → all p l ≡ true → all p (put K e l) ≡ true
   unfolding put insert
   all-put e [] h k = all-cons p e [] h k
   all-put e (d ∷ l) h k = go (compare (K .key e) (K .key d)) (all-put e l h (all-tail p d l k))
@@ -242,17 +248,17 @@ module _ {E P : Type 0} (K : Kind E P) (p : E → Bool) (add : (e d : E) → p e
   all-unite a [] h k = h
   all-unite a (e ∷ b) h k = all-unite (put K e a) b (all-put e a (all-head p e b k) h) (all-tail p e b k)
 
--- ---- kinds whose parts fit together
-module _ {E P : Type 0} (K : Kind E P) (M : Keyed K) where
+-- ---- ascending lists stay so
+module _ {E P : Type 0} (K : Kind E P) (S : Stays K) where
   above-put : (x : List ℕ) (e : E) (l : List E) → Below x (K .key e) → Above K x l → Above K x (put K e l)
   unfolding put insert
   above-put x e [] p h = (p, tt)
-  above-put x e (d ∷ l) p h = go (compare (K .key e) (K .key d)) (above-put x e l p (h .1))
+  above-put x e (d ∷ l) p h = go (compare (K .key e) (K .key d)) refl (above-put x e l p (h .1))
     where
-      go : (o : Order) → Above K x (put K e l) → Above K x (insert K o e d l (put K e l))
-      go Less k = (p, h)
-      go Same k = (rw (M .key-made (K .key d) (K .join (K .load e) (K .load d))) (h .0), h .1)
-      go More k = (h .0, k)
+      go : (o : Order) → compare (K .key e) (K .key d) ≡ o → Above K x (put K e l) → Above K x (insert K o e d l (put K e l))
+      go Less q k = (p, h)
+      go Same q k = (rw (S .stays e d (compare-same (K .key e) (K .key d) q)) (h .0), h .1)
+      go More q k = (h .0, k)
 
   pub ascending-put : (e : E) (l : List E) → Ascending K l → Ascending K (put K e l)
   unfolding put insert
@@ -261,7 +267,7 @@ module _ {E P : Type 0} (K : Kind E P) (M : Keyed K) where
     where
       go : (o : Order) → compare (K .key e) (K .key d) ≡ o → Ascending K (put K e l) → Ascending K (insert K o e d l (put K e l))
       go Less p k = ((p, above-trans K (K .key e) (K .key d) l p (h .0)), h)
-      go Same p k = (rw (M .key-made (K .key d) (K .join (K .load e) (K .load d))) (h .0), h .1)
+      go Same p k = (rw (S .stays e d (compare-same (K .key e) (K .key d) p)) (h .0), h .1)
       go More p k = (above-put (K .key d) e l (more-below (K .key e) (K .key d) p) (h .0), k)
 
   pub ascending-unite : (a b : List E) → Ascending K a → Ascending K (unite K a b)

@@ -6,7 +6,7 @@ use native.Mathlib.Numerals.{add-one}
 use native.Mathlib.Omega.{arith}
 use lib.ListN.{length, take, drop, getD, set, length-map, drop-of-length-le}
 use lib.Seq.{set-at, take-suc, take-all, append-snoc, getD-at, length-take-le}
-use Rattle.octets.proofs.Lists.{drop-step}
+use Rattle.laws.proofs.Lists.{drop-step}
 
 module _ {A : Type 0} (f : A → A) where
   unfoldable pub mapped : List A → ℕ → List A

@@ -9,8 +9,8 @@ use lib.ListN.{length, take, drop, getD, set, replicate, drop-of-length-le, leng
 use lib.Seq.{take-suc, drop-cons, take-append-le, drop-append-le, take-append-seam, length-take-le, take-take, getD-take, getD-drop, ext-getD, sets}
 use lib.Dec.{eqb, ltb}
 use borrow.Author.Tests.{ne-eqb, ltb-true, ltb-false}
-use Rattle.octets.specs.Lists.{all, isNil, sameBy, padded}
-use Rattle.octets.proofs.Bools.{and-left, and-right, and-intro}
+use Rattle.laws.specs.Lists.{all, isNil, sameBy, padded}
+use Rattle.laws.proofs.Bools.{and-left, and-right, and-intro}
 
 -- ---- a list at a place
 module _ {A : Type 0} where

@@ -5,16 +5,16 @@ use mathlib.Core.Path.{_≡_, refl, sym, ap, ap₂, _∙_}
 use mathlib.Core.Bool.{Bool, true, false, _||_, cond, or-self, true≢false}
 use mathlib.Core.List.{List, [], _∷_, map, nil≢cons, cons≢nil, head-eq-of-cons-eq, tail-eq-of-cons-eq}
 use lib.ListN.{length, length-map}
 use Rattle.octets.specs.declared.Order.{Order}
 use Rattle.octets.specs.declared.Order.the-variants.{Less, Same, More}
 use Rattle.octets.specs.Order.{compare}
-use Rattle.octets.specs.Lists.{same}
-use Rattle.octets.specs.Joins.{total}
-use Rattle.octets.specs.Ascending.{Kind, insert, put, unite}
+use Rattle.laws.specs.Lists.{same}
+use Rattle.laws.specs.Joins.{total}
+use Rattle.ascending.specs.Ascending.{Kind, insert, put, unite}
 use Rattle.octets.proofs.Bytes.{same-refl, same-true}
 use Rattle.octets.proofs.Ordered.{compare-same, more-below, below-same}
-use Rattle.octets.proofs.Joins.{Joining, join-none, join-left, joining-or}
-use Rattle.octets.proofs.Ascends.{Keyed, Lawful, Above, Ascending, above-trans, ascending-unite}
+use Rattle.laws.proofs.Joins.{Joining, join-none, join-left, joining-or}
+use Rattle.ascending.proofs.Ascends.{Keyed, Lawful, Stays, Above, Ascending, joined, keyed-stays, above-trans, ascending-unite}
 
 module _ {E P : Type 0} (K : Kind E P) where
   -- an entry has the key x
@@ -44,17 +44,17 @@ module _ {E P : Type 0} (K : Kind E P) where
         go true e = above-none l (rw (same-true x (K .key d) e) h)
         go false e = rw (off d e) (sym (J .unit _))
 
-  head-has : (d : E) (l : List E) → has K (K .key d) (d ∷ l) ≡ true
+  pub head-has : (d : E) (l : List E) → has K (K .key d) (d ∷ l) ≡ true
   head-has d l = rw (same-refl (K .key d))
 
-  above-has : (x : List ℕ) (l : List E) → Above K x l → has K x l ≡ false
+  pub above-has : (x : List ℕ) (l : List E) → Above K x l → has K x l ≡ false
   above-has x l = above-none _||_ false joining-or x (λ e. same x (K .key e)) (λ e k. k) l
 
   tail-has : (d : E) (l : List E) → Above K (K .key d) l → (x : List ℕ) → has K x l ≡ cond (same x (K .key d)) false (has K x (d ∷ l))
   tail-has d l h x = tail-total _||_ false joining-or x (λ e. same x (K .key e)) (λ e k. k) d l h
 
   -- two that have the same keys have them at the same places
-  same-keys : (a b : List E) → Ascending K a → Ascending K b → ((x : List ℕ) → has K x a ≡ has K x b) → map (K .key) a ≡ map (K .key) b
+  pub same-keys : (a b : List E) → Ascending K a → Ascending K b → ((x : List ℕ) → has K x a ≡ has K x b) → map (K .key) a ≡ map (K .key) b
   same-keys [] [] p q h = refl
   same-keys [] (e ∷ b) p q h = absurd (true≢false (sym (head-has e b) ∙ sym (h (K .key e))))
   same-keys (d ∷ a) [] p q h = absurd (true≢false (sym (head-has d a) ∙ h (K .key d)))
@@ -75,11 +75,10 @@ module _ {E P : Type 0} (K : Kind E P) where
   pub same-length : (a b : List E) → Ascending K a → Ascending K b → ((x : List ℕ) → has K x a ≡ has K x b) → length a ≡ length b
   same-length a b p q h = sym (length-map a _) ∙ ap length (same-keys a b p q h) ∙ length-map b _
 
--- ---- kinds whose parts fit together
-module _ {E P : Type 0} (K : Kind E P) (M : Keyed K) where
-  -- totals of what each entry gives, where an entry of joined loads gives what the two give
+-- ---- totals of what each entry gives, where an entry of joined loads gives what the two give
+module _ {E P : Type 0} (K : Kind E P) where
   module _ {A : Type 0} (join : A → A → A) (nil : A) (J : Joining join nil) (f : E → A)
-      (add : (k : List ℕ) (p q : P) → f (K .make k (K .join p q)) ≡ join (f (K .make k p)) (f (K .make k q))) where
+      (add : (e d : E) → K .key e ≡ K .key d → f (joined K e d) ≡ join (f e) (f d)) where
     total-put : (e : E) (l : List E) → total join nil f (put K e l) ≡ join (f e) (total join nil f l)
     unfolding put insert
     total-put e [] = refl
@@ -88,9 +87,7 @@ module _ {E P : Type 0} (K : Kind E P) (M : Keyed K) where
         go : (o : Order) → compare (K .key e) (K .key d) ≡ o → total join nil f (put K e l) ≡ join (f e) (total join nil f l)
             → total join nil f (insert K o e d l (put K e l)) ≡ join (f e) (join (f d) (total join nil f l))
         go Less p ih = refl
-        go Same p ih =
-            let s : f (K .make (K .key d) (K .load e)) ≡ f e = rw (← compare-same (K .key e) (K .key d) p) (ap f (M .made e)) in
-            rw (add (K .key d) (K .load e) (K .load d), s, M .made d) (J .assoc _ _ _)
+        go Same p ih = rw (add e d (compare-same (K .key e) (K .key d) p)) (J .assoc _ _ _)
         go More p ih = ap (join (f d)) ih ∙ join-left join nil J (f d) (f e) (total join nil f l)
 
     total-unite : (a b : List E) → total join nil f (unite K a b) ≡ join (total join nil f a) (total join nil f b)
@@ -98,11 +95,19 @@ module _ {E P : Type 0} (K : Kind E P) (M : Keyed K) where
     total-unite a [] = sym (join-none join nil J _)
     total-unite a (e ∷ b) = total-unite (put K e a) b ∙ ap (λ (y : A). join y (total join nil f b)) (total-put e a ∙ J .comm _ _) ∙ J .assoc _ _ _
 
-  pub has-unite : (x : List ℕ) (a b : List E) → has K x (unite K a b) ≡ (has K x a || has K x b)
-  has-unite x =
-      total-unite _||_ false joining-or (λ e. same x (K .key e))
-      (λ k p q. rw (M .key-made k p, M .key-made k q, M .key-made k (K .join p q)) (sym (or-self (same x k))))
+-- ---- kinds that keep a key where two loads of it are joined
+module _ {E P : Type 0} (K : Kind E P) (S : Stays K) where
+  has-joined : (x : List ℕ) (e d : E) → K .key e ≡ K .key d → same x (K .key (joined K e d)) ≡ (same x (K .key e) || same x (K .key d))
+  has-joined x e d h = rw (S .stays e d h, h) (sym (or-self (same x (K .key d))))
 
+  pub has-put : (x : List ℕ) (e : E) (l : List E) → has K x (put K e l) ≡ (same x (K .key e) || has K x l)
+  has-put x = total-put K _||_ false joining-or (λ e. same x (K .key e)) (has-joined x)
+
+  pub has-unite : (x : List ℕ) (a b : List E) → has K x (unite K a b) ≡ (has K x a || has K x b)
+  has-unite x = total-unite K _||_ false joining-or (λ e. same x (K .key e)) (has-joined x)
+
+-- ---- kinds whose parts fit together
+module _ {E P : Type 0} (K : Kind E P) (M : Keyed K) where
   -- the same keys with other loads
   above-restated : (x : List ℕ) (f : List ℕ → P) (l : List E) → Above K x l → Above K x (restated K f l)
   above-restated x f [] h = tt
@@ -120,9 +125,9 @@ module _ {E P : Type 0} (K : Kind E P) (M : Keyed K) where
 module _ {E P : Type 0} (K : Kind E P) (none : P) (L : Lawful K none) where
   pub content-unite : (x : List ℕ) (a b : List E) → content K none x (unite K a b) ≡ K .join (content K none x a) (content K none x b)
   content-unite x =
-      total-unite K (L .keyed) (K .join) none (L .joining) (λ e. cond (same x (K .key e)) (K .load e) none)
-      (λ k p q. rw (L .keyed .key-made k p, L .keyed .key-made k q, L .keyed .key-made k (K .join p q), L .keyed .load-made k p, L .keyed .load-made k q, L .keyed .load-made k (K .join p q))
-      (elim (same x k) as (λ t. cond t (K .join p q) none ≡ K .join (cond t p none) (cond t q none)) [ false ↦ sym (L .joining .idem none) | true ↦ refl ]))
+      total-unite K (K .join) none (L .joining) (λ e. cond (same x (K .key e)) (K .load e) none)
+      (λ e d h. rw (L .keyed .key-made (K .key d) (K .join (K .load e) (K .load d)), L .keyed .load-made (K .key d) (K .join (K .load e) (K .load d)), h)
+      (elim (same x (K .key d)) as (λ t. cond t (K .join (K .load e) (K .load d)) none ≡ K .join (cond t (K .load e) none) (cond t (K .load d) none)) [ false ↦ sym (L .joining .idem none) | true ↦ refl ]))
 
   -- a key that no entry has holds nothing
   pub content-absent : (x : List ℕ) (l : List E) → has K x l ≡ false → content K none x l ≡ none
@@ -178,12 +183,12 @@ module _ {E P : Type 0} (K : Kind E P) (none : P) (L : Lawful K none) where
   -- ascending lists united in either order, and with themselves
   pub unite-comm : (a b : List E) → Ascending K a → Ascending K b → unite K a b ≡ unite K b a
   unite-comm a b h k =
-      same-entries (unite K a b) (unite K b a) (ascending-unite K (L .keyed) a b h) (ascending-unite K (L .keyed) b a k)
-      (λ x. has-unite K (L .keyed) x a b ∙ joining-or .comm (has K x a) (has K x b) ∙ sym (has-unite K (L .keyed) x b a))
+      same-entries (unite K a b) (unite K b a) (ascending-unite K (keyed-stays K (L .keyed)) a b h) (ascending-unite K (keyed-stays K (L .keyed)) b a k)
+      (λ x. has-unite K (keyed-stays K (L .keyed)) x a b ∙ joining-or .comm (has K x a) (has K x b) ∙ sym (has-unite K (keyed-stays K (L .keyed)) x b a))
       (λ x. content-unite x a b ∙ L .joining .comm _ _ ∙ sym (content-unite x b a))
 
   pub unite-self : (a : List E) → Ascending K a → unite K a a ≡ a
   unite-self a h =
-      same-entries (unite K a a) a (ascending-unite K (L .keyed) a a h) h
-      (λ x. has-unite K (L .keyed) x a a ∙ joining-or .idem (has K x a))
+      same-entries (unite K a a) a (ascending-unite K (keyed-stays K (L .keyed)) a a h) h
+      (λ x. has-unite K (keyed-stays K (L .keyed)) x a a ∙ joining-or .idem (has K x a))
       (λ x. content-unite x a a ∙ L .joining .idem _)

@@ -7,7 +7,7 @@ use mathlib.Core.List.{List, [], _∷_, _++_, map, List·Memᴰ, List·Memᴰ·h
 use native.Mathlib.Omega.{arith}
 use lib.Arith.{bin-ind}
 use lib.Bits.{bitOr, or-step, or-comm as bits-comm, or-self as bits-self, or-zero-l, or-shr}
-use Rattle.octets.specs.Joins.{total}
+use Rattle.laws.specs.Joins.{total}
 
 pub record Joining {A : Type 0} (join : A → A → A) (none : A) : Type 0 where
   pub assoc : (a b c : A) → join (join a b) c ≡ join a (join b c)

@@ -11,10 +11,10 @@ use lib.Bits.{bitAnd, bitOr, and-mask, or-add-and, and-le-l, and-le-r}
 use lib.Dec.{eqb, leb, eqb·zero-suc, eqb·suc-zero, eqb·suc-suc}
 use lib.Pow.{pow-lt, pow-mono, pow-pos}
 use borrow.Author.Tests.{eq-eqb, ne-eqb, eqb-true, eqb-false, leb-true, leb-false}
-use Rattle.octets.specs.Bits.{hasBit}
-use Rattle.octets.specs.Lists.{all}
-use Rattle.octets.proofs.Joins.{bits-digit}
-use Rattle.octets.proofs.Lists.{all-past, all-step}
+use Rattle.laws.specs.Bits.{hasBit}
+use Rattle.laws.specs.Lists.{all}
+use Rattle.laws.proofs.Joins.{bits-digit}
+use Rattle.laws.proofs.Lists.{all-past, all-step}
 
 -- ---- a bit tested by shift and mask
 pub bit-tested : (n k : ℕ) → eqb (bitAnd (n / 2 ^ k) 1) 1 ≡ hasBit n k

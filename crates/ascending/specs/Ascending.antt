@@ -1,11 +1,11 @@
 -- Lists of entries that ascend by their keys, each key once: members of a channel, and whatever else is kept so. An entry has a key, a byte
 -- list, and a load; where a key comes a second time, the two loads are joined.
 use Prim.Native.Nat.{ℕ}
-use mathlib.Core.Bool.{Bool, true, false, _&&_}
+use mathlib.Core.Bool.{Bool, true, _&&_}
 use mathlib.Core.List.{List, [], _∷_}
 use Rattle.octets.specs.declared.Order.{Order}
 use Rattle.octets.specs.declared.Order.the-variants.{Less, Same, More}
-use Rattle.octets.specs.Order.{compare}
+use Rattle.octets.specs.Order.{compare, isLess}
 
 -- What an entry is made of.
 pub record Kind (E P : Type 0) : Type 0 where
@@ -13,11 +13,6 @@ pub record Kind (E P : Type 0) : Type 0 where
   pub load : E → P
   pub make : List ℕ → P → E
   pub join : P → P → P
-
-abbrev pub isLess : Order → Bool
-isLess Less = true
-isLess Same = false
-isLess More = false
 
 module _ {E P : Type 0} (K : Kind E P) where
   -- e before d, joined with d, or behind it among the others, by how e's key stands to d's; `others` is what e makes of those

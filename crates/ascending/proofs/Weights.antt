@@ -3,12 +3,12 @@
 use mathlib.Core.List.{List, [], _∷_}
 use Prim.Native.Nat.{ℕ, _+_, _≤_}
 use native.Mathlib.Omega.{arith}
 use Rattle.octets.specs.declared.Order.{Order}
 use Rattle.octets.specs.declared.Order.the-variants.{Less, Same, More}
 use Rattle.octets.specs.Order.{compare}
-use Rattle.octets.specs.Joins.{total}
-use Rattle.octets.specs.Ascending.{Kind, insert, put, unite}
-use Rattle.octets.proofs.Ascends.{joined}
+use Rattle.laws.specs.Joins.{total}
+use Rattle.ascending.specs.Ascending.{Kind, insert, put, unite}
+use Rattle.ascending.proofs.Ascends.{joined}
 
 -- the sum of what each weighs
 abbrev pub weight : {E : Type 0} → (E → ℕ) → List E → ℕ

@@ -1,0 +1,4 @@
+-- Laws that the crates above cite.
+pub mod Ascends
+pub mod Contents
+pub mod Weights
