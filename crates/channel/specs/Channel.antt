@@ -1,5 +1,5 @@
 -- A channel: what a record holds, as lists. No key is the empty list, no limit is 0.
-use Prim.Native.Nat.{ℕ}
+use Prim.Native.Nat.{ℕ, _^_}
 use mathlib.Core.List.{List}
 use lib.Bits.{bitOr}
 use Rattle.ascending.specs.Ascending.{Kind}
@@ -12,6 +12,20 @@ pub record Channel : Type 0 where
   pub key : List ℕ
   pub limit : ℕ
   pub members : List Member
+
+-- ---- members, each with a status of voice 1 plus operator 2
+-- the places of the two bits
+abbrev pub voicePlace : ℕ
+voicePlace = 0
+
+abbrev pub operatorPlace : ℕ
+operatorPlace = 1
+
+abbrev pub voice : ℕ
+voice = 2 ^ voicePlace
+
+abbrev pub operator : ℕ
+operator = 2 ^ operatorPlace
 
 abbrev pub member : List ℕ → ℕ → Member
 member id status = record { id = id; status = status }

@@ -1,5 +1,5 @@
 -- A well-formed record (document 01, 'The channel record').
-use Prim.Native.Nat.{ℕ, _^_}
+use Prim.Native.Nat.{ℕ, _+_, _^_}
 use mathlib.Core.Bool.{Bool, not, _&&_, _||_, Bool·beq}
 use mathlib.Core.List.{List, [], _∷_}
 use lib.ListN.{length, drop}
@@ -12,7 +12,7 @@ use Rattle.channel.specs.declared.Record.{Record}
 use Rattle.channel.specs.Limits.{memberLimit, keyLimit, timeLimit, limitLimit}
 use Rattle.channel.specs.Modes.{modeCount, hasMode, keyMode, limitMode}
 use Rattle.channel.specs.Key.{isKey}
-use Rattle.channel.specs.Channel.{Channel, byId}
+use Rattle.channel.specs.Channel.{Channel, voice, operator, byId}
 use Rattle.channel.specs.Record.{decode}
 
 -- ---- of the channel
@@ -32,9 +32,9 @@ goodKey modes key = Bool·beq (hasMode modes keyMode) (not (isNil key)) && (isNi
 unfoldable pub goodLimit : ℕ → ℕ → Bool
 goodLimit modes limit = Bool·beq (hasMode modes limitMode) (ltb 0 limit) && leb limit limitLimit
 
--- voice 1 plus operator 2
+-- the most that a status can be
 abbrev pub bothStatuses : ℕ
-bothStatuses = 3
+bothStatuses = voice + operator
 
 -- a user id with a status
 unfoldable pub goodMember : Member → Bool

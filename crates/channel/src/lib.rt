@@ -9,6 +9,7 @@ mod well;
 ghost use mathlib.Core.Path.{_≡_};
 ghost use Rattle.names.specs.Names.{nameLimit};
 ghost use Rattle.channel.specs.Limits.{memberLimit, keyLimit, timeLimit, limitLimit, slotCount};
+ghost use Rattle.channel.specs.Channel.{voice, operator, voicePlace, operatorPlace};
 ghost use Rattle.channel.specs.Record.{emptyRecord};
 ghost use Rattle.channel.specs.WellFormed.{wellFormed, isBlank};
 ghost use Rattle.channel.specs.Merging.{mergeAnswer};
@@ -29,11 +30,25 @@ use well::in_room;
 use well::vacant_from;
 use well::zero_from;
 
-// A member of a channel: its user id, held whole, and its status, voice 1 plus operator 2.
+// A member of a channel: its user id, held whole, and its status, VOICE plus OPERATOR.
 #[repr(C)]
 pub struct Member {
     pub id: [u8; USER_ID],
     pub status: u8,
+}
+
+impl Member {
+    // The place of voice's bit in a status.
+    pub const VOICE_PLACE: u32 = 0;
+
+    // The place of an operator's bit in a status.
+    pub const OPERATOR_PLACE: u32 = 1;
+
+    // Voice.
+    pub const VOICE: u8 = 1 << Member::VOICE_PLACE;
+
+    // Operator.
+    pub const OPERATOR: u8 = 1 << Member::OPERATOR_PLACE;
 }
 
 // A channel's record. Unused room is zero. Without k there is no key, without l no limit: 0.
@@ -69,11 +84,13 @@ impl Record {
     // The records of a table.
     pub const SLOTS: usize = 16;
 
-    // No channel: a free slot. The limits of the code are those of the definitions.
+    // No channel: a free slot. The limits and statuses of the code are those of the definitions.
     pub fn empty() -> Record
         ensures { λ r. ⌜ r ≡ emptyRecord ⌝ }
         ensures { λ r. do ⌜ ((← ⟦Record::MEMBERS⟧ .entry) ≡ memberLimit) × ((← ⟦Record::NAME⟧ .entry) ≡ nameLimit) × ((← ⟦Record::KEY⟧ .entry) ≡ keyLimit) × ((← ⟦Record::SLOTS⟧ .entry) ≡ slotCount) ⌝ }
         ensures { λ r. do ⌜ ((← ⟦Record::TIME⟧ .entry) ≡ timeLimit) × ((← ⟦Record::LIMIT⟧ .entry) ≡ limitLimit) ⌝ }
+        ensures { λ r. do ⌜ ((← ⟦Member::VOICE⟧ .entry) ≡ voice) × ((← ⟦Member::OPERATOR⟧ .entry) ≡ operator) ⌝ }
+        ensures { λ r. do ⌜ ((← ⟦Member::VOICE_PLACE⟧ .entry) ≡ voicePlace) × ((← ⟦Member::OPERATOR_PLACE⟧ .entry) ≡ operatorPlace) ⌝ }
     {
         let members = vacant();
         Record {

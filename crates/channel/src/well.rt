@@ -20,8 +20,8 @@ use crate::modes::has_mode;
 use names::USER_ID;
 use names::ids::is_id;
 
-// The statuses that there are: voice 1 plus operator 2.
-const BOTH: u8 = 3;
+// The most that a status can be.
+const BOTH: u8 = Member::VOICE + Member::OPERATOR;
 
 // Whether what is in use keeps to its room.
 pub(crate) fn in_room(name_len: usize, key_len: usize, count: usize) -> bool

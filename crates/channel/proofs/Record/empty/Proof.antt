@@ -1,4 +1,4 @@
--- `Record::empty` meets its contract: nothing padded is all padding, and the limits are the same numbers. Assumes nothing.
+-- `Record::empty` meets its contract: nothing padded is all padding, and the limits and statuses are the same numbers. Assumes nothing.
 use mathlib.Core.Path.{refl, ap}
 use mathlib.Core.List.{List}
 use lib.ListN.{replicate}
@@ -31,7 +31,7 @@ vacant-requires c κs = search needs
 
 returns : tie.Need-returns
 unfolding emptyRecord encode padded unused
-returns c = (ap unused (c .vacant .ensures), ((refl, refl, refl, refl), (refl, refl)))
+returns c = (ap unused (c .vacant .ensures), ((refl, refl, refl, refl), ((refl, refl), ((refl, refl), (refl, refl)))))
 
 pub empty-spec : {M : Type 1} → statement M
 empty-spec = tie.close (tie.spec vacant-requires returns)
