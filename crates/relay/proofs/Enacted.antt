@@ -9,6 +9,7 @@ use lib.ListN.{length}
 use borrow.Author.Tests.{le-ltb}
 use Rattle.refusal.specs.Numbers.{accepted}
 use Rattle.refusal.specs.Rules.{firstOf}
+use Rattle.refusal.proofs.Rules.{skip}
 use Rattle.laws.specs.Lists.{all}
 use Rattle.message.specs.Grammar.{lineLimit}
 use Rattle.message.specs.Reading.{isRead, numberFor, contentOf}
@@ -22,15 +23,14 @@ use Rattle.channel.proofs.Proper.{proper-fits}
 use Rattle.channel.proofs.Records.{decode-encode}
 use Rattle.table.specs.Table.{goodSlot}
 use Rattle.sjoin.specs.Join.{channelIn}
-use Rattle.sjoin.specs.Telling.{joinMessage, tellRules}
+use Rattle.sjoin.specs.Telling.{tellRules}
 use Rattle.sjoin.proofs.Wellformed.{read-proper}
 use Rattle.relay.specs.declared.Command.{Command}
 use Rattle.relay.specs.declared.Command.the-variants.{Sjoin, Part, Quit, Unknown}
 use Rattle.relay.specs.declared.Change.{Change}
-use Rattle.relay.specs.Commands.{sourceIn}
 use Rattle.relay.specs.Relay.{resulting, joined, outgoing, parted, slotsAfter, messageAfter, commandIn, takenRules, slotsBy, relayed}
 use Rattle.relay.specs.Private.{slotsWith, sendRules, sendLine}
-use Rattle.relay.proofs.Judgements.{Changes}
+use Rattle.relay.proofs.Judgements.{Changes, no-rules}
 use Rattle.relay.proofs.Relayed.{rules-none, join-none, relayed-reads}
 use Rattle.relay.proofs.Taking.{result-proper}
 
@@ -73,12 +73,10 @@ module _ (slots : List Record) (line : List ℕ) (good : all goodSlot slots ≡ 
   -- ---- nothing keeps it from being written
   rules-by : (out : List ℕ) → lineLimit ≤ length out → (k : Command) → commandIn line ≡ k → Changes k slots (contentOf line) j → length (sendLine (j .command) j line) ≤ lineLimit
       → firstOf (sendRules (j .command) j line out) ≡ accepted
-  unfolding firstOf tellRules forwardRules numberFor
-  rules-by out h Sjoin e q s =
-      let w : length (written (joinMessage (sourceIn (contentOf line)) (decode (j .told)))) ≤ lineLimit = rw (q .command) at s in
-      rw (q .command, le-ltb (length out) lineLimit h, le-ltb lineLimit (length (written (joinMessage (sourceIn (contentOf line)) (decode (j .told))))) w)
-  rules-by out h Part e q s = rw (q .command, le-ltb (length out) lineLimit h) (number-none line read)
-  rules-by out h Quit e q s = rw (q .command, le-ltb (length out) lineLimit h) (number-none line read)
+  unfolding tellRules forwardRules numberFor
+  rules-by out h Sjoin e q s = rw (q .command) (skip _ _ (le-ltb (length out) lineLimit h) ∙ skip _ _ (le-ltb lineLimit (length (sendLine Sjoin j line)) (rw (q .command) at s)) ∙ no-rules)
+  rules-by out h Part e q s = rw (q .command) (skip _ _ (le-ltb (length out) lineLimit h) ∙ number-none line read)
+  rules-by out h Quit e q s = rw (q .command) (skip _ _ (le-ltb (length out) lineLimit h) ∙ number-none line read)
   rules-by out h Unknown e q s = absurd q
 
   pub enacted-rules : (out : List ℕ) → lineLimit ≤ length out → Changes (commandIn line) slots (contentOf line) j → firstOf (sendRules (j .command) j line out) ≡ accepted

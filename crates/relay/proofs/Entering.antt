@@ -1,13 +1,13 @@
 -- The numbers that come before a command's own: table, output and link, then the reader's. Past them the command's rules decide. Assumes nothing.
 use mathlib.Core.Path.{_≡_, refl, sym, ap, _∙_}
-use mathlib.Core.Bool.{Bool, true, false, _&&_}
-use mathlib.Core.List.{List}
+use mathlib.Core.Bool.{Bool, true, false, not, _&&_}
+use mathlib.Core.List.{List, [], _∷_}
 use Prim.Native.Nat.{ℕ, _≤_, _<_, _^_}
 use native.Mathlib.Omega.{arith}
 use borrow.Author.Tests.{lt-ltb, le-ltb, ltb-false, not-false}
 use Rattle.refusal.specs.Numbers.{accepted, notWellFormed, outputTooShort, badLink}
-use Rattle.refusal.specs.Rules.{firstOf}
-use Rattle.refusal.proofs.Rules.{first-none, append-some, append-none}
+use Rattle.refusal.specs.Rules.{_when_, firstOf}
+use Rattle.refusal.proofs.Rules.{skip, stop, first-none, append-some, append-none}
 use Rattle.laws.specs.Bits.{hasBit}
 use Rattle.laws.proofs.Bitwise.{bit-past}
 use Rattle.message.specs.Grammar.{lineLimit}
@@ -22,7 +22,7 @@ use Rattle.relay.specs.declared.Request.{Request}
 use Rattle.relay.specs.declared.Change.{Change}
 use Rattle.relay.specs.Relay.{commandRules, commandIn, takenRules, entryRules, processRules}
 use Rattle.relay.specs.Private.{Requested}
-use Rattle.relay.proofs.Judgements.{Judged}
+use Rattle.relay.proofs.Judgements.{Judged, no-rules}
 
 -- ---- table, output and link
 -- a set of 32 bits has no link above 31
@@ -35,22 +35,22 @@ linked set link s = go (isLink link) refl
 
 module _ (good : Bool) (set link n : ℕ) where
   pub entry-ill-formed : good ≡ false → firstOf (entryRules good n set link) ≡ notWellFormed
-  unfolding firstOf
-  entry-ill-formed g = rw g
+  entry-ill-formed g = stop _ _ (ap not g)
 
   module _ (g : good ≡ true) where
     pub entry-short : n < lineLimit → firstOf (entryRules good n set link) ≡ outputTooShort
-    unfolding firstOf
-    entry-short h = rw (g, lt-ltb n lineLimit h)
+    entry-short h = skip _ _ (ap not g) ∙ stop _ _ (lt-ltb n lineLimit h)
 
     module _ (h : lineLimit ≤ n) (s : set < 2 ^ linkCount) where
+      -- the link is left
+      entry-link : firstOf (entryRules good n set link) ≡ firstOf (badLink when not (hasBit set link) ∷ [])
+      entry-link = skip _ _ (ap not g) ∙ skip _ _ (le-ltb n lineLimit h) ∙ ap (λ (t : Bool). firstOf (badLink when not t ∷ [])) (linked set link s)
+
       pub entry-unlinked : hasBit set link ≡ false → firstOf (entryRules good n set link) ≡ badLink
-      unfolding firstOf
-      entry-unlinked l = rw (g, le-ltb n lineLimit h, linked set link s, l)
+      entry-unlinked l = entry-link ∙ stop _ _ (ap not l)
 
       pub entry-passes : hasBit set link ≡ true → firstOf (entryRules good n set link) ≡ accepted
-      unfolding firstOf
-      entry-passes l = rw (g, le-ltb n lineLimit h, linked set link s, l)
+      entry-passes l = entry-link ∙ skip _ _ (ap not l) ∙ no-rules
 
   pub entry-good : firstOf (entryRules good n set link) ≡ accepted → good ≡ true
   entry-good e = not-false _ (first-none _ _ (λ z. omega arith) e .0)

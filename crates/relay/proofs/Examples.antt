@@ -47,7 +47,7 @@ use Rattle.sjoin.specs.Telling.{lettersFrom, entryOf, following, listText, para
 use Rattle.relay.specs.declared.Taken.{Taken}
 use Rattle.relay.specs.declared.Command.the-variants.{Sjoin}
 use Rattle.relay.specs.Commands.{commandOf, isUser}
-use Rattle.relay.specs.Relay.{resulting, joinedRules, joined, outgoing, partRules, parted, quitRules, messageAfter, commandIn, takenRules, processRules, slotsBy, relayed, withSlots, processAnswer}
+use Rattle.relay.specs.Relay.{resulting, joinedRules, joined, outgoing, partRules, partedRules, parted, quitRules, messageAfter, commandIn, takenRules, processRules, slotsBy, relayed, withSlots, processAnswer}
 use Rattle.relay.proofs.Relayed.{relayed-reads}
 use Rattle.relay.proofs.Taking.{taken-good, OneChanged, join-one, Later, after-alone}
 
@@ -77,7 +77,7 @@ unfolding water race stored 2cd withMode emptyRecord encode decode padded goodTa
 water-good = refl
 
 accepts : (firstOf (takenRules (water .slots) joining) ≡ accepted) × (firstOf (takenRules (water .slots) parting) ≡ accepted) × (firstOf (takenRules (water .slots) quitting) ≡ accepted)
-unfolding water race stored 2cd joining parting quitting takenRules commandOf capital joinRules goodCount isSource join.goodTime isDecimal leadsWithZero valueFrom isDigit isChannel isNameByte isServerId isUserId isIdByte modes.goodModes goodLetters once parametered goodArguments argumentsIn placeAmong goodEntries isEntry idOf past wordsAt contentOf contentIn isRead numberFor lineRules bodyRules firstOf endsLine sameBy bodyOf all isPlain startsWith prefix word prefixEnd commandStart spaces command isCommand isLetter within commandEnd rest params joinedRules resulting channelIn argumentOf modesByte memberOf statusOf slotFor firstAt freeSlot holds sameName fold emptyRecord encode decode padded withMode merge standing stands bare insert put unite compare greater partRules isUser hasMember quitRules
+unfolding water race stored 2cd joining parting quitting takenRules commandOf capital joinRules goodCount isSource join.goodTime isDecimal leadsWithZero valueFrom isDigit isChannel isNameByte isServerId isUserId isIdByte modes.goodModes goodLetters once parametered goodArguments argumentsIn placeAmong goodEntries isEntry idOf past wordsAt contentOf contentIn isRead numberFor lineRules bodyRules firstOf endsLine sameBy bodyOf all isPlain startsWith prefix word prefixEnd commandStart spaces command isCommand isLetter within commandEnd rest params joinedRules resulting channelIn argumentOf modesByte memberOf statusOf slotFor firstAt freeSlot holds sameName fold emptyRecord encode decode padded withMode merge standing stands bare insert put unite compare greater partRules partedRules isUser hasMember quitRules
 accepts = (refl, refl, refl)
 
 -- the lines that go out: `:1AB SJOIN 1000 #Race + :1ABAAAAAA 1ABAAAAAB`, `:2CDAAAAAA PART #race`, and the QUIT as it came

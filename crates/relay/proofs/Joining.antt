@@ -11,13 +11,13 @@ use lib.Dec.{ltb}
 use borrow.Author.Tests.{eq-eqb, le-ltb}
 use Rattle.refusal.specs.Numbers.{accepted, outputTooShort, badLink}
 use Rattle.refusal.specs.Rules.{Rule, _when_, firstOf}
-use Rattle.refusal.proofs.Rules.{first-none, numbered, append-some, append-none, both-none}
+use Rattle.refusal.proofs.Rules.{skip, first-none, numbered, append-some, append-none, both-none}
 use Rattle.laws.specs.Bits.{hasBit}
 use Rattle.octets.specs.Bytes.{capital}
 use Rattle.octets.proofs.Bytes.{same-refl}
 use Rattle.message.specs.Grammar.{lineLimit}
 use Rattle.message.specs.Reading.{bodyRules, lineRules, numberFor, isRead, contentOf}
-use Rattle.message.proofs.Readings.{rules-numbered, refused-number}
+use Rattle.message.proofs.Readings.{refused-number}
 use Rattle.channel.specs.declared.Record.{Record}
 use Rattle.channel.specs.Limits.{memberLimit}
 use Rattle.channel.specs.Channel.{Channel}
@@ -35,7 +35,8 @@ use Rattle.sjoin.specs.Telling.{sjoin}
 use Rattle.sjoin.proofs.Wellformed.{read-proper}
 use Rattle.relay.specs.declared.Command.the-variants.{Sjoin}
 use Rattle.relay.specs.Commands.{commandOf}
-use Rattle.relay.specs.Relay.{resulting, joinedRules, joined, commandIn, takenRules, processRules, slotsBy}
+use Rattle.relay.specs.Relay.{resulting, joinedRules, joined, commandRules, commandIn, takenRules, processRules, slotsBy}
+use Rattle.relay.proofs.Judgements.{no-rules}
 
 -- ---- the rules
 -- a line that reads as SJOIN, or isn't read
@@ -46,48 +47,65 @@ command-join : (line : List ℕ) → map capital (contentOf line .command) ≡ s
 unfolding commandOf
 command-join line e = rw (e, same-refl sjoin)
 
--- the rules of such a line on a well-formed table, those on its slots apart
-abbrev pub earlierRules : Links → ℕ → List ℕ → ℕ → List Rule
-earlierRules links link line n =
+-- the rules of a line on a well-formed table up to the reader's
+abbrev readerRules : Links → ℕ → List ℕ → ℕ → List Rule
+readerRules links link line n =
     outputTooShort when ltb n lineLimit
     ∷ badLink when not (isLink link && hasBit (links .set) link)
-    ∷ (lineRules line ++ joinRules (contentOf line))
+    ∷ lineRules line
 
-earlier-numbered : (links : Links) (link : ℕ) (line : List ℕ) (n : ℕ) → numbered (earlierRules links link line n) ≡ true
-unfolding lineRules bodyRules joinRules
-earlier-numbered links link line n = refl
+-- and of an SJOIN those on its slots apart
+abbrev pub earlierRules : Links → ℕ → List ℕ → ℕ → List Rule
+earlierRules links link line n = readerRules links link line n ++ joinRules (contentOf line)
+
+module _ (links : Links) (link : ℕ) (line : List ℕ) (n : ℕ) where
+  reader-numbered : numbered (readerRules links link line n) ≡ true
+  unfolding lineRules bodyRules
+  reader-numbered = refl
+
+  earlier-numbered : numbered (earlierRules links link line n) ≡ true
+  unfolding lineRules bodyRules joinRules
+  earlier-numbered = refl
+
+  reader-none : firstOf (readerRules links link line n) ≡ accepted → numberFor line ≡ accepted
+  unfolding numberFor
+  reader-none e = first-none _ _ (λ z. omega arith) (first-none _ _ (λ z. omega arith) e .1) .1
 
 module _ (line : List ℕ) (is : IsJoin line) where
   -- no rule of the line applies: it is SJOIN, and what it tells of is proper
   pub entered : (links : Links) (link n : ℕ) → firstOf (earlierRules links link line n) ≡ accepted → (map capital (contentOf line .command) ≡ sjoin) × Proper (channelIn (contentOf line))
-  unfolding numberFor isRead
+  unfolding isRead
   entered links link n e = go is
     where
-      lines : (firstOf (lineRules line) ≡ accepted) × (firstOf (joinRules (contentOf line)) ≡ accepted)
-      lines =
-          let a = first-none _ _ (λ z. omega arith) e in
-          let b = first-none _ _ (λ z. omega arith) (a .1) in
-          both-none (joinRules (contentOf line)) (lineRules line) (rules-numbered line) (b .1)
+      none : (firstOf (readerRules links link line n) ≡ accepted) × (firstOf (joinRules (contentOf line)) ≡ accepted)
+      none = both-none (joinRules (contentOf line)) (readerRules links link line n) (reader-numbered links link line n) e
+
+      read : numberFor line ≡ accepted
+      read = reader-none links link line n (none .0)
 
       go : IsJoin line → (map capital (contentOf line .command) ≡ sjoin) × Proper (channelIn (contentOf line))
-      go (inl s) = (s, read-proper line (eq-eqb (firstOf (lineRules line)) accepted (lines .0)) (lines .1))
-      go (inr u) = absurd (refused-number line u (lines .0))
-
-  taken-rules : (slots : List Record) → firstOf (takenRules slots line) ≡ firstOf ((lineRules line ++ joinRules (contentOf line)) ++ joinedRules slots (channelIn (contentOf line)))
-  unfolding takenRules numberFor
-  taken-rules slots = go is
-    where
-      go : IsJoin line → firstOf (takenRules slots line) ≡ firstOf ((lineRules line ++ joinRules (contentOf line)) ++ joinedRules slots (channelIn (contentOf line)))
-      go (inl s) = rw (command-join line s) (ap firstOf (sym (append-assoc (lineRules line) (joinRules (contentOf line)) (joinedRules slots (channelIn (contentOf line))))))
-      go (inr u) =
-          let ne = refused-number line u in
-          append-some _ (lineRules line) ne
-          ∙ sym (ap firstOf (append-assoc (lineRules line) (joinRules (contentOf line)) (joinedRules slots (channelIn (contentOf line)))) ∙ append-some _ (lineRules line) ne)
+      go (inl s) = (s, read-proper line (eq-eqb (numberFor line) accepted read) (none .1))
+      go (inr u) = absurd (refused-number line u read)
 
   module _ (t : Table) (good : goodTable t ≡ true) (link n : ℕ) where
     process-rules : firstOf (processRules t link line n) ≡ firstOf (earlierRules (t .links) link line n ++ joinedRules (t .slots) (channelIn (contentOf line)))
-    unfolding processRules firstOf
-    process-rules = rw (good, taken-rules (t .slots))
+    unfolding processRules takenRules
+    process-rules = skip _ _ (ap not good) ∙ go is
+      where
+        reader : List Rule
+        reader = readerRules (t .links) link line n
+
+        own : List Rule
+        own = joinRules (contentOf line)
+
+        slotted : List Rule
+        slotted = joinedRules (t .slots) (channelIn (contentOf line))
+
+        go : IsJoin line → firstOf (reader ++ commandRules (commandIn line) (t .slots) (contentOf line)) ≡ firstOf ((reader ++ own) ++ slotted)
+        go (inl s) = rw (command-join line s) (ap firstOf (sym (append-assoc reader own slotted)))
+        go (inr u) =
+            let ne : firstOf reader ≡ accepted → ⊥ = λ z. refused-number line u (reader-none (t .links) link line n z) in
+            append-some _ reader ne ∙ sym (append-some (own ++ slotted) reader ne) ∙ ap firstOf (sym (append-assoc reader own slotted))
 
     -- a rule that isn't about the slots
     pub join-refused : (firstOf (earlierRules (t .links) link line n) ≡ accepted → ⊥) → firstOf (processRules t link line n) ≡ firstOf (earlierRules (t .links) link line n)
@@ -116,5 +134,5 @@ module _ (slots : List Record) (c : Channel) (k : ℕ) where
     merged = rw e
 
     pub merge-room : length (merge (decode (getD slots k emptyRecord)) c .members) ≤ memberLimit → firstOf (joinedRules slots c) ≡ accepted
-    unfolding joinedRules resulting firstOf
-    merge-room h = rw (e, le-ltb memberLimit (length (merge (decode (getD slots k emptyRecord)) c .members)) h)
+    unfolding joinedRules resulting
+    merge-room h = rw e (skip _ _ refl ∙ skip _ _ (le-ltb memberLimit (length (merge (decode (getD slots k emptyRecord)) c .members)) h) ∙ no-rules)

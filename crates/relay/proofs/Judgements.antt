@@ -1,7 +1,7 @@
 -- The judgement of a line, which its request and its slot come to; and judgements and requests that refuse, whose number is that of the first rule.
 -- Assumes nothing.
-use mathlib.Core.Path.{_≡_, sym, ap, _∙_}
-use mathlib.Core.List.{List}
+use mathlib.Core.Path.{_≡_, refl, sym, ap, _∙_}
+use mathlib.Core.List.{List, []}
 use Prim.Native.Nat.{ℕ, _<_}
 use native.Mathlib.Omega.{arith}
 use Rattle.refusal.specs.Numbers.{accepted}
@@ -33,6 +33,11 @@ pub record Judged (rules : List Rule) (command : Command) (slots : List Record) 
   pub number : j .number ≡ firstOf rules
   pub inside : j .slot < slotCount
   pub changes : firstOf rules ≡ accepted → Changes command slots c j
+
+-- ---- where no rule is left
+pub no-rules : firstOf [] ≡ accepted
+unfolding firstOf
+no-rules = refl
 
 -- ---- refusals
 pub refused-judged : (rules : List Rule) (command : Command) (slots : List Record) (c : Content) (k : ℕ) (j : Change) → j ≡ unchanged k → (k ≡ accepted → ⊥)

@@ -1,14 +1,15 @@
 -- The judgements of PART and QUIT: each refusal by its rule, after those that passed. Assumes nothing.
 use mathlib.Core.Path.{_≡_, refl, sym, ap, _∙_}
 use mathlib.Core.Bool.{Bool, true, false, not, cond}
-use mathlib.Core.List.{List, []}
+use mathlib.Core.List.{List, [], _∷_}
 use mathlib.Core.Option.{Option, some, none, Option·getD}
 use Prim.Native.Nat.{ℕ, _≤_, _<_}
 use native.Mathlib.Omega.{arith}
 use lib.ListN.{length, getD}
-use borrow.Author.Tests.{le-leb, lt-leb}
+use borrow.Author.Tests.{le-leb, lt-leb, not-false}
 use Rattle.refusal.specs.Numbers.{accepted, wrongParamCount, badSource, badName, noSuchChannel, notOnChannel}
-use Rattle.refusal.specs.Rules.{firstOf}
+use Rattle.refusal.specs.Rules.{_when_, firstOf}
+use Rattle.refusal.proofs.Rules.{skip, stop, first-none, numbered, append-none}
 use Rattle.laws.specs.Lists.{padded}
 use Rattle.laws.proofs.Lists.{padded-whole}
 use Rattle.names.specs.Names.{userIdLength, isChannel, isUserId}
@@ -17,15 +18,14 @@ use Rattle.message.specs.Content.{Content}
 use Rattle.channel.specs.declared.Record.{Record}
 use Rattle.channel.specs.Members.{hasMember}
 use Rattle.channel.specs.Record.{decode, emptyRecord}
-use Rattle.table.specs.declared.Slot.{Slot}
 use Rattle.table.specs.declared.Slot.the-variants.{Held}
-use Rattle.table.specs.Slots.{slotFor, heldIn, isHeld}
+use Rattle.table.specs.Slots.{slotFor, isHeld}
 use Rattle.relay.specs.declared.Command.the-variants.{Part}
 use Rattle.relay.specs.declared.Change.{Change}
 use Rattle.relay.specs.Commands.{isUser, sourceIn, partedIn}
-use Rattle.relay.specs.Relay.{partRules, quitRules}
+use Rattle.relay.specs.Relay.{partRules, partedRules, quitRules, commandRules}
 use Rattle.relay.specs.Private.{PartsHeld}
-use Rattle.relay.proofs.Judgements.{Judged}
+use Rattle.relay.proofs.Judgements.{Judged, no-rules}
 
 -- ---- the source
 -- a missing prefix is the empty one, which is no user id
@@ -45,67 +45,76 @@ module _ (c : Content) (bytes : List ℕ) (is : bytes ≡ sourceIn c) where
 -- ---- QUIT
 module _ (c : Content) where
   pub quit-many : 1 < length (c .params) → firstOf (quitRules c) ≡ wrongParamCount
-  unfolding firstOf quitRules
-  quit-many h = rw (lt-leb (length (c .params)) 1 h)
+  unfolding quitRules
+  quit-many h = stop _ _ (ap not (lt-leb (length (c .params)) 1 h))
 
   module _ (h : length (c .params) ≤ 1) where
+    quit-counted : firstOf (quitRules c) ≡ firstOf (badSource when not (isUser (c .prefix)) ∷ [])
+    unfolding quitRules
+    quit-counted = skip _ _ (ap not (le-leb (length (c .params)) 1 h))
+
     pub quit-unsourced : isUser (c .prefix) ≡ false → firstOf (quitRules c) ≡ badSource
-    unfolding firstOf quitRules
-    quit-unsourced u = rw (le-leb (length (c .params)) 1 h, u)
+    quit-unsourced u = quit-counted ∙ stop _ _ (ap not u)
 
     pub quit-passes : isUser (c .prefix) ≡ true → firstOf (quitRules c) ≡ accepted
-    unfolding firstOf quitRules
-    quit-passes u = rw (le-leb (length (c .params)) 1 h, u)
+    quit-passes u = quit-counted ∙ skip _ _ (ap not u) ∙ no-rules
 
--- ---- PART
-module _ (slots : List Record) (c : Content) where
-  pub part-few : length (c .params) < 1 → firstOf (partRules slots c) ≡ wrongParamCount
-  unfolding firstOf partRules
-  part-few h = rw (lt-leb 1 (length (c .params)) h)
+-- ---- PART, by itself
+module _ (c : Content) where
+  pub part-numbered : numbered (partRules c) ≡ true
+  unfolding partRules
+  part-numbered = refl
+
+  pub part-few : length (c .params) < 1 → firstOf (partRules c) ≡ wrongParamCount
+  unfolding partRules
+  part-few h = stop _ _ (rw (lt-leb 1 (length (c .params)) h))
 
   module _ (h : 1 ≤ length (c .params)) where
-    pub part-many : 2 < length (c .params) → firstOf (partRules slots c) ≡ wrongParamCount
-    unfolding firstOf partRules
-    part-many k = rw (le-leb 1 (length (c .params)) h, lt-leb (length (c .params)) 2 k)
+    pub part-many : 2 < length (c .params) → firstOf (partRules c) ≡ wrongParamCount
+    unfolding partRules
+    part-many k = stop _ _ (rw (le-leb 1 (length (c .params)) h, lt-leb (length (c .params)) 2 k))
 
     module _ (l : length (c .params) ≤ 2) where
-      pub part-unsourced : isUser (c .prefix) ≡ false → firstOf (partRules slots c) ≡ badSource
-      unfolding firstOf partRules
-      part-unsourced u = rw (le-leb 1 (length (c .params)) h, le-leb (length (c .params)) 2 l, u)
+      part-counted : firstOf (partRules c) ≡ firstOf (badSource when not (isUser (c .prefix)) ∷ badName when not (isChannel (partedIn c)) ∷ [])
+      unfolding partRules
+      part-counted = skip _ _ (rw (le-leb 1 (length (c .params)) h, le-leb (length (c .params)) 2 l))
+
+      pub part-unsourced : isUser (c .prefix) ≡ false → firstOf (partRules c) ≡ badSource
+      part-unsourced u = part-counted ∙ stop _ _ (ap not u)
 
       module _ (u : isUser (c .prefix) ≡ true) where
-        pub part-unnamed : isChannel (partedIn c) ≡ false → firstOf (partRules slots c) ≡ badName
-        unfolding firstOf partRules
-        part-unnamed n = rw (le-leb 1 (length (c .params)) h, le-leb (length (c .params)) 2 l, u, n)
+        pub part-unnamed : isChannel (partedIn c) ≡ false → firstOf (partRules c) ≡ badName
+        part-unnamed n = part-counted ∙ skip _ _ (ap not u) ∙ stop _ _ (ap not n)
 
-        module _ (n : isChannel (partedIn c) ≡ true) where
-          pub part-absent : isHeld (slotFor slots (partedIn c)) ≡ false → firstOf (partRules slots c) ≡ noSuchChannel
-          unfolding firstOf partRules
-          part-absent e = rw (le-leb 1 (length (c .params)) h, le-leb (length (c .params)) 2 l, u, n, e)
+        pub part-passes : isChannel (partedIn c) ≡ true → firstOf (partRules c) ≡ accepted
+        part-passes n = part-counted ∙ skip _ _ (ap not u) ∙ skip _ _ (ap not n) ∙ no-rules
 
-          pub part-held : (s : Slot) → slotFor slots (partedIn c) ≡ s → isHeld s ≡ true → firstOf (partRules slots c) ≡ cond (hasMember (sourceIn c) (decode (heldIn slots s) .members)) accepted notOnChannel
-          unfolding firstOf partRules
-          part-held s e i = rw (le-leb 1 (length (c .params)) h, le-leb (length (c .params)) 2 l, u, n, e, i) (go (hasMember (sourceIn c) (decode (heldIn slots s) .members)))
-            where
-              go : (t : Bool) → cond (not t) notOnChannel accepted ≡ cond t accepted notOnChannel
-              go true = refl
-              go false = refl
+-- ---- PART, in its slot
+module _ (slots : List Record) (c : Content) (passes : firstOf (partRules c) ≡ accepted) where
+  slot-decides : firstOf (commandRules Part slots c) ≡ firstOf (partedRules slots c)
+  slot-decides = append-none (partedRules slots c) (partRules c) (part-numbered c) passes
 
-          module _ (k : ℕ) (e : slotFor slots (partedIn c) ≡ Held k) where
-            there : Bool
-            there = hasMember (sourceIn c) (decode (getD slots k emptyRecord) .members)
+  pub part-absent : isHeld (slotFor slots (partedIn c)) ≡ false → firstOf (commandRules Part slots c) ≡ noSuchChannel
+  unfolding partedRules
+  part-absent e = slot-decides ∙ stop _ _ (ap not e)
 
-            present : (t : Bool) → there ≡ t → firstOf (partRules slots c) ≡ accepted → there ≡ true
-            unfolding there
-            present true h z = h
-            present false h z = absurd (omega (arith, sym z ∙ part-held (Held k) e refl ∙ ap (λ (b : Bool). cond b accepted notOnChannel) h))
+  module _ (k : ℕ) (e : slotFor slots (partedIn c) ≡ Held k) where
+    abbrev there : Bool
+    there = hasMember (sourceIn c) (decode (getD slots k emptyRecord) .members)
 
-            pub part-judged : (r : Record) → r ≡ getD slots k emptyRecord → (id : List ℕ) → id ≡ sourceIn c → (j : Change) → PartsHeld k r id j → Judged (partRules slots c) Part slots c j
-            unfolding there
-            part-judged r f id g j q =
-                let is : PartsHeld k (getD slots k emptyRecord) (sourceIn c) j = rw (sym f, sym g) q in
-                record {
-                  number = is .number ∙ sym (part-held (Held k) e refl);
-                  inside = is .inside;
-                  changes = λ z. rw e (is .change (present there refl z));
-                }
+    part-held : firstOf (commandRules Part slots c) ≡ firstOf (notOnChannel when not there ∷ [])
+    unfolding partedRules
+    part-held = slot-decides ∙ rw e (skip _ _ refl)
+
+    part-number : (t : Bool) → firstOf (notOnChannel when not t ∷ []) ≡ cond t accepted notOnChannel
+    part-number true = skip _ _ refl ∙ no-rules
+    part-number false = stop _ _ refl
+
+    pub part-judged : (id : List ℕ) → id ≡ sourceIn c → (j : Change) → PartsHeld k (getD slots k emptyRecord) id j → Judged (commandRules Part slots c) Part slots c j
+    part-judged id g j q =
+        let is : PartsHeld k (getD slots k emptyRecord) (sourceIn c) j = rw (sym g) q in
+        record {
+          number = is .number ∙ sym (part-held ∙ part-number there);
+          inside = is .inside;
+          changes = λ z. rw e (is .change (not-false there (first-none _ _ (λ n. omega arith) (sym part-held ∙ z) .0)));
+        }

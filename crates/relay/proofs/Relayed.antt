@@ -1,7 +1,7 @@
 -- The line that goes out reads as the message that it should be, and is never longer than the line read: PART and QUIT are passed on as read, and an SJOIN is told
 -- again under the stored spelling, which is as long as the line's, at a time that is no later. So no number comes of writing it. Assumes nothing.
 use Prim.Native.Nat.{ℕ, _≤_}
-use mathlib.Core.Path.{_≡_, refl}
+use mathlib.Core.Path.{_≡_, refl, sym, _∙_}
 use mathlib.Core.Bool.{Bool, true, false}
 use mathlib.Core.List.{List, map}
 use native.Mathlib.Omega.{arith}
@@ -9,7 +9,7 @@ use lib.ListN.{length, getD}
 use borrow.Author.Tests.{eq-eqb}
 use Rattle.refusal.specs.Numbers.{accepted}
 use Rattle.refusal.specs.Rules.{firstOf}
-use Rattle.refusal.proofs.Rules.{both-none}
+use Rattle.refusal.proofs.Rules.{stop, both-none}
 use Rattle.octets.specs.Bytes.{capital}
 use Rattle.laws.specs.Lists.{all, same}
 use Rattle.octets.proofs.Bytes.{same-true}
@@ -89,7 +89,7 @@ Reads line d = (isRead (written d) ≡ true) × (contentOf (written d) ≡ d) ×
 
 pub relayed-reads : (slots : List Record) (line : List ℕ) → all goodSlot slots ≡ true → firstOf (takenRules slots line) ≡ accepted
     → (isRead (relayed slots line) ≡ true) × (contentOf (relayed slots line) ≡ messageAfter (commandIn line) slots (contentOf line)) × (length (relayed slots line) ≤ length line)
-unfolding relayed outgoing forwarded channelIn firstOf
+unfolding relayed outgoing forwarded channelIn
 relayed-reads slots line good none = go (commandIn line) refl (rules-none slots line none .1)
   where
     read : isRead line ≡ true
@@ -103,4 +103,4 @@ relayed-reads slots line good none = go (commandIn line) refl (rules-none slots 
         retold-reads line read n (sjoin-word (c .command) e) (resulting slots (channelIn c) .name) (resulting slots (channelIn c) .time) (r .0) (r .1) (r .2) (r .3)
     go Part e h = forwarded-reads line read
     go Quit e h = forwarded-reads line read
-    go Unknown e h = absurd (omega arith)
+    go Unknown e h = let z = sym (stop _ _ refl) ∙ h in absurd (omega (arith, z))

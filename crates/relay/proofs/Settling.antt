@@ -16,7 +16,7 @@ use Rattle.table.specs.declared.Found.{Found}
 use Rattle.table.specs.declared.Slot.{Slot}
 use Rattle.table.specs.declared.Slot.the-variants.{Held, Free, Full}
 use Rattle.table.specs.Table.{goodSlot}
-use Rattle.table.specs.Slots.{slotFor, heldIn, foundFor, isHeld}
+use Rattle.table.specs.Slots.{slotFor, heldIn, isHeld}
 use Rattle.table.proofs.Searching.{slot-held, slot-free}
 use Rattle.sjoin.specs.Join.{channelIn}
 use Rattle.relay.specs.declared.Command.{Command}
@@ -25,7 +25,7 @@ use Rattle.relay.specs.declared.Request.{Request}
 use Rattle.relay.specs.declared.Change.{Change}
 use Rattle.relay.specs.Commands.{partedIn}
 use Rattle.relay.specs.Relay.{commandRules}
-use Rattle.relay.specs.Private.{AsksJoin, AsksPart, Asks, Inside, JoinsFound, PartsFound, Settled}
+use Rattle.relay.specs.Private.{AsksJoin, AsksPart, Asks, lookedUp, Inside, JoinsFound, PartsFound, Settled}
 use Rattle.relay.proofs.Judgements.{Judged, refused-judged}
 use Rattle.relay.proofs.Used.{decoded, join-full, join-free, join-held}
 use Rattle.relay.proofs.Leaving.{part-absent, part-judged}
@@ -37,7 +37,7 @@ found-inside slots name sixteen = go (slotFor slots name) refl
     go : (s : Slot) → slotFor slots name ≡ s → Inside s
     go (Held k) e = omega (arith, slot-held slots name emptyRecord k e .inside)
     go (Free k) e = omega (arith, slot-free slots name emptyRecord k e .1 .inside)
-    go Full e = omega arith
+    go Full e = tt
 
 module _ (slots : List Record) (line : List ℕ) (q : Request) (j : Change) where
   abbrev content : Content
@@ -59,26 +59,15 @@ module _ (slots : List Record) (line : List ℕ) (q : Request) (j : Change) wher
   -- ---- PART
   module _ (a : AsksPart content q) where
     part-settled : (s : Slot) → slotFor slots (partedIn content) ≡ s → PartsFound s (heldIn slots s) (q .user) j → Judges Part
-    part-settled (Held k) e f = part-judged slots content (a .counted .0) (a .counted .1) (a .sourced) (a .named) k e (heldIn slots (Held k)) refl (q .user) (a .leaves) j f
-    part-settled (Free k) e f = refused-judged _ Part slots content _ j f (λ z. omega (arith, z)) (part-absent slots content (a .counted .0) (a .counted .1) (a .sourced) (a .named) (ap isHeld e))
-    part-settled Full e f = refused-judged _ Part slots content _ j f (λ z. omega (arith, z)) (part-absent slots content (a .counted .0) (a .counted .1) (a .sourced) (a .named) (ap isHeld e))
+    part-settled (Held k) e f = part-judged slots content (a .passes) k e (q .user) (a .leaves) j f
+    part-settled (Free k) e f = refused-judged _ Part slots content _ j f (λ z. omega (arith, z)) (part-absent slots content (a .passes) (ap isHeld e))
+    part-settled Full e f = refused-judged _ Part slots content _ j f (λ z. omega (arith, z)) (part-absent slots content (a .passes) (ap isHeld e))
 
   -- ---- by the command
-  -- neither is QUIT, of which no slot is looked for
-  joins-stay : q .command ≡ Sjoin → q .command ≡ Quit → ⊥
-  joins-stay a b = let z : _≡_ {A = ℕ} 0 1 = cc in absurd (omega arith)
-
-  parts-stay : q .command ≡ Part → q .command ≡ Quit → ⊥
-  parts-stay a b = let z : _≡_ {A = ℕ} 0 1 = cc in absurd (omega arith)
-
-  pub settled-judged : isRead line ≡ true → length slots ≡ slotCount → all goodSlot slots ≡ true → (f : Found)
-      → ((q .command ≡ Quit → ⊥) → f ≡ foundFor slots (decode (q .«record») .name)) → (k : Command) → Asks k line q → Settled (q .command) q f j → Judges k
-  settled-judged read sixteen good f e Sjoin a s =
-      let at : f ≡ foundFor slots (decode (q .«record») .name) = e (λ z. joins-stay (a .command) z) in
-      join-settled a read sixteen good (slotFor slots (channelIn content .name)) refl (rw (a .command, at, incoming a read) at s)
-  settled-judged read sixteen good f e Part a s =
-      let at : f ≡ foundFor slots (decode (q .«record») .name) = e (λ z. parts-stay (a .command) z) in
-      part-settled a (slotFor slots (partedIn content)) refl (rw (a .command, at, a .names) at s)
+  pub settled-judged : isRead line ≡ true → length slots ≡ slotCount → all goodSlot slots ≡ true → (f : Found) → f ≡ lookedUp q slots → (k : Command) → Asks k line q
+      → Settled (q .command) q f j → Judges k
+  settled-judged read sixteen good f e Sjoin a s = join-settled a read sixteen good (slotFor slots (channelIn content .name)) refl (rw (e, a .command, incoming a read) at s)
+  settled-judged read sixteen good f e Part a s = part-settled a (slotFor slots (partedIn content)) refl (rw (e, a .command, a .names) at s)
   settled-judged read sixteen good f e Quit a s =
       let h : Settled Quit q f j = rw (a .command) at s in
       record { number = h .0 ∙ sym (a .passes); inside = h .1; changes = λ _. rw (a .leaves) at (h .2) }

@@ -1,19 +1,18 @@
--- Taking a line: a well-formed table stays well formed; an SJOIN changes one slot, by merging or opening; from rule 4 on all depends on the slots and the
--- line alone; and the numbers ascend. True since merging, opening and removing members keep a record well formed, each slot keeps its name or is emptied,
--- and the slot that is opened takes a name that none holds. Assumes nothing.
+-- Taking a line keeps the table well formed, changes one slot with an SJOIN, and from rule 4 on depends on the slots and the line alone. True since each
+-- slot keeps its name or is emptied, what is put into it is well formed, and the slot that is opened takes a name that none holds. Assumes nothing.
 use Prim.Native.Nat.{ℕ, suc, _≤_, _<_}
 use mathlib.Core.Path.{_≡_, refl, sym, ap, _∙_}
 use mathlib.Core.Bool.{Bool, true, false, not, cond, _&&_, true≢false, false≢true}
 use mathlib.Core.Logic.{_⊎_, inl, inr}
-use mathlib.Core.List.{List, _++_, map}
+use mathlib.Core.List.{List, _∷_, _++_, map}
 use native.Mathlib.Omega.{arith}
 use lib.ListN.{length, getD, set}
 use lib.Seq.{getD-set-same, getD-set-other}
 use lib.Dec.{eqb, ltb}
 use borrow.Author.Tests.{eqb-true, ltb-false, not-false}
 use Rattle.refusal.specs.Numbers.{accepted, notWellFormed, outputTooShort, badLink}
-use Rattle.refusal.specs.Rules.{firstOf, emitted, ascend, ascendFrom, placeIn, rank}
-use Rattle.refusal.proofs.Rules.{first-none}
+use Rattle.refusal.specs.Rules.{Rule, _when_, firstOf, emitted, ascend, ascendFrom, placeIn, rank}
+use Rattle.refusal.proofs.Rules.{skip, stop, first-none, both-none}
 use Rattle.laws.specs.Bits.{hasBit}
 use Rattle.laws.specs.Lists.{all}
 use Rattle.laws.proofs.Bools.{and-left, and-right, and-intro}
@@ -47,7 +46,8 @@ use Rattle.sjoin.proofs.Wellformed.{read-proper}
 use Rattle.relay.specs.declared.Command.{Command}
 use Rattle.relay.specs.declared.Command.the-variants.{Sjoin, Part, Quit, Unknown}
 use Rattle.relay.specs.Commands.{sourceIn, partedIn}
-use Rattle.relay.specs.Relay.{resultIn, resulting, joinedRules, joined, partRules, parted, quitRules, commandRules, slotsAfter, commandIn, takenRules, processRules, slotsBy, relayed, withSlots, processAnswer, sent}
+use Rattle.relay.specs.Relay.{resultIn, resulting, joinedRules, joined, partRules, partedRules, parted, quitRules, commandRules, slotsAfter, commandIn, takenRules, processRules, slotsBy, relayed, withSlots, processAnswer, sent}
+use Rattle.relay.proofs.Leaving.{part-numbered}
 use Rattle.relay.proofs.Relayed.{rules-none, join-none}
 
 -- ---- an incoming channel in its slot
@@ -99,13 +99,9 @@ module _ (slots : List Record) (good : all goodSlot slots ≡ true) (c : Channel
 
 -- ---- a well-formed table stays well formed
 -- a PART that no rule refuses names a channel that is there
-part-none : (slots : List Record) (c : Content) → firstOf (partRules slots c) ≡ accepted → isHeld (slotFor slots (partedIn c)) ≡ true
-unfolding partRules
-part-none slots c none =
-    let counted = first-none _ _ (λ z. omega arith) none in
-    let sourced = first-none _ _ (λ z. omega arith) (counted .1) in
-    let named = first-none _ _ (λ z. omega arith) (sourced .1) in
-    not-false _ (first-none _ _ (λ z. omega arith) (named .1) .0)
+part-none : (slots : List Record) (c : Content) → firstOf (commandRules Part slots c) ≡ accepted → isHeld (slotFor slots (partedIn c)) ≡ true
+unfolding partedRules
+part-none slots c none = not-false _ (first-none _ _ (λ z. omega arith) (both-none (partedRules slots c) (partRules c) (part-numbered c) none .1) .0)
 
 module _ (slots : List Record) (good : all goodSlot slots ≡ true) (apart : distinct slots ≡ true) where
   parted-good : (c : Content) → isHeld (slotFor slots (partedIn c)) ≡ true → (all goodSlot (parted slots c) ≡ true) × (distinct (parted slots c) ≡ true)
@@ -233,14 +229,14 @@ module _ (t : Table) (link : ℕ) (line : List ℕ) (n : ℕ) where
       go false e = rw e
 
   rules-later : Later (firstOf (processRules t link line n)) → firstOf (processRules t link line n) ≡ firstOf (takenRules (t .slots) line)
-  unfolding processRules firstOf
-  rules-later h = go (not (goodTable t)) (ltb n lineLimit) (not (isLink link && hasBit (t .links .set) link)) (firstOf (takenRules (t .slots) line)) h
+  unfolding processRules
+  rules-later = go (not (goodTable t)) (ltb n lineLimit) (not (isLink link && hasBit (t .links .set) link)) (takenRules (t .slots) line)
     where
-      go : (a b c : Bool) (k : ℕ) → Later (cond a notWellFormed (cond b outputTooShort (cond c badLink k))) → cond a notWellFormed (cond b outputTooShort (cond c badLink k)) ≡ k
-      go true b c k h = absurd (h .0 refl)
-      go false true c k h = absurd (h .1 refl)
-      go false false true k h = absurd (h .2 refl)
-      go false false false k h = refl
+      go : (a b c : Bool) (rs : List Rule) → Later (firstOf (notWellFormed when a ∷ outputTooShort when b ∷ badLink when c ∷ rs)) → firstOf (notWellFormed when a ∷ outputTooShort when b ∷ badLink when c ∷ rs) ≡ firstOf rs
+      go true b c rs h = absurd (h .0 (stop _ _ refl))
+      go false true c rs h = absurd (h .1 (skip _ _ refl ∙ stop _ _ refl))
+      go false false true rs h = absurd (h .2 (skip _ _ refl ∙ skip _ _ refl ∙ stop _ _ refl))
+      go false false false rs h = skip _ _ refl ∙ skip _ _ refl ∙ skip _ _ refl
 
   pub from-four : Later (processAnswer t link line n .number)
       → (processAnswer t link line n .number ≡ firstOf (takenRules (t .slots) line))
@@ -265,7 +261,7 @@ after-alone t u a b line n m e h k =
 
 -- ---- the rules stand in the order of their numbers: the first in it that applies is given
 pub rules-ascend : (t : Table) (link : ℕ) (line : List ℕ) (n : ℕ) → ascend (processRules t link line n) ≡ true
-unfolding ascendFrom processRules takenRules lineRules bodyRules joinRules joinedRules partRules quitRules placeIn
+unfolding ascendFrom processRules takenRules lineRules bodyRules joinRules joinedRules partRules partedRules quitRules placeIn
 rules-ascend t link line n = go (commandIn line)
   where
     go : (k : Command) → ascendFrom (suc (rank badLink)) (lineRules line ++ commandRules k (t .slots) (contentOf line)) ≡ true

@@ -9,7 +9,7 @@ use lib.ListN.{length, getD}
 use borrow.Author.Tests.{le-ltb}
 use Rattle.refusal.specs.Numbers.{accepted, noFreeSlot}
 use Rattle.refusal.specs.Rules.{firstOf}
-use Rattle.refusal.proofs.Rules.{append-some, append-none}
+use Rattle.refusal.proofs.Rules.{skip, stop, append-some, append-none}
 use Rattle.laws.specs.Lists.{all}
 use Rattle.message.specs.Content.{Content}
 use Rattle.message.specs.Reading.{isRead, contentOf}
@@ -23,7 +23,7 @@ use Rattle.channel.proofs.Proper.{Proper, proper-fits, encode-well}
 use Rattle.channel.proofs.Records.{decode-encode}
 use Rattle.table.specs.declared.Slot.the-variants.{Held, Free, Full}
 use Rattle.table.specs.Table.{goodSlot, holds}
-use Rattle.table.specs.Slots.{slotFor, placeOf}
+use Rattle.table.specs.Slots.{slotFor, isFull, placeOf}
 use Rattle.table.proofs.First.{IsFirst}
 use Rattle.table.proofs.Searching.{slot-held, slot-free}
 use Rattle.table.proofs.WellFormed.{holding-name}
@@ -37,7 +37,7 @@ use Rattle.relay.specs.declared.Change.{Change}
 use Rattle.relay.specs.declared.Command.the-variants.{Sjoin}
 use Rattle.relay.specs.Relay.{resulting, joinedRules}
 use Rattle.relay.specs.Private.{unchanged, Joins, JoinsHeld}
-use Rattle.relay.proofs.Judgements.{Judged, refused-judged}
+use Rattle.relay.proofs.Judgements.{Judged, no-rules, refused-judged}
 
 module _ (slots : List Record) (c : Channel) (p : Proper c) where
   back : decode (encode c) ≡ c
@@ -57,8 +57,11 @@ module _ (slots : List Record) (c : Channel) (p : Proper c) where
 
     module _ (good : all goodSlot slots ≡ true) where
       pub held-rules : firstOf (mergeRules there (encode c)) ≡ firstOf (joinedRules slots c)
-      unfolding firstOf mergeRules joinedRules
-      held-rules = rw (held-result, e, held-well slots good (c .name) k e, encode-well c p, back, holding-name (c .name) there (first .passes))
+      unfolding mergeRules joinedRules
+      held-rules =
+          skip _ _ (rw (held-well slots good (c .name) k e, encode-well c p))
+          ∙ skip _ _ (rw (back, holding-name (c .name) there (first .passes)))
+          ∙ rw (back, sym held-result) (sym (skip _ _ (ap isFull e)))
 
       pub held-answer : firstOf (joinedRules slots c) ≡ accepted → mergeAnswer there (encode c) .result ≡ encode (resulting slots c)
       unfolding mergeAnswer
@@ -74,13 +77,13 @@ module _ (slots : List Record) (c : Channel) (p : Proper c) where
     free-result = rw e
 
     pub free-rules : firstOf (joinedRules slots c) ≡ accepted
-    unfolding firstOf joinedRules
-    free-rules = rw (free-result, e, le-ltb memberLimit (length (c .members)) (p .few))
+    unfolding joinedRules
+    free-rules = skip _ _ (ap isFull e) ∙ skip _ _ (rw free-result (le-ltb memberLimit (length (c .members)) (p .few))) ∙ no-rules
 
 -- ---- nor is one free
 pub full-rules : (slots : List Record) (c : Channel) → slotFor slots (c .name) ≡ Full → firstOf (joinedRules slots c) ≡ noFreeSlot
-unfolding firstOf joinedRules
-full-rules slots c e = rw e
+unfolding joinedRules
+full-rules slots c e = stop _ _ (ap isFull e)
 
 -- ---- the judgement of an SJOIN
 joins-as : (k m : ℕ) (r s : Record) (c d : Channel) (j : Change) → k ≡ m → r ≡ s → c ≡ d → Joins k r c j → Joins m s d j

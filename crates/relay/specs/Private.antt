@@ -1,13 +1,13 @@
 -- What private functions ask and promise: what a line asks for, what that comes to in its slot, and what is made of it. No public contract cites this
 -- file: nobody needs to believe it.
-use Prim.Native.Nat.{ℕ, _≤_, _<_}
+use Prim.Native.Nat.{ℕ, _<_}
 use mathlib.Core.Path.{_≡_}
-use mathlib.Core.Bool.{true, cond}
+use mathlib.Core.Bool.{Bool, true, false, cond}
 use mathlib.Core.List.{List, map}
-use lib.ListN.{length, set, replicate}
+use lib.ListN.{set, replicate}
 use Rattle.refusal.specs.Numbers.{accepted, unknownCommand, noSuchChannel, notOnChannel, noFreeSlot}
 use Rattle.refusal.specs.Rules.{Rule, firstOf}
-use Rattle.names.specs.Names.{userIdLength, isChannel}
+use Rattle.names.specs.Names.{userIdLength}
 use Rattle.message.specs.Content.{Content}
 use Rattle.message.specs.Reading.{contentOf}
 use Rattle.writer.specs.Form.{written}
@@ -22,14 +22,15 @@ use Rattle.channel.specs.Merging.{mergeAnswer}
 use Rattle.table.specs.declared.Found.{Found}
 use Rattle.table.specs.declared.Slot.{Slot}
 use Rattle.table.specs.declared.Slot.the-variants.{Held, Free, Full}
+use Rattle.table.specs.Slots.{foundFor}
 use Rattle.sjoin.specs.Join.{toldBy}
 use Rattle.sjoin.specs.Telling.{joinMessage, tellRules}
 use Rattle.relay.specs.declared.Command.{Command}
 use Rattle.relay.specs.declared.Command.the-variants.{Sjoin, Part, Quit, Unknown}
 use Rattle.relay.specs.declared.Request.{Request}
 use Rattle.relay.specs.declared.Change.{Change}
-use Rattle.relay.specs.Commands.{isUser, sourceIn, partedIn}
-use Rattle.relay.specs.Relay.{outgoing, quitRules}
+use Rattle.relay.specs.Commands.{sourceIn, partedIn}
+use Rattle.relay.specs.Relay.{outgoing, partRules, quitRules}
 
 -- ---- what a line asks for
 abbrev pub nothing : ℕ → Request
@@ -45,9 +46,7 @@ pub record AsksPart (c : Content) (q : Request) : Type 0 where
   pub command : q .command ≡ Part
   pub names : decode (q .«record») .name ≡ partedIn c
   pub leaves : q .user ≡ sourceIn c
-  pub counted : (1 ≤ length (c .params)) × (length (c .params) ≤ 2)
-  pub sourced : isUser (c .prefix) ≡ true
-  pub named : isChannel (partedIn c) ≡ true
+  pub passes : firstOf (partRules c) ≡ accepted
 
 -- The user who leaves every channel.
 pub record AsksQuit (c : Content) (q : Request) : Type 0 where
@@ -67,6 +66,17 @@ pub record Requested (rules : List Record → List Rule) (command : Command) (li
   pub asks : q .number ≡ accepted → Asks command line q
 
 -- ---- what it comes to
+-- A QUIT names no channel, and none is looked for.
+abbrev pub isQuit : Command → Bool
+isQuit Sjoin = false
+isQuit Part = false
+isQuit Quit = true
+isQuit Unknown = false
+
+-- the slot that a request's channel uses
+abbrev pub lookedUp : Request → List Record → Found
+lookedUp q slots = cond (isQuit (q .command)) (record { «record» = emptyRecord; slot = Full }) (foundFor slots (decode (q .«record») .name))
+
 abbrev pub unchanged : ℕ → Change
 unchanged number = record { number = number; command = Unknown; slot = 0; «record» = emptyRecord; told = emptyRecord; user = replicate userIdLength 0 }
 
@@ -104,7 +114,7 @@ pub record PartsHeld (k : ℕ) (held : Record) (user : List ℕ) (j : Change) : 
 abbrev pub Inside : Slot → Type 0
 Inside (Held k) = k < slotCount
 Inside (Free k) = k < slotCount
-Inside Full = 0 < slotCount
+Inside Full = Unit {0}
 
 -- by the slot that the name uses, and the record that has it
 abbrev pub JoinsFound : Slot → Record → Record → Change → Type 0

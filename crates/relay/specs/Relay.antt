@@ -63,12 +63,18 @@ outgoing result c = record {
 }
 
 -- ---- PART
-unfoldable pub partRules : List Record → Content → List Rule
-partRules slots c =
+-- those of the line by itself
+unfoldable pub partRules : Content → List Rule
+partRules c =
     wrongParamCount when not (leb 1 (length (c .params)) && leb (length (c .params)) 2)
     ∷ badSource when not (isUser (c .prefix))
     ∷ badName when not (isChannel (partedIn c))
-    ∷ noSuchChannel when not (isHeld (slotFor slots (partedIn c)))
+    ∷ []
+
+-- those of its slot
+unfoldable pub partedRules : List Record → Content → List Rule
+partedRules slots c =
+    noSuchChannel when not (isHeld (slotFor slots (partedIn c)))
     ∷ notOnChannel when not (hasMember (sourceIn c) (decode (heldIn slots (slotFor slots (partedIn c))) .members))
     ∷ []
 
@@ -88,7 +94,7 @@ quitRules c =
 -- ---- by the command
 abbrev pub commandRules : Command → List Record → Content → List Rule
 commandRules Sjoin slots c = joinRules c ++ joinedRules slots (channelIn c)
-commandRules Part slots c = partRules slots c
+commandRules Part slots c = partRules c ++ partedRules slots c
 commandRules Quit slots c = quitRules c
 commandRules Unknown slots c = unknownCommand when true ∷ []
 

@@ -1,17 +1,14 @@
 // The judgement: table, output and link first; and, of what a line asks for, what it comes to in the slot that its channel's name uses. Nothing is
 // written.
 ghost use mathlib.Core.Path.{_≡_};
-ghost use mathlib.Core.Bool.{true};
 ghost use Prim.Native.Nat.{_<_};
 ghost use Rattle.refusal.specs.Numbers.{accepted};
 ghost use Rattle.refusal.specs.Rules.{firstOf};
 ghost use Rattle.channel.specs.Limits.{slotCount};
 ghost use Rattle.channel.specs.Record.{decode};
 ghost use Rattle.channel.specs.Merging.{bare as bareOf, mergeAnswer};
-ghost use Rattle.table.specs.Slots.{foundFor};
-ghost use Rattle.relay.specs.declared.Command.the-variants.{Quit};
 ghost use Rattle.relay.specs.Relay.{outgoing as outgoingOf, entryRules};
-ghost use Rattle.relay.specs.Private.{unchanged, Inside, Joins, JoinsHeld, JoinsFound, PartsHeld, PartsFound, Quits, Settled};
+ghost use Rattle.relay.specs.Private.{unchanged, isQuit, lookedUp, Inside, Joins, JoinsHeld, JoinsFound, PartsHeld, PartsFound, Quits, Settled};
 use crate::Change;
 use crate::Command;
 use crate::Request;
@@ -57,7 +54,7 @@ pub(crate) fn entry_number(good: bool, n: usize, links: Links, link: u32) -> u8
 
 // Whether the command is QUIT.
 fn is_quit(command: Command) -> bool
-    ensures { λ r. ⌜ (r ≡ true → command ≡ Quit) ⌝ }
+    ensures { λ r. ⌜ r ≡ isQuit command ⌝ }
 {
     match command {
         Command::Sjoin => false,
@@ -69,7 +66,7 @@ fn is_quit(command: Command) -> bool
 
 // The slot that the name of a request's channel uses. A QUIT names no channel, and none is looked for.
 pub(crate) fn slot_of(t: Table, request: Request) -> Found
-    ensures found { λ r. ⌜ ((request .command ≡ Quit → ⊥) → r ≡ foundFor (t .slots) (decode (request .«record») .name)) ⌝ }
+    ensures found { λ r. ⌜ r ≡ lookedUp request (t .slots) ⌝ }
     ensures inside { λ r. ⌜ Inside (r .slot) ⌝ }
 {
     let command = request.command;

@@ -1,5 +1,4 @@
 -- `is_quit` meets its contract: only the arm of QUIT says yes. Assumes nothing.
-use mathlib.Core.Bool.{false≢true}
 use borrow.Author.Needs.{needs}
 use Rattle.relay.proofs.judging.is_quit.Statement.{statement}
 use Rattle.relay.proofs.judging.is_quit.Tie as tie
@@ -17,16 +16,16 @@ enum-told-4 : tie.Need-enum-told-4
 enum-told-4 c = search needs
 
 returns : tie.Need-returns
-returns c = λ h. absurd (false≢true h)
+returns c = rw (c .enum-told .given .1)
 
 returns-2 : tie.Need-returns-2
-returns-2 c = λ h. absurd (false≢true h)
+returns-2 c = rw (c .enum-told2 .given .1)
 
 returns-3 : tie.Need-returns-3
-returns-3 c = search needs
+returns-3 c = rw (c .enum-told3 .given .1)
 
 returns-4 : tie.Need-returns-4
-returns-4 c = λ h. absurd (false≢true h)
+returns-4 c = rw (c .enum-told4 .given .1)
 
 pub is-quit-spec : {M : Type 1} → statement M
 is-quit-spec =

@@ -1,6 +1,5 @@
 -- `slot_of` meets its contract: the part in use of the room for a name is the name, and a slot that is found is one of the table's. Assumes nothing.
 use mathlib.Core.Path.{_≡_, sym, ap, _∙_}
-use native.Mathlib.Omega.{arith}
 use lib.ListN.{length}
 use borrow.Author.Needs.{needs}
 use Rattle.laws.proofs.Lists.{unmapped}
@@ -19,7 +18,7 @@ empty-requires : tie.Need-empty-requires
 empty-requires c κs = search needs
 
 returns : tie.Need-returns
-returns c = (λ ne. absurd (ne (c .before .before .is-quit .ensures (c .before .if1 .taken))), omega arith)
+returns c = (rw (sym (c .before .before .is-quit .ensures) ∙ c .before .if1 .taken, c .empty .ensures .0), tt)
 
 slice-aggregate-part : tie.Need-slice-aggregate-part
 slice-aggregate-part c = search needs
@@ -37,7 +36,7 @@ returns-2 c =
     let channel = s .args .request .«record» in
     let found : c .find .result ≡ foundFor slots (decode channel .name) = c .find .ensures .0 ∙ ap (foundFor slots) (c .before .part .ensures .0 ∙ sym (decoded-name channel)) in
     let sixteen : length slots ≡ slotCount = search (needs, unmapped) in
-    (λ _. found, rw found (found-inside slots (decode channel .name) sixteen))
+    (rw (sym (c .before .before .before .before .before .before .is-quit .ensures) ∙ c .before .before .before .before .before .if1 .left) found, rw found (found-inside slots (decode channel .name) sixteen))
 
 pub slot-of-spec : {M : Type 1} → statement M
 slot-of-spec =

@@ -9,18 +9,18 @@ use borrow.Author.Needs.{needs}
 use borrow.Author.Tests.{not-true, not-false}
 use Rattle.refusal.specs.Numbers.{accepted}
 use Rattle.refusal.specs.Rules.{firstOf}
+use Rattle.refusal.proofs.Rules.{append-some}
 use Rattle.names.specs.Names.{isChannel}
 use Rattle.names.proofs.Channels.{channel-length}
 use Rattle.message.specs.Content.{Content}
 use Rattle.message.specs.Reading.{contentOf}
-use Rattle.channel.specs.declared.Record.{Record}
 use Rattle.relay.specs.declared.Command.the-variants.{Part}
 use Rattle.relay.specs.declared.Request.{Request}
 use Rattle.relay.specs.Commands.{isUser, partedIn}
-use Rattle.relay.specs.Relay.{partRules, commandRules}
+use Rattle.relay.specs.Relay.{partRules, partedRules, commandRules}
 use Rattle.relay.specs.Private.{nothing, Requested}
 use Rattle.relay.proofs.Judgements.{refused-asked}
-use Rattle.relay.proofs.Leaving.{user-told, user-held, part-few, part-many, part-unsourced, part-unnamed}
+use Rattle.relay.proofs.Leaving.{user-told, user-held, part-few, part-many, part-unsourced, part-unnamed, part-passes}
 use Rattle.relay.proofs.requests.part_request.Statement.{statement}
 use Rattle.relay.proofs.requests.part_request.Tie as tie
 
@@ -50,9 +50,9 @@ named : (c : tie.Else4) → isChannel (partedIn (content (c .before .before .bef
 named c = channel (c .before) true (not-false _ (c .if4 .left))
 
 -- ---- a refusal
-refuses : (c : tie.Start) (k : ℕ) (q : Request) → q ≡ nothing k → (k ≡ accepted → ⊥) → ((slots : List Record) → firstOf (partRules slots (content c)) ≡ k)
+refuses : (c : tie.Start) (k : ℕ) (q : Request) → q ≡ nothing k → (k ≡ accepted → ⊥) → firstOf (partRules (content c)) ≡ k
     → Requested (λ slots. commandRules Part slots (content c)) Part (line c) q
-refuses c k q = refused-asked (λ slots. commandRules Part slots (content c)) Part (line c) k q
+refuses c k q e ne f = refused-asked (λ slots. commandRules Part slots (content c)) Part (line c) k q e ne (λ slots. append-some (partedRules slots (content c)) (partRules (content c)) (λ z. ne (sym f ∙ z)) ∙ f)
 
 -- ---- the needs
 nothing-requires : tie.Need-nothing-requires
@@ -61,7 +61,7 @@ nothing-requires c κs = search needs
 returns : tie.Need-returns
 returns c =
     let s = c .before .before .before in
-    refuses s _ (c .nothing .result) (c .nothing .ensures) (λ z. omega (arith, z)) (λ slots. part-few slots (content s) (omega (arith, c .before .if1 .taken, s .pre .1)))
+    refuses s _ (c .nothing .result) (c .nothing .ensures) (λ z. omega (arith, z)) (part-few (content s) (omega (arith, c .before .if1 .taken, s .pre .1)))
 
 nothing-requires-2 : tie.Need-nothing-requires-2
 nothing-requires-2 c κs = search needs
@@ -70,7 +70,7 @@ returns-2 : tie.Need-returns-2
 returns-2 c =
     let s = c .before .before .before .before in
     refuses s _ (c .nothing2 .result) (c .nothing2 .ensures) (λ z. omega (arith, z))
-    (λ slots. part-many slots (content s) (some (c .before .before)) (omega (arith, c .before .if2 .taken, s .pre .1)))
+    (part-many (content s) (some (c .before .before)) (omega (arith, c .before .if2 .taken, s .pre .1)))
 
 prefix-at-requires : tie.Need-prefix-at-requires
 prefix-at-requires c κs = search needs
@@ -86,7 +86,7 @@ returns-3 c =
     let s = c .before .before .before .before .before .before .before in
     let two = c .before .before .before .before in
     refuses s _ (c .nothing3 .result) (c .nothing3 .ensures) (λ z. omega (arith, z))
-    (λ slots. part-unsourced slots (content s) (some (two .before)) (few two) (sourced (c .before .before) false (not-true _ (c .before .if3 .taken))))
+    (part-unsourced (content s) (some (two .before)) (few two) (sourced (c .before .before) false (not-true _ (c .before .if3 .taken))))
 
 name-at-requires : tie.Need-name-at-requires
 name-at-requires c κs = search needs
@@ -103,7 +103,7 @@ returns-4 c =
     let three = c .before .before .before .before in
     let two = three .before .before .before in
     refuses s _ (c .nothing4 .result) (c .nothing4 .ensures) (λ z. omega (arith, z))
-    (λ slots. part-unnamed slots (content s) (some (two .before)) (few two) (user three) (channel (c .before .before) false (not-true _ (c .before .if4 .taken))))
+    (part-unnamed (content s) (some (two .before)) (few two) (user three) (channel (c .before .before) false (not-true _ (c .before .if4 .taken))))
 
 named-requires : tie.Need-named-requires
 named-requires c κs = channel-length _ (sym (c .before .is-channel .ensures) ∙ not-false _ (c .if4 .left))
@@ -125,9 +125,7 @@ returns-5 c =
             command = refl;
             names = c .before .named .ensures ∙ four .before .before .name-at .ensures;
             leaves = user-held (content s) (source .result .now) (source .ensures) (user three) _ (c .user-id .ensures);
-            counted = (some (two .before), few two);
-            sourced = user three;
-            named = named four;
+            passes = part-passes (content s) (some (two .before)) (few two) (user three) (named four);
           };
     }
 

@@ -7,7 +7,7 @@ use native.Mathlib.Omega.{arith}
 use lib.ListN.{length}
 use borrow.Author.Needs.{needs}
 use Rattle.refusal.specs.Numbers.{accepted}
-use Rattle.refusal.specs.Rules.{firstOf}
+use Rattle.refusal.proofs.Rules.{stop}
 use Rattle.message.specs.Reading.{isRead, countOf, contentOf}
 use Rattle.message.proofs.Readings.{reading-line, reading-refused, refused-number}
 use Rattle.relay.specs.declared.Command.{Command}
@@ -106,11 +106,10 @@ returns-4 : tie.Need-returns-4
 returns-4 c = (asks (c .before .before .before) Quit (c .before .enum-told4 .given .1) (c .quit-request .result) (c .quit-request .ensures), λ _. read (c .before .before .before .before .before .before))
 
 returns-5 : tie.Need-returns-5
-unfolding firstOf
 returns-5 c =
     let s = c .before .before .before .before .before .before .before .before .before .before .before in (
       asks (c .before .before .before) Unknown (c .before .enum-told5 .given .1) (c .nothing2 .result)
-          (refused-asked (λ slots. commandRules Unknown slots (contentOf (line s))) Unknown (line s) _ (c .nothing2 .result) (c .nothing2 .ensures) (λ z. omega (arith, z)) (λ _. refl)),
+          (refused-asked (λ slots. commandRules Unknown slots (contentOf (line s))) Unknown (line s) _ (c .nothing2 .result) (c .nothing2 .ensures) (λ z. omega (arith, z)) (λ _. stop _ _ refl)),
       λ _. read (c .before .before .before .before .before .before),
     )
 
