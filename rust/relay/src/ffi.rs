@@ -2,10 +2,6 @@
 
 use std::marker::PhantomData;
 
-use crate::types::{
-    LineRead, Logged, Matched, Merged, Message, Record, Registered, Table, Taken, Written,
-};
-
 /// Bytes that a call reads. A slice's pointer is never null.
 #[repr(C)]
 pub struct Bytes<'a> {
@@ -34,18 +30,37 @@ impl<'a> Room<'a> {
     }
 }
 
-extern "C" {
-    pub fn relay_read(line: Bytes) -> LineRead;
-    pub fn relay_parts(line: Bytes) -> Message;
-    pub fn relay_write(text: Bytes, message: Message, out: Room) -> Written;
-    pub fn relay_same_name(a: Bytes, b: Bytes) -> bool;
-    pub fn relay_match(mask: Bytes, text: Bytes) -> Matched;
-    pub fn relay_key_less(a: Bytes, b: Bytes) -> bool;
-    pub fn relay_merge(first: Record, second: Record) -> Merged;
-    pub fn relay_empty_table() -> Table;
-    pub fn relay_register(table: Table, link: u32) -> Registered;
-    pub fn relay_unregister(table: Table, link: u32) -> Registered;
-    pub fn relay_process(table: Table, link: u32, line: Bytes, out: Room) -> Taken;
-    pub fn relay_log(link: u32, line: Bytes, log: Room) -> Logged;
-    pub fn relay_layout(k: usize) -> usize;
+/// Declares the functions of a library in whose symbols the prefix stands before each name. The
+/// build script takes the names from here.
+macro_rules! functions {
+    ($prefix:expr) => {
+        extern "C" {
+            #[link_name = concat!($prefix, "relay_read")]
+            fn relay_read(line: Bytes) -> LineRead;
+            #[link_name = concat!($prefix, "relay_parts")]
+            fn relay_parts(line: Bytes) -> Message;
+            #[link_name = concat!($prefix, "relay_write")]
+            fn relay_write(text: Bytes, message: Message, out: Room) -> Written;
+            #[link_name = concat!($prefix, "relay_same_name")]
+            fn relay_same_name(a: Bytes, b: Bytes) -> bool;
+            #[link_name = concat!($prefix, "relay_match")]
+            fn relay_match(mask: Bytes, text: Bytes) -> Matched;
+            #[link_name = concat!($prefix, "relay_key_less")]
+            fn relay_key_less(a: Bytes, b: Bytes) -> bool;
+            #[link_name = concat!($prefix, "relay_merge")]
+            fn relay_merge(first: Record, second: Record) -> Merged;
+            #[link_name = concat!($prefix, "relay_empty_table")]
+            fn relay_empty_table() -> Table;
+            #[link_name = concat!($prefix, "relay_register")]
+            fn relay_register(table: Table, link: u32) -> Registered;
+            #[link_name = concat!($prefix, "relay_unregister")]
+            fn relay_unregister(table: Table, link: u32) -> Registered;
+            #[link_name = concat!($prefix, "relay_process")]
+            fn relay_process(table: Table, link: u32, line: Bytes, out: Room) -> Taken;
+            #[link_name = concat!($prefix, "relay_log")]
+            fn relay_log(link: u32, line: Bytes, log: Room) -> Logged;
+            #[link_name = concat!($prefix, "relay_layout")]
+            fn relay_layout(k: usize) -> usize;
+        }
+    };
 }

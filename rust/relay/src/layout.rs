@@ -2,7 +2,6 @@
 
 use std::mem::{offset_of, size_of};
 
-use crate::ffi;
 use crate::types::{
     LineRead, Links, Logged, Matched, Member, Merged, Message, Record, Registered, Span, Table,
     Taken, Written,
@@ -24,8 +23,8 @@ fn size_of_field<S, F>(_field: fn(&S) -> &F) -> usize {
     size_of::<F>()
 }
 
-/// Whether the library lays out every struct as this crate does.
-pub fn layout_matches() -> bool {
+/// Whether a library lays out every struct as this crate does, by the numbers that it exports.
+pub fn matches(library: impl Fn(usize) -> usize) -> bool {
     let ours = [
         numbers!(Span: start end),
         numbers!(Message: has_prefix prefix command count params),
@@ -42,19 +41,16 @@ pub fn layout_matches() -> bool {
         numbers!(Logged: number size),
     ]
     .concat();
-    // SAFETY: only numbers go in and come back.
-    let library = |k| unsafe { ffi::relay_layout(k) };
     library(0) == ours.len() && (0..ours.len()).all(|k| library(k + 1) == ours[k])
 }
 
 #[cfg(test)]
 mod tests {
-    use super::*;
+    use crate::{layout_matches, layout_number};
 
     #[test]
     fn the_library_has_our_layout() {
         assert!(layout_matches());
-        // SAFETY: only numbers go in and come back.
-        assert_eq!(unsafe { (ffi::relay_layout(90), ffi::relay_layout(usize::MAX)) }, (0, 0));
+        assert_eq!((layout_number(90), layout_number(usize::MAX)), (0, 0));
     }
 }

@@ -5,123 +5,48 @@
 //! Call [`layout_matches`] once before anything else: it compares the structs of this crate with the
 //! library's.
 
+#[macro_use]
 mod ffi;
 mod layout;
 mod types;
 
-pub use layout::layout_matches;
 pub use types::{
     Answer, LineRead, Links, Logged, Matched, Member, Merged, Message, Record, Registered, Span,
     Table, Taken, Written,
 };
 
-use ffi::{Bytes, Room};
-
 /// The number of an answer that is no refusal.
 pub const ACCEPTED: u8 = 0;
 
-/// Reads a line.
-pub fn read(line: &[u8]) -> LineRead {
-    // SAFETY: the bytes are lent for the call.
-    unsafe { ffi::relay_read(Bytes::of(line)) }
+/// The library's functions.
+mod current {
+    functions!("");
+    include!("calls.rs");
 }
 
-/// The parts of a line, by their places.
-pub fn parts(line: &[u8]) -> Message {
-    // SAFETY: the bytes are lent for the call.
-    unsafe { ffi::relay_parts(Bytes::of(line)) }
-}
+pub use current::{
+    command, empty_table, greater_key, layout_matches, layout_number, log, matches, merge, param,
+    parts, prefix, process, read, register, same_name, take, unregister, write,
+};
 
-/// The prefix of a line, or the empty part at its end.
-pub fn prefix(line: &[u8]) -> &[u8] {
-    parts(line).prefix.of(line)
-}
+/// The same functions of an earlier library, for the benchmark: of the one that the variable
+/// RELAY_EARLIER_LIB names when this is built. Without it they are those of the library itself.
+pub mod earlier {
+    /// Whether there is an earlier library.
+    pub const IS_GIVEN: bool = !env!("RELAY_EARLIER_PREFIX").is_empty();
 
-/// The command of a line, or the empty part at its end.
-pub fn command(line: &[u8]) -> &[u8] {
-    parts(line).command.of(line)
-}
-
-/// A parameter of a line, counted from 0, or the empty part at its end.
-pub fn param(line: &[u8], index: usize) -> &[u8] {
-    match parts(line).params.get(index) {
-        Some(span) => span.of(line),
-        None => &line[line.len()..],
-    }
-}
-
-/// Writes a message, whose parts are spans of the text, to the front of the output.
-pub fn write(text: &[u8], message: &Message, out: &mut [u8]) -> Written {
-    // SAFETY: text and output are lent for the call; the borrows say that they don't overlap.
-    unsafe { ffi::relay_write(Bytes::of(text), *message, Room::of(out)) }
-}
-
-/// Whether two names are equal.
-pub fn same_name(a: &[u8], b: &[u8]) -> bool {
-    // SAFETY: the bytes are lent for the call.
-    unsafe { ffi::relay_same_name(Bytes::of(a), Bytes::of(b)) }
-}
-
-/// Whether a mask matches a text.
-pub fn matches(mask: &[u8], text: &[u8]) -> Matched {
-    // SAFETY: the bytes are lent for the call.
-    unsafe { ffi::relay_match(Bytes::of(mask), Bytes::of(text)) }
-}
-
-/// The greater of two keys, the very one that was lent; the first where they are equal.
-pub fn greater_key<'a>(first: &'a [u8], second: &'a [u8]) -> &'a [u8] {
-    // SAFETY: the bytes are lent for the call.
-    let less = unsafe { ffi::relay_key_less(Bytes::of(first), Bytes::of(second)) };
-    if less {
-        second
-    } else {
-        first
-    }
-}
-
-/// Two records of one channel merged.
-pub fn merge(first: &Record, second: &Record) -> Merged {
-    // SAFETY: only plain data goes in and comes back.
-    unsafe { ffi::relay_merge(*first, *second) }
-}
-
-/// The table with a link registered.
-pub fn register(table: &Table, link: u32) -> Registered {
-    // SAFETY: only plain data goes in and comes back.
-    unsafe { ffi::relay_register(*table, link) }
-}
-
-/// The table with a link dropped.
-pub fn unregister(table: &Table, link: u32) -> Registered {
-    // SAFETY: only plain data goes in and comes back.
-    unsafe { ffi::relay_unregister(*table, link) }
-}
-
-/// Takes a line that came in by a link.
-pub fn process(table: &Table, link: u32, line: &[u8], out: &mut [u8]) -> Taken {
-    // SAFETY: line and output are lent for the call; the borrows say that they don't overlap.
-    unsafe { ffi::relay_process(*table, link, Bytes::of(line), Room::of(out)) }
-}
-
-/// Writes the day-log record of a line to the front of the log.
-pub fn log(link: u32, line: &[u8], log: &mut [u8]) -> Logged {
-    // SAFETY: line and log are lent for the call; the borrows say that they don't overlap.
-    unsafe { ffi::relay_log(link, Bytes::of(line), Room::of(log)) }
+    functions!(env!("RELAY_EARLIER_PREFIX"));
+    include!("calls.rs");
 }
 
 impl Table {
     /// Every slot free, no link registered.
     pub fn empty() -> Table {
-        // SAFETY: only plain data comes back.
-        unsafe { ffi::relay_empty_table() }
+        empty_table()
     }
 
     /// Takes a line that came in by a link, and keeps the table after it.
     pub fn take(&mut self, link: u32, line: &[u8], out: &mut [u8]) -> Answer {
-        let Taken { number, table, set, count, len } = process(self, link, line, out);
-        if number == ACCEPTED {
-            *self = table;
-        }
-        Answer { number, set, count, len }
+        take(self, link, line, out)
     }
 }

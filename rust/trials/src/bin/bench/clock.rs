@@ -3,16 +3,21 @@
 use std::hint::black_box;
 use std::time::{Duration, Instant};
 
-/// How core and model are timed.
+use relay::earlier;
+
+/// What the core is timed beside.
+pub const OTHER: &str = if earlier::IS_GIVEN { "earlier" } else { "model" };
+
+/// How the core and another are timed.
 pub struct Clock {
     /// The runs, of which the best counts.
     pub runs: usize,
 }
 
-/// The best times of a call.
+/// The times of the best runs.
 pub struct Times {
     core: Duration,
-    model: Duration,
+    other: Duration,
 }
 
 /// The calls of one run: enough for the clock's own grain not to show, and so few that many runs are
@@ -20,31 +25,51 @@ pub struct Times {
 const CALLS: u32 = 100;
 
 impl Clock {
-    /// Times core and model by turns. Both answer a number, which must be the same.
-    pub fn time(&self, mut core: impl FnMut() -> u8, mut model: impl FnMut() -> u8) -> Times {
-        assert_eq!(core(), model(), "core and model differ");
-        let mut best = Times { core: Duration::MAX, model: Duration::MAX };
+    /// Times the core and, by turns with it, the earlier library or, where none is given, the model.
+    /// All answer a number, which must be the same.
+    pub fn time(
+        &self,
+        core: impl FnMut() -> u8,
+        earlier: impl FnMut() -> u8,
+        model: impl FnMut() -> u8,
+    ) -> Times {
+        if earlier::IS_GIVEN {
+            self.by_turns(core, earlier)
+        } else {
+            self.by_turns(core, model)
+        }
+    }
+
+    fn by_turns(&self, mut core: impl FnMut() -> u8, mut other: impl FnMut() -> u8) -> Times {
+        assert_eq!(core(), other(), "core and {OTHER} differ");
+        let mut best = Times { core: Duration::MAX, other: Duration::MAX };
         for _ in 0..self.runs {
             best.core = best.core.min(run(&mut core));
-            best.model = best.model.min(run(&mut model));
+            best.other = best.other.min(run(&mut other));
         }
         best
     }
 }
 
-/// The time of one call, over a run of them.
+/// The time of a run.
 fn run(call: &mut impl FnMut() -> u8) -> Duration {
     let start = Instant::now();
     for _ in 0..CALLS {
         black_box(call());
     }
-    start.elapsed() / CALLS
+    start.elapsed()
 }
 
 impl Times {
-    /// Core, model and their ratio, as columns of a table.
+    /// A call of the core, one of the other, and their ratio, as columns of a table.
     pub fn columns(&self) -> String {
-        let [core, model] = [self.core, self.model].map(|time| time.as_nanos() as f64 / 1000.0);
-        format!("{core:.2} | {model:.2} | {:.2}", core / model)
+        let [core, other] =
+            [self.core, self.other].map(|time| time.as_secs_f64() * 1e6 / f64::from(CALLS));
+        format!("{} | {} | {:.2}", digits(core), digits(other), core / other)
     }
+}
+
+/// Microseconds, with nanoseconds where there is nothing before the point.
+fn digits(time: f64) -> String {
+    format!("{time:.*}", if time < 1.0 { 3 } else { 2 })
 }

@@ -6,6 +6,8 @@
 //! microseconds a call. Both take the line with a table of their own by its pointer, as an embedding
 //! program does, and both test the whole table. A copy of the table that the line is taken with is
 //! in each figure, since most lines change it.
+//!
+//! With RELAY_EARLIER_LIB=FILE, the path of an earlier libcapi.a, that library takes the model's place.
 
 mod cases;
 mod clock;
@@ -14,13 +16,15 @@ mod stack;
 use std::hint::black_box;
 
 use model::refusal::number_of;
+use relay::{earlier, Answer, Table};
 use trials::convert::{core_record, core_table};
 
 use cases::{Case, LINK};
-use clock::{Clock, Times};
+use clock::{Clock, Times, OTHER};
 
 fn main() {
     assert!(relay::layout_matches(), "the library's structs are not laid out as this program's");
+    assert!(earlier::layout_matches(), "the earlier library's structs are laid out otherwise");
     let runs = std::env::args().nth(1).and_then(|arg| arg.parse().ok()).unwrap_or(101);
     let clock = Clock { runs };
     lines(&clock);
@@ -31,28 +35,33 @@ fn main() {
     stacks();
 }
 
-/// Takes a case's line with core and model.
+/// Takes a case's line.
 fn take(clock: &Clock, case: &Case) -> Times {
-    let core_start = core_table(&case.table);
-    let mut core = core_start;
-    let mut model = case.table;
-    let (mut core_out, mut model_out) = ([0; 512], [0; 512]);
-    clock.time(
-        || {
-            core = *black_box(&core_start);
-            core.take(LINK, &case.line, &mut core_out).number
-        },
-        || {
-            model = *black_box(&case.table);
-            number_of(&model::relay::take(&mut model, LINK, &case.line, &mut model_out))
-        },
-    )
+    let (mut table, mut out) = (case.table, [0; 512]);
+    let model = || {
+        table.clone_from(black_box(&case.table));
+        number_of(&model::relay::take(&mut table, LINK, &case.line, &mut out))
+    };
+    clock.time(by_library(case, relay::take), by_library(case, earlier::take), model)
+}
+
+/// The taking of a case's line by a library, to be called again and again.
+fn by_library<'a>(
+    case: &'a Case,
+    take: impl Fn(&mut Table, u32, &[u8], &mut [u8]) -> Answer + 'a,
+) -> impl FnMut() -> u8 + 'a {
+    let start = core_table(&case.table);
+    let (mut table, mut out) = (start, [0; 512]);
+    move || {
+        table.clone_from(black_box(&start));
+        take(&mut table, LINK, &case.line, &mut out).number
+    }
 }
 
 fn lines(clock: &Clock) {
     heading(
         "Taking a line, µs",
-        &["1 channel: core", "model", "ratio", "16 full: core", "model", "ratio"],
+        &["1 channel: core", OTHER, "ratio", "16 full: core", OTHER, "ratio"],
     );
     for (one, full) in cases::small().iter().zip(cases::full()) {
         let (few, many) = (take(clock, one), take(clock, &full));
@@ -61,25 +70,26 @@ fn lines(clock: &Clock) {
 }
 
 fn by_channels(clock: &Clock) {
-    heading("SJOIN of one member, by the full channels beside, µs", &["core", "model", "ratio"]);
+    heading("SJOIN of one member, by the full channels beside, µs", &["core", OTHER, "ratio"]);
     for case in cases::by_channels() {
         println!("| {} | {} |", case.name, take(clock, &case).columns());
     }
 }
 
 fn by_members(clock: &Clock) {
-    heading("SJOIN with one channel, by its members, µs", &["core", "model", "ratio"]);
+    heading("SJOIN with one channel, by its members, µs", &["core", OTHER, "ratio"]);
     for case in cases::by_members() {
         println!("| {} | {} |", case.name, take(clock, &case).columns());
     }
 }
 
 fn masks(clock: &Clock) {
-    heading("Mask on a text of 512 bytes, µs", &["core", "model", "ratio"]);
+    heading("Mask on a text of 512 bytes, µs", &["core", OTHER, "ratio"]);
     let text = [b'a'; 512];
     for (name, mask) in cases::masks() {
         let times = clock.time(
             || u8::from(relay::matches(&mask, &text).yes),
+            || u8::from(earlier::matches(&mask, &text).yes),
             || u8::from(model::mask::matches(&mask, &text) == Ok(true)),
         );
         println!("| {name} | {} |", times.columns());
@@ -88,29 +98,39 @@ fn masks(clock: &Clock) {
 
 /// The functions that take no command.
 fn others(clock: &Clock) {
-    heading("Other functions, µs", &["core", "model", "ratio"]);
+    heading("Other functions, µs", &["core", OTHER, "ratio"]);
     let row = |name: &str, times: Times| println!("| {name} | {} |", times.columns());
 
     let mut table = cases::full()[0].table;
     let core = core_table(&table);
-    let times = clock.time(|| relay::register(&core, 9).number, || number_of(&table.register(9)));
+    let times = clock.time(
+        || relay::register(&core, 9).number,
+        || earlier::register(&core, 9).number,
+        || number_of(&table.register(9)),
+    );
     row("registering a link, 16 full channels", times);
 
     let (first, second) = (cases::record(b"#a", 0..47), cases::record(b"#A", 17..64));
     let (core_first, core_second) = (core_record(&first), core_record(&second));
     let times = clock.time(
         || relay::merge(&core_first, &core_second).number,
+        || earlier::merge(&core_first, &core_second).number,
         || number_of(&model::channel::merge(&first, &second)),
     );
     row("merging 47 members with 47", times);
 
     let line = cases::long_line();
-    let times = clock.time(|| relay::read(&line).number, || number_of(&model::line::read(&line)));
+    let times = clock.time(
+        || relay::read(&line).number,
+        || earlier::read(&line).number,
+        || number_of(&model::line::read(&line)),
+    );
     row("reading a line of 47 members", times);
 
-    let (mut core_log, mut log) = ([0; 517], [0; 517]);
+    let (mut core_log, mut earlier_log, mut log) = ([0; 517], [0; 517], [0; 517]);
     let times = clock.time(
         || relay::log(LINK, &line, &mut core_log).number,
+        || earlier::log(LINK, &line, &mut earlier_log).number,
         || number_of(&model::journal::write_record(LINK, &line, &mut log)),
     );
     row("its day-log record", times);

@@ -1,0 +1,122 @@
+// The functions of a library, called safely: included once for each library, after `functions!`.
+
+use crate::ffi::{Bytes, Room};
+use crate::layout;
+use crate::types::{
+    Answer, LineRead, Logged, Matched, Merged, Message, Record, Registered, Table, Taken, Written,
+};
+
+/// A number of the library's layout of the structs, 0 past the last.
+pub fn layout_number(k: usize) -> usize {
+    // SAFETY: only numbers go in and come back.
+    unsafe { relay_layout(k) }
+}
+
+/// Whether the library lays out every struct as this crate does.
+pub fn layout_matches() -> bool {
+    layout::matches(layout_number)
+}
+
+/// Reads a line.
+pub fn read(line: &[u8]) -> LineRead {
+    // SAFETY: the bytes are lent for the call.
+    unsafe { relay_read(Bytes::of(line)) }
+}
+
+/// The parts of a line, by their places.
+pub fn parts(line: &[u8]) -> Message {
+    // SAFETY: the bytes are lent for the call.
+    unsafe { relay_parts(Bytes::of(line)) }
+}
+
+/// The prefix of a line, or the empty part at its end.
+pub fn prefix(line: &[u8]) -> &[u8] {
+    parts(line).prefix.of(line)
+}
+
+/// The command of a line, or the empty part at its end.
+pub fn command(line: &[u8]) -> &[u8] {
+    parts(line).command.of(line)
+}
+
+/// A parameter of a line, counted from 0, or the empty part at its end.
+pub fn param(line: &[u8], index: usize) -> &[u8] {
+    match parts(line).params.get(index) {
+        Some(span) => span.of(line),
+        None => &line[line.len()..],
+    }
+}
+
+/// Writes a message, whose parts are spans of the text, to the front of the output.
+pub fn write(text: &[u8], message: &Message, out: &mut [u8]) -> Written {
+    // SAFETY: text and output are lent for the call; the borrows say that they don't overlap.
+    unsafe { relay_write(Bytes::of(text), *message, Room::of(out)) }
+}
+
+/// Whether two names are equal.
+pub fn same_name(a: &[u8], b: &[u8]) -> bool {
+    // SAFETY: the bytes are lent for the call.
+    unsafe { relay_same_name(Bytes::of(a), Bytes::of(b)) }
+}
+
+/// Whether a mask matches a text.
+pub fn matches(mask: &[u8], text: &[u8]) -> Matched {
+    // SAFETY: the bytes are lent for the call.
+    unsafe { relay_match(Bytes::of(mask), Bytes::of(text)) }
+}
+
+/// The greater of two keys, the very one that was lent; the first where they are equal.
+pub fn greater_key<'a>(first: &'a [u8], second: &'a [u8]) -> &'a [u8] {
+    // SAFETY: the bytes are lent for the call.
+    let less = unsafe { relay_key_less(Bytes::of(first), Bytes::of(second)) };
+    if less {
+        second
+    } else {
+        first
+    }
+}
+
+/// Two records of one channel merged.
+pub fn merge(first: &Record, second: &Record) -> Merged {
+    // SAFETY: only plain data goes in and comes back.
+    unsafe { relay_merge(*first, *second) }
+}
+
+/// The table with every slot free and no link registered.
+pub fn empty_table() -> Table {
+    // SAFETY: only plain data comes back.
+    unsafe { relay_empty_table() }
+}
+
+/// The table with a link registered.
+pub fn register(table: &Table, link: u32) -> Registered {
+    // SAFETY: only plain data goes in and comes back.
+    unsafe { relay_register(*table, link) }
+}
+
+/// The table with a link dropped.
+pub fn unregister(table: &Table, link: u32) -> Registered {
+    // SAFETY: only plain data goes in and comes back.
+    unsafe { relay_unregister(*table, link) }
+}
+
+/// Takes a line that came in by a link.
+pub fn process(table: &Table, link: u32, line: &[u8], out: &mut [u8]) -> Taken {
+    // SAFETY: line and output are lent for the call; the borrows say that they don't overlap.
+    unsafe { relay_process(*table, link, Bytes::of(line), Room::of(out)) }
+}
+
+/// Takes a line that came in by a link, and keeps the table after it.
+pub fn take(table: &mut Table, link: u32, line: &[u8], out: &mut [u8]) -> Answer {
+    let taken = process(table, link, line, out);
+    if taken.number == crate::ACCEPTED {
+        *table = taken.table;
+    }
+    Answer { number: taken.number, set: taken.set, count: taken.count, len: taken.len }
+}
+
+/// Writes the day-log record of a line to the front of the log.
+pub fn log(link: u32, line: &[u8], log: &mut [u8]) -> Logged {
+    // SAFETY: line and log are lent for the call; the borrows say that they don't overlap.
+    unsafe { relay_log(link, Bytes::of(line), Room::of(log)) }
+}
