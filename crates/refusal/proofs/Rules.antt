@@ -24,6 +24,11 @@ unfolding firstOf
 stop r rs e = rw e
 
 -- ---- where none applies
+-- no rules refuse nothing
+pub first-nil : firstOf [] ≡ accepted
+unfolding firstOf
+first-nil = refl
+
 pub first-none : (r : Rule) (rs : List Rule) → (r .number ≡ accepted → ⊥) → firstOf (r ∷ rs) ≡ accepted → (r .applies ≡ false) × (firstOf rs ≡ accepted)
 first-none r rs ne e = go (r .applies) refl
   where
