@@ -34,14 +34,12 @@ use Rattle.sjoin.specs.Modes.{keyLetter, limitLetter, modesByte, argumen
 use Rattle.sjoin.specs.Entries.{memberOf, named}
 use Rattle.sjoin.specs.Join.{timeIn, nameIn, modesIn, listIn, argumentsIn, fewest, most, goodCount, joinRules, channelIn, joinNumber, refusedBy, toldBy}
 use Rattle.sjoin.specs.Scan.{Parted}
-use Rattle.sjoin.proofs.Joined.{passes}
 
 -- ---- the count of parameters
-pub bounds : (c : Content) → firstOf (joinRules c) ≡ accepted → (fewest ≤ length (c .params)) × (length (c .params) ≤ most)
+pub bounds : (c : Content) → goodCount c ≡ true → (fewest ≤ length (c .params)) × (length (c .params) ≤ most)
 unfolding goodCount
-bounds c none =
+bounds c h =
     let n = length (c .params) in
-    let h = passes c none .count in
     (leb-true fewest n (and-left (leb fewest n) (leb n most) h), leb-true n most (and-right (leb fewest n) (leb n most) h))
 
 -- ---- the list
@@ -49,12 +47,12 @@ module _ (line : List ℕ) (last : ℕ) (count : length (contentOf line .params)
   pub list-at : getD (contentOf line .params) last [] ≡ listIn (contentOf line)
   list-at = ap (λ (n : ℕ). getD (contentOf line .params) n []) (omega (arith, count))
 
-  module _ (none : firstOf (joinRules (contentOf line)) ≡ accepted) where
+  module _ (good : goodCount (contentOf line) ≡ true) where
     pub parted : (m : Message) → m ≡ messageOf line → Parted line m last
     parted m e = record {
       spans = e;
-      behind = omega (arith, bounds (contentOf line) none .0, count);
-      room = omega (arith, bounds (contentOf line) none .1, count);
+      behind = omega (arith, bounds (contentOf line) good .0, count);
+      room = omega (arith, bounds (contentOf line) good .1, count);
       count = count;
     }
 

@@ -11,8 +11,8 @@ use borrow.Author.Tests.{not-false, eqb-true}
 use Rattle.refusal.specs.Numbers.{accepted}
 use Rattle.refusal.specs.Rules.{firstOf}
 use Rattle.refusal.proofs.Rules.{first-none}
-use Rattle.laws.specs.Lists.{all}
-use Rattle.octets.specs.Decimals.{isDecimal, valueFrom, valueOf}
+use Rattle.laws.specs.Lists.{all, same}
+use Rattle.octets.specs.Decimals.{zeroDigit, isDecimal, valueFrom, valueOf}
 use Rattle.laws.proofs.Bools.{and-left, and-right}
 use Rattle.names.specs.Names.{isChannel}
 use Rattle.channel.specs.Limits.{keyLimit}
@@ -28,7 +28,7 @@ pub record Passes (c : Content) : Type 0 where
   pub count : goodCount c ≡ true
   pub source : isSource (c .prefix) ≡ true
   pub time : goodTime c ≡ true
-  pub after : eqb (valueOf (timeIn c)) 0 ≡ false
+  pub after : same (timeIn c) (zeroDigit ∷ []) ≡ false
   pub name : isChannel (nameIn c) ≡ true
   pub modes : goodModes (modesIn c) (argumentsIn c) ≡ true
   pub list : goodEntries (listIn c) ≡ true

@@ -1,26 +1,29 @@
 -- What the rules of SJOIN give, test by test. Assumes nothing.
 use Prim.Native.Nat.{ℕ, _≤_, _<_}
 use mathlib.Core.Path.{_≡_, refl, sym, ap, _∙_}
-use mathlib.Core.Bool.{Bool, true, false, _&&_, and-false}
-use mathlib.Core.List.{List, []}
+use mathlib.Core.Bool.{Bool, true, false, not, _&&_, and-false}
+use mathlib.Core.List.{List, [], _∷_}
 use mathlib.Core.Option.{Option, some, none, Option·getD}
 use native.Mathlib.Omega.{arith}
 use lib.ListN.{length}
-use lib.Dec.{leb}
-use borrow.Author.Tests.{eq-eqb, ne-eqb, le-leb, lt-leb, leb-true}
+use lib.Dec.{eqb, leb}
+use borrow.Author.Tests.{eq-eqb, ne-eqb, eqb-true, le-leb, lt-leb, leb-true, not-false}
 use Rattle.refusal.specs.Numbers.{accepted, wrongParamCount, badSource, badTime, zeroTime, badName, badModes, badMembers}
 use Rattle.refusal.specs.Rules.{firstOf, ascend, ascendFrom, placeIn}
-use Rattle.refusal.proofs.Rules.{numbered}
+use Rattle.refusal.proofs.Rules.{skip, stop, first-nil, first-none, numbered, append-some, append-none}
+use Rattle.laws.specs.Lists.{same}
+use Rattle.laws.proofs.Bools.{and-left, both-ways}
 use Rattle.octets.specs.declared.Decimal.the-variants.{Value, Malformed}
-use Rattle.octets.specs.Decimals.{isDecimal, valueOf, decimalUpTo}
-use Rattle.octets.proofs.Digits.{value-digits, decimal-digits, decimal-read, value-in}
+use Rattle.octets.specs.Decimals.{zeroDigit, isDecimal, valueFrom, valueOf, digitsOf, decimalUpTo}
+use Rattle.octets.proofs.Bytes.{same-refl, same-true}
+use Rattle.octets.proofs.Digits.{digits-one, value-digits, decimal-digits, digits-value, decimal-read, value-in}
 use Rattle.names.specs.Names.{isChannel, isServerId}
 use Rattle.names.proofs.UserIds.{no-server-id}
 use Rattle.channel.specs.Limits.{timeLimit}
 use Rattle.message.specs.Content.{Content}
 use Rattle.sjoin.specs.Modes.{lettersOf, goodLetters, parametered, goodArguments, goodModes}
 use Rattle.sjoin.specs.Entries.{goodEntries}
-use Rattle.sjoin.specs.Join.{timeIn, nameIn, modesIn, listIn, argumentsIn, isSource, fewest, most, goodCount, goodTime, joinRules}
+use Rattle.sjoin.specs.Join.{timeIn, nameIn, modesIn, listIn, argumentsIn, isSource, fewest, most, goodCount, goodTime, sourceRules, tellingRules, joinRules}
 
 -- The rules stand in the order of their numbers: the first in it that applies is given.
 pub rules-ascend : (c : Content) → ascend (joinRules c) ≡ true
@@ -59,6 +62,15 @@ time-none c e = go (isDecimal (timeIn c)) refl (leb (valueOf (timeIn c)) timeLim
     go true f false g = rw (f, g)
     go false f u g = rw f
 
+-- one that is good is `0` exactly if its value is 0
+pub time-zero : (c : Content) → goodTime c ≡ true → same (timeIn c) (zeroDigit ∷ []) ≡ eqb (valueOf (timeIn c)) 0
+unfolding goodTime valueFrom
+time-zero c t =
+    let d = digits-value (timeIn c) (and-left (isDecimal (timeIn c)) _ t) in
+    both-ways (same (timeIn c) (zeroDigit ∷ [])) (eqb (valueOf (timeIn c)) 0)
+    (λ e. eq-eqb (valueOf (timeIn c)) 0 (ap valueOf (same-true (timeIn c) (zeroDigit ∷ []) e)))
+    (λ e. rw (sym d ∙ ap digitsOf (eqb-true (valueOf (timeIn c)) 0 e) ∙ digits-one 0 (omega arith)) (same-refl (zeroDigit ∷ [])))
+
 -- ---- the modes
 pub modes-parts : (c : Content) (t u : Bool) → goodLetters (modesIn c) ≡ t → goodArguments (parametered (lettersOf (modesIn c))) (argumentsIn c) ≡ u → goodModes (modesIn c) (argumentsIn c) ≡ t && u
 unfolding goodModes
@@ -68,50 +80,63 @@ pub modes-letters : (c : Content) → goodLetters (modesIn c) ≡ false → good
 unfolding goodModes
 modes-letters c e = rw e
 
--- ---- the numbers, in their order
+-- ---- the numbers of count and source, in their order
 module _ (c : Content) where
-  pub few : length (c .params) < fewest → wrongParamCount ≡ firstOf (joinRules c)
-  unfolding joinRules firstOf goodCount
-  few h = sym (rw (lt-leb fewest (length (c .params)) h))
+  pub few : length (c .params) < fewest → wrongParamCount ≡ firstOf (sourceRules c)
+  unfolding goodCount
+  few h = sym (stop _ _ (rw (lt-leb fewest (length (c .params)) h)))
 
-  pub many : most < length (c .params) → wrongParamCount ≡ firstOf (joinRules c)
-  unfolding joinRules firstOf goodCount
-  many h = sym (rw (lt-leb (length (c .params)) most h, and-false (leb fewest (length (c .params)))))
+  pub many : most < length (c .params) → wrongParamCount ≡ firstOf (sourceRules c)
+  unfolding goodCount
+  many h = sym (stop _ _ (rw (lt-leb (length (c .params)) most h, and-false (leb fewest (length (c .params))))))
 
   pub counted : fewest ≤ length (c .params) → length (c .params) ≤ most → goodCount c ≡ true
   unfolding goodCount
   counted h k = rw (le-leb fewest (length (c .params)) h, le-leb (length (c .params)) most k)
 
   module _ (n : goodCount c ≡ true) where
-    pub unsourced : isSource (c .prefix) ≡ false → badSource ≡ firstOf (joinRules c)
-    unfolding joinRules firstOf
-    unsourced e = sym (rw (n, e))
+    pub unsourced : isSource (c .prefix) ≡ false → badSource ≡ firstOf (sourceRules c)
+    unsourced e = sym (skip _ _ (ap not n) ∙ stop _ _ (ap not e))
 
-    module _ (s : isSource (c .prefix) ≡ true) where
-      pub untimed : goodTime c ≡ false → badTime ≡ firstOf (joinRules c)
-      unfolding joinRules firstOf
-      untimed e = sym (rw (n, s, e))
+    pub sourced : isSource (c .prefix) ≡ true → accepted ≡ firstOf (sourceRules c)
+    sourced e = sym (skip _ _ (ap not n) ∙ skip _ _ (ap not e) ∙ first-nil)
 
-      module _ (t : goodTime c ≡ true) where
-        pub zero-time : valueOf (timeIn c) ≡ 0 → zeroTime ≡ firstOf (joinRules c)
-        unfolding joinRules firstOf
-        zero-time e = sym (rw (n, s, t, eq-eqb (valueOf (timeIn c)) 0 e))
+  pub source-counts : firstOf (sourceRules c) ≡ accepted → goodCount c ≡ true
+  source-counts e = not-false _ (first-none _ _ (λ z. omega arith) e .0)
 
-        module _ (z : valueOf (timeIn c) ≡ 0 → ⊥) where
-          pub unnamed : isChannel (nameIn c) ≡ false → badName ≡ firstOf (joinRules c)
-          unfolding joinRules firstOf
-          unnamed e = sym (rw (n, s, t, ne-eqb (valueOf (timeIn c)) 0 z, e))
+-- ---- those of what it tells
+module _ (c : Content) where
+  pub untimed : goodTime c ≡ false → badTime ≡ firstOf (tellingRules c)
+  untimed e = sym (stop _ _ (ap not e))
 
-          module _ (m : isChannel (nameIn c) ≡ true) where
-            pub unfit : goodModes (modesIn c) (argumentsIn c) ≡ false → badModes ≡ firstOf (joinRules c)
-            unfolding joinRules firstOf
-            unfit e = sym (rw (n, s, t, ne-eqb (valueOf (timeIn c)) 0 z, m, e))
+  module _ (t : goodTime c ≡ true) where
+    pub zero-time : valueOf (timeIn c) ≡ 0 → zeroTime ≡ firstOf (tellingRules c)
+    zero-time e = sym (skip _ _ (ap not t) ∙ stop _ _ (time-zero c t ∙ eq-eqb (valueOf (timeIn c)) 0 e))
 
-            module _ (g : goodModes (modesIn c) (argumentsIn c) ≡ true) where
-              pub unlisted : goodEntries (listIn c) ≡ false → badMembers ≡ firstOf (joinRules c)
-              unfolding joinRules firstOf
-              unlisted e = sym (rw (n, s, t, ne-eqb (valueOf (timeIn c)) 0 z, m, g, e))
+    module _ (z : valueOf (timeIn c) ≡ 0 → ⊥) where
+      later : same (timeIn c) (zeroDigit ∷ []) ≡ false
+      later = time-zero c t ∙ ne-eqb (valueOf (timeIn c)) 0 z
 
-              pub accepts : goodEntries (listIn c) ≡ true → accepted ≡ firstOf (joinRules c)
-              unfolding joinRules firstOf
-              accepts e = sym (rw (n, s, t, ne-eqb (valueOf (timeIn c)) 0 z, m, g, e))
+      pub unnamed : isChannel (nameIn c) ≡ false → badName ≡ firstOf (tellingRules c)
+      unnamed e = sym (skip _ _ (ap not t) ∙ skip _ _ later ∙ stop _ _ (ap not e))
+
+      module _ (m : isChannel (nameIn c) ≡ true) where
+        pub unfit : goodModes (modesIn c) (argumentsIn c) ≡ false → badModes ≡ firstOf (tellingRules c)
+        unfit e = sym (skip _ _ (ap not t) ∙ skip _ _ later ∙ skip _ _ (ap not m) ∙ stop _ _ (ap not e))
+
+        module _ (g : goodModes (modesIn c) (argumentsIn c) ≡ true) where
+          pub unlisted : goodEntries (listIn c) ≡ false → badMembers ≡ firstOf (tellingRules c)
+          unlisted e = sym (skip _ _ (ap not t) ∙ skip _ _ later ∙ skip _ _ (ap not m) ∙ skip _ _ (ap not g) ∙ stop _ _ (ap not e))
+
+          pub listed : goodEntries (listIn c) ≡ true → accepted ≡ firstOf (tellingRules c)
+          listed e = sym (skip _ _ (ap not t) ∙ skip _ _ later ∙ skip _ _ (ap not m) ∙ skip _ _ (ap not g) ∙ skip _ _ (ap not e) ∙ first-nil)
+
+-- ---- and those of the line, one after the other
+module _ (c : Content) where
+  pub source-decides : (firstOf (sourceRules c) ≡ accepted → ⊥) → firstOf (joinRules c) ≡ firstOf (sourceRules c)
+  unfolding joinRules
+  source-decides = append-some (tellingRules c) (sourceRules c)
+
+  pub telling-decides : firstOf (sourceRules c) ≡ accepted → firstOf (joinRules c) ≡ firstOf (tellingRules c)
+  unfolding joinRules
+  telling-decides = append-none (tellingRules c) (sourceRules c) refl

@@ -11,6 +11,7 @@ use lib.Dec.{ltb}
 use borrow.Author.Tests.{lt-ltb, le-ltb}
 use Rattle.refusal.specs.Numbers.{accepted, outputTooShort, noRoom}
 use Rattle.refusal.specs.Rules.{firstOf, ascendFrom, ascend, placeIn}
+use Rattle.refusal.proofs.Rules.{skip, stop, first-nil}
 use Rattle.octets.specs.Bytes.{space, colon}
 use Rattle.octets.specs.Decimals.{digitsOf}
 use Rattle.octets.specs.Room.{part}
@@ -95,14 +96,14 @@ module _ (sid : List ℕ) (c : Channel) (out : List ℕ) where
   tell-rules-ascend = refl
 
   pub tell-short : length out < lineLimit → firstOf (tellRules sid c out) ≡ outputTooShort
-  unfolding tellRules firstOf
-  tell-short h = rw (lt-ltb (length out) lineLimit h)
+  unfolding tellRules
+  tell-short h = stop _ _ (lt-ltb (length out) lineLimit h)
 
   module _ (room : lineLimit ≤ length out) where
     pub tell-long : lineLimit < length (written (joinMessage sid c)) → firstOf (tellRules sid c out) ≡ noRoom
-    unfolding tellRules firstOf
-    tell-long h = simp (le-ltb (length out) lineLimit room, lt-ltb lineLimit (length (written (joinMessage sid c))) h)
+    unfolding tellRules
+    tell-long h = skip _ _ (le-ltb (length out) lineLimit room) ∙ stop _ _ (lt-ltb lineLimit (length (written (joinMessage sid c))) h)
 
     pub tell-accepts : length (written (joinMessage sid c)) ≤ lineLimit → firstOf (tellRules sid c out) ≡ accepted
-    unfolding tellRules firstOf
-    tell-accepts h = simp (le-ltb (length out) lineLimit room, le-ltb lineLimit (length (written (joinMessage sid c))) h)
+    unfolding tellRules
+    tell-accepts h = skip _ _ (le-ltb (length out) lineLimit room) ∙ skip _ _ (le-ltb lineLimit (length (written (joinMessage sid c))) h) ∙ first-nil

@@ -333,7 +333,7 @@ module _ (c : Content) (none : firstOf (joinRules c) ≡ accepted) (p : Proper (
       (listText (o .members))
       (listIn c)
       refl
-      (parts (c .params) (bounds c none .0) (bounds c none .1))
+      (parts (c .params) (bounds c (good .count) .0) (bounds c (good .count) .1))
       (sym source)
       (omega (arith, command))
       (omega (arith, before-room a b (digitsOf time) name (modesText (o .modes)) (o .key) (digitsOf (o .limit)), time-shorter time until, letters-shorter (stands time ch), arguments-shorter (stands time ch)))

@@ -38,6 +38,7 @@ use Rattle.sjoin.proofs.Modes.{bits, same-place}
 use Rattle.sjoin.proofs.Answers.{bounds, list-small}
 use Rattle.sjoin.proofs.Limits.{limit-bounds}
 use Rattle.sjoin.proofs.Listed.{list-entries, list-room}
+use Rattle.sjoin.proofs.Judged.{time-zero}
 use Rattle.sjoin.proofs.Joined.{Passes, passes, Given, argument-given}
 
 -- ---- the modes' byte
@@ -112,7 +113,7 @@ module _ (c : Content) (none : firstOf (joinRules c) ≡ accepted) (small : leng
       let n = named (listIn c) in
       record {
         name = good .name;
-        from = omega (arith, eqb-false (valueOf (timeIn c)) 0 (good .after));
+        from = omega (arith, eqb-false (valueOf (timeIn c)) 0 (sym (time-zero c (good .time)) ∙ good .after));
         until = time-to;
         modes = bits-small s;
         keyed = bits-have keyLetter s letters-good ∙ k .0;
@@ -129,8 +130,9 @@ module _ (c : Content) (none : firstOf (joinRules c) ≡ accepted) (small : leng
 pub read-proper : (line : List ℕ) → isRead line ≡ true → firstOf (joinRules (contentOf line)) ≡ accepted → Proper (channelIn (contentOf line))
 read-proper line h none =
     let n = length (contentOf line .params) in
-    let e : n ≡ n - 1 + 1 = omega (arith, bounds (contentOf line) none .0) in
-    told-proper (contentOf line) none (list-small line (n - 1) e none (read-small line h))
+    let good = passes (contentOf line) none .count in
+    let e : n ≡ n - 1 + 1 = omega (arith, bounds (contentOf line) good .0) in
+    told-proper (contentOf line) none (list-small line (n - 1) e good (read-small line h))
 
 pub read-well : (line : List ℕ) → isRead line ≡ true → firstOf (joinRules (contentOf line)) ≡ accepted → wellFormed (encode (channelIn (contentOf line))) ≡ true
 read-well line h none = encode-well (channelIn (contentOf line)) (read-proper line h none)

@@ -1,13 +1,14 @@
 -- What an SJOIN line says: `:sid SJOIN time name modes [key] [limit] list`. The numbers 12 to 18 of document 01, and the channel that it tells of.
 use Prim.Native.Nat.{ℕ, _-_}
 use mathlib.Core.Bool.{Bool, false, not, cond, _&&_}
-use mathlib.Core.List.{List, [], _∷_}
+use mathlib.Core.List.{List, [], _∷_, _++_}
 use mathlib.Core.Option.{Option, some, none}
 use lib.ListN.{length, take, drop, getD}
 use lib.Dec.{eqb, leb}
 use Rattle.refusal.specs.Numbers.{accepted, wrongParamCount, badSource, badTime, zeroTime, badName, badModes, badMembers}
 use Rattle.refusal.specs.Rules.{Rule, _when_, firstOf}
-use Rattle.octets.specs.Decimals.{isDecimal, valueOf}
+use Rattle.laws.specs.Lists.{same}
+use Rattle.octets.specs.Decimals.{zeroDigit, isDecimal, valueOf}
 use Rattle.names.specs.Names.{isChannel, isServerId}
 use Rattle.channel.specs.Limits.{timeLimit}
 use Rattle.channel.specs.Channel.{Channel}
@@ -56,16 +57,25 @@ goodCount c = leb fewest (length (c .params)) && leb (length (c .params)) most
 unfoldable pub goodTime : Content → Bool
 goodTime c = isDecimal (timeIn c) && leb (valueOf (timeIn c)) timeLimit
 
-unfoldable pub joinRules : Content → List Rule
-joinRules c =
+-- of the count and the source
+abbrev pub sourceRules : Content → List Rule
+sourceRules c =
     wrongParamCount when not (goodCount c)
     ∷ badSource when not (isSource (c .prefix))
-    ∷ badTime when not (goodTime c)
-    ∷ zeroTime when eqb (valueOf (timeIn c)) 0
+    ∷ []
+
+-- of what it tells
+abbrev pub tellingRules : Content → List Rule
+tellingRules c =
+    badTime when not (goodTime c)
+    ∷ zeroTime when same (timeIn c) (zeroDigit ∷ [])
     ∷ badName when not (isChannel (nameIn c))
     ∷ badModes when not (goodModes (modesIn c) (argumentsIn c))
     ∷ badMembers when not (goodEntries (listIn c))
     ∷ []
+
+unfoldable pub joinRules : Content → List Rule
+joinRules c = sourceRules c ++ tellingRules c
 
 -- ---- the channel that a line tells of
 unfoldable pub channelIn : Content → Channel

@@ -22,7 +22,7 @@ ghost use Rattle.message.specs.Grammar.{lineLimit};
 ghost use Rattle.message.specs.Reading.{contentOf, messageOf};
 ghost use Rattle.writer.specs.Form.{written};
 ghost use Rattle.writer.specs.Writing.{answerFor};
-ghost use Rattle.sjoin.specs.Join.{timeIn, goodTime, joinRules, channelIn, refusedBy, toldBy};
+ghost use Rattle.sjoin.specs.Join.{timeIn, goodTime, sourceRules, tellingRules, joinRules, channelIn, refusedBy, toldBy};
 ghost use Rattle.sjoin.specs.Telling.{described, descriptionLimit, describedIn, joinMessage, tellRules};
 ghost use Rattle.sjoin.specs.Scan.{Parted};
 use arguments::MODES_AT;
@@ -86,10 +86,10 @@ pub struct Told {
     pub record: Record,
 }
 
-// The first of the numbers 12 to 18 that applies to a line that is read, with its parts and its count of parameters, or ACCEPTED.
-fn join_number(line: &[u8], m: Message, count: usize) -> u8
+// Number 12 or 13, of a line that is read, with its parts and its count of parameters, or ACCEPTED.
+fn source_number(line: &[u8], m: Message, count: usize) -> u8
     requires { ⌜ (m ≡ messageOf (now line)) × (count ≡ length (contentOf (now line) .params)) ⌝ }
-    ensures { λ r. ⌜ r ≡ firstOf (joinRules (contentOf (now (line .entry)))) ⌝ }
+    ensures { λ r. ⌜ r ≡ firstOf (sourceRules (contentOf (now (line .entry)))) ⌝ }
 {
     if count < FEWEST {
         return WRONG_PARAM_COUNT;
@@ -100,6 +100,14 @@ fn join_number(line: &[u8], m: Message, count: usize) -> u8
     if !is_server_id(prefix_at(line, m)) {
         return BAD_SOURCE;
     }
+    ACCEPTED
+}
+
+// The first of the numbers 14 to 18 that applies, or ACCEPTED. The list is at `last`.
+fn telling_number(line: &[u8], m: Message, last: usize) -> u8
+    requires { ⌜ Parted (now line) m last ⌝ }
+    ensures { λ r. ⌜ r ≡ firstOf (tellingRules (contentOf (now (line .entry)))) ⌝ }
+{
     let Decimal::Value(time) = decimal(param_at(line, m, TIME_AT), Record::TIME) else {
         return BAD_TIME;
     };
@@ -113,13 +121,25 @@ fn join_number(line: &[u8], m: Message, count: usize) -> u8
     if !good_letters(modes) {
         return BAD_MODES;
     }
-    if !good_arguments(line, m, modes, count - 1) {
+    if !good_arguments(line, m, modes, last) {
         return BAD_MODES;
     }
-    if !good_entries(param_at(line, m, count - 1)) {
+    if !good_entries(param_at(line, m, last)) {
         return BAD_MEMBERS;
     }
     ACCEPTED
+}
+
+// The first of the numbers 12 to 18 that applies to a line that is read, with its parts and its count of parameters, or ACCEPTED.
+fn join_number(line: &[u8], m: Message, count: usize) -> u8
+    requires { ⌜ (m ≡ messageOf (now line)) × (count ≡ length (contentOf (now line) .params)) ⌝ }
+    ensures { λ r. ⌜ r ≡ firstOf (joinRules (contentOf (now (line .entry)))) ⌝ }
+{
+    let number = source_number(line, m, count);
+    if number != ACCEPTED {
+        return number;
+    }
+    telling_number(line, m, count - 1)
 }
 
 // A name in its room, the rest of it zero.

@@ -9,7 +9,8 @@ use Rattle.refusal.specs.Numbers.{accepted}
 use Rattle.refusal.specs.Rules.{firstOf}
 use Rattle.message.specs.Reading.{countOf, isRead, contentOf}
 use Rattle.message.proofs.Readings.{read-small, reading-line, reading-refused}
-use Rattle.sjoin.specs.Join.{joinRules}
+use Rattle.sjoin.specs.Join.{goodCount, joinRules}
+use Rattle.sjoin.proofs.Joined.{passes}
 use Rattle.sjoin.proofs.Answers.{bounds, parted, told-unread, told-refused, told-record}
 use Rattle.sjoin.proofs.read_join.Statement.{statement}
 use Rattle.sjoin.proofs.read_join.Tie as tie
@@ -57,8 +58,11 @@ returns-2 c = c .refused2 .ensures ∙ told-refused (c .before .before .before .
 none : (c : tie.Else1) → firstOf (joinRules (contentOf (c .before .before .before .before .before .before .before .before .args .line .now))) ≡ accepted
 none c = sym (c .before .join-number .ensures) ∙ c .if1 .left
 
+good : (c : tie.Else1) → goodCount (contentOf (c .before .before .before .before .before .before .before .before .args .line .now)) ≡ true
+good c = passes (contentOf (c .before .before .before .before .before .before .before .before .args .line .now)) (none c) .count
+
 some : (c : tie.Else1) → 1 ≤ c .before .before .before .before .reading .given .0 .0
-some c = omega (arith, count (c .before .before .before), bounds (contentOf (c .before .before .before .before .before .before .before .before .args .line .now)) (none c) .0)
+some c = omega (arith, count (c .before .before .before), bounds (contentOf (c .before .before .before .before .before .before .before .before .args .line .now)) (good c) .0)
 
 sub-record-of : tie.Need-sub-record-of
 sub-record-of c = some c
@@ -66,7 +70,7 @@ sub-record-of c = some c
 record-of-requires : tie.Need-record-of-requires
 record-of-requires c κs =
     let line = c .before .before .before .before .before .before .before .before .args .line .now in (
-      parted line (c .before .before .before .before .reading .given .0 .0 - 1) (omega (arith, count (c .before .before .before), some c)) (none c) (c .before .before .parts .result) (c .before .before .parts .ensures),
+      parted line (c .before .before .before .before .reading .given .0 .0 - 1) (omega (arith, count (c .before .before .before), some c)) (good c) (c .before .before .parts .result) (c .before .before .parts .ensures),
       none c,
       read-small line (is-read (c .before .before .before)),
     )

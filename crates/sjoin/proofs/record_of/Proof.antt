@@ -63,7 +63,7 @@ list c = let e = c .before .before .before .before .before .before .before .befo
 room : (c : tie.After-param-at3) → length (wordsOf (c .param-at3 .result .now)) ≤ memberLimit
 room c =
     let e = c .before .before .before .before .before .before .before .before .before .before .before in
-    let n = list-room (listIn (contentOf (e .args .line .now))) (good (c .before .before .before .before .before .before .before .before .before) .list) (list-small (e .args .line .now) (e .args .last) (e .pre .0 .count) (e .pre .1) (e .pre .2)) in
+    let n = list-room (listIn (contentOf (e .args .line .now))) (good (c .before .before .before .before .before .before .before .before .before) .list) (list-small (e .args .line .now) (e .args .last) (e .pre .0 .count) (good (c .before .before .before .before .before .before .before .before .before) .count) (e .pre .2)) in
     omega (arith, n, ap (λ (l : List ℕ). length (wordsOf l)) (list c))
 
 named-requires : tie.Need-named-requires
