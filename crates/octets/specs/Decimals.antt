@@ -1,6 +1,6 @@
 -- Numbers in decimal, without leading zeros (document 01, 'SJOIN').
 use Prim.Native.Nat.{ℕ, zero, suc, _+_, _-_, _*_, _/_, _%_}
-use mathlib.Core.Bool.{Bool, not, cond, _&&_}
+use mathlib.Core.Bool.{Bool, true, false, not, cond, _&&_}
 use mathlib.Core.List.{List, [], _∷_, _++_}
 use lib.ListN.{length}
 use lib.Dec.{leb, ltb}
@@ -37,6 +37,22 @@ valueUpTo limit s = cond (leb (valueOf s) limit) (Value (valueOf s)) Malformed
 unfoldable pub decimalUpTo : ℕ → List ℕ → Decimal
 decimalUpTo limit s = cond (isDecimal s) (valueUpTo limit s) Malformed
 
+-- ---- the answer, by cases
+-- there is no number
+abbrev pub isMalformed : Decimal → Bool
+isMalformed (Value n) = false
+isMalformed Malformed = true
+
+-- the number, or 0 where there is none
+abbrev pub valueIn : Decimal → ℕ
+valueIn (Value n) = n
+valueIn Malformed = 0
+
+-- bytes are a number in decimal, and within a limit
+abbrev pub isUpTo : ℕ → List ℕ → Bool
+isUpTo limit s = isDecimal s && leb (valueOf s) limit
+
+-- ---- writing
 -- the digit of a number below ten
 abbrev pub digit : ℕ → ℕ
 digit n = n + zeroDigit

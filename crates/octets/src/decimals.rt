@@ -1,10 +1,10 @@
 // Numbers in decimal: read up to a limit, and put into lent room.
 ghost use mathlib.Core.Path.{_≡_};
-ghost use mathlib.Core.Bool.{true};
+ghost use mathlib.Core.Bool.{true, not, cond};
 ghost use Prim.Native.Nat.{_<_};
 ghost use Rattle.octets.specs.Bytes.{isDigit};
 ghost use Rattle.laws.specs.Lists.{all};
-ghost use Rattle.octets.specs.Decimals.{leadsWithZero, valueUpTo, decimalUpTo, digit as digitOf, digitsOf};
+ghost use Rattle.octets.specs.Decimals.{leadsWithZero, valueOf, valueUpTo, decimalUpTo, isMalformed, valueIn, isUpTo, digit as digitOf, digitsOf};
 ghost use Rattle.octets.specs.Room.{putAt, endOf};
 use crate::Class;
 use crate::Decimal;
@@ -44,7 +44,9 @@ fn value_up_to(s: &[u8], limit: u32) -> Decimal
 
 // The number that the bytes are in decimal, without leading zeros, up to a limit, however many digits come.
 pub fn decimal(s: &[u8], limit: u32) -> Decimal
-    ensures { λ r. ⌜ r ≡ decimalUpTo limit (now (s .entry)) ⌝ }
+    ensures answer { λ r. ⌜ r ≡ decimalUpTo limit (now (s .entry)) ⌝ }
+    ensures malformed { λ r. ⌜ isMalformed r ≡ not (isUpTo limit (now (s .entry))) ⌝ }
+    ensures value { λ r. ⌜ valueIn r ≡ cond (isUpTo limit (now (s .entry))) (valueOf (now (s .entry))) 0 ⌝ }
 {
     if s.len() == 0 {
         return Decimal::Malformed;

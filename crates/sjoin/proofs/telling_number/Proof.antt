@@ -24,7 +24,7 @@ abbrev content : tie.After-param-at → Content
 content c = contentOf (c .before .before .args .line .now)
 
 time : (c : tie.After-known-told) → decimalUpTo timeLimit (timeIn (content (c .before .before .before .before))) ≡ Value (c .before .time .given .0 .0)
-time c = sym (ap (decimalUpTo timeLimit) (c .before .before .before .before .param-at .ensures)) ∙ sym (c .before .before .before .decimal .ensures) ∙ c .before .time .given .1
+time c = sym (ap (decimalUpTo timeLimit) (c .before .before .before .before .param-at .ensures)) ∙ sym (c .before .before .before .decimal .ensures .0) ∙ c .before .time .given .1
 
 timely : (c : tie.After-known-told) → goodTime (content (c .before .before .before .before)) ≡ true
 timely c = time-value (content (c .before .before .before .before)) (c .before .time .given .0 .0) (time c) .0
@@ -63,7 +63,7 @@ enum-told : tie.Need-enum-told
 enum-told c = search needs
 
 returns : tie.Need-returns
-returns c = untimed (content (c .before .before .before)) (time-none (content (c .before .before .before)) (sym (ap (decimalUpTo timeLimit) (c .before .before .before .param-at .ensures)) ∙ sym (c .before .before .decimal .ensures) ∙ c .enum-told .given .1))
+returns c = untimed (content (c .before .before .before)) (time-none (content (c .before .before .before)) (sym (ap (decimalUpTo timeLimit) (c .before .before .before .param-at .ensures)) ∙ sym (c .before .before .decimal .ensures .0) ∙ c .enum-told .given .1))
 
 returns-2 : tie.Need-returns-2
 returns-2 c =

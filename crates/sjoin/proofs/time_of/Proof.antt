@@ -22,11 +22,11 @@ enum-told : tie.Need-enum-told
 enum-told c = search needs
 
 returns : tie.Need-returns
-returns c = sym (time-value (contentOf (c .before .before .before .before .before .before .args .line .now)) (c .before .time .given .0 .0) (sym (ap (decimalUpTo timeLimit) (c .before .before .before .before .param-at .ensures)) ∙ sym (c .before .before .before .decimal .ensures) ∙ c .before .time .given .1) .1)
+returns c = sym (time-value (contentOf (c .before .before .before .before .before .before .args .line .now)) (c .before .time .given .0 .0) (sym (ap (decimalUpTo timeLimit) (c .before .before .before .before .param-at .ensures)) ∙ sym (c .before .before .before .decimal .ensures .0) ∙ c .before .time .given .1) .1)
 
 returns-2 : tie.Need-returns-2
 returns-2 c =
-    absurd (true≢false (sym (c .before .before .before .before .before .pre .1) ∙ time-none (contentOf (c .before .before .before .before .before .args .line .now)) (sym (ap (decimalUpTo timeLimit) (c .before .before .before .param-at .ensures)) ∙ sym (c .before .before .decimal .ensures) ∙ c .enum-told .given .1)))
+    absurd (true≢false (sym (c .before .before .before .before .before .pre .1) ∙ time-none (contentOf (c .before .before .before .before .before .args .line .now)) (sym (ap (decimalUpTo timeLimit) (c .before .before .before .param-at .ensures)) ∙ sym (c .before .before .decimal .ensures .0) ∙ c .enum-told .given .1)))
 
 pub time-of-spec : {M : Type 1} → statement M
 time-of-spec =

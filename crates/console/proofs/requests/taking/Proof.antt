@@ -34,7 +34,7 @@ returns-2 c =
     let test = read .before .before in
     let found = test .before in
     asks-take (found .before .before .args .input .now) (found .next-word .result) (found .next-word .ensures) (test .if1 .left) _
-    (ap linkIn (sym (read .before .part .ensures .0)) ∙ sym (read .decimal .ensures) ∙ c .before .link .given .1)
+    (ap linkIn (sym (read .before .part .ensures .0)) ∙ sym (read .decimal .ensures .0) ∙ c .before .link .given .1)
 
 returns-3 : tie.Need-returns-3
 returns-3 c =
@@ -42,7 +42,7 @@ returns-3 c =
     let test = read .before .before in
     let found = test .before in
     asks-other (found .before .before .args .input .now) (found .next-word .result) (found .next-word .ensures) (test .if1 .left)
-    (ap linkIn (sym (read .before .part .ensures .0)) ∙ sym (read .decimal .ensures) ∙ c .enum-told .given .1)
+    (ap linkIn (sym (read .before .part .ensures .0)) ∙ sym (read .decimal .ensures .0) ∙ c .enum-told .given .1)
 
 pub taking-spec : {M : Type 1} → statement M
 taking-spec =

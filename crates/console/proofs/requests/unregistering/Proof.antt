@@ -16,10 +16,10 @@ enum-told : tie.Need-enum-told
 enum-told c = search needs
 
 returns : tie.Need-returns
-returns c = asks-link Unregister _ _ (sym (c .before .before .before .decimal .ensures) ∙ c .before .link .given .1)
+returns c = asks-link Unregister _ _ (sym (c .before .before .before .decimal .ensures .0) ∙ c .before .link .given .1)
 
 returns-2 : tie.Need-returns-2
-returns-2 c = asks-none Unregister _ (sym (c .before .before .decimal .ensures) ∙ c .enum-told .given .1)
+returns-2 c = asks-none Unregister _ (sym (c .before .before .decimal .ensures .0) ∙ c .enum-told .given .1)
 
 pub unregistering-spec : {M : Type 1} → statement M
 unregistering-spec =

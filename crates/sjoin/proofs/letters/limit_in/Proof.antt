@@ -18,13 +18,13 @@ enum-told : tie.Need-enum-told
 enum-told c = search needs
 
 cast-result : tie.Need-cast-result
-cast-result c = omega (arith, decimal-read limitLimit (c .before .n .given .0 .0) (c .before .before .before .before .before .args .s .now) (sym (c .before .before .before .decimal .ensures) ∙ c .before .n .given .1) .0)
+cast-result c = omega (arith, decimal-read limitLimit (c .before .n .given .0 .0) (c .before .before .before .before .before .args .s .now) (sym (c .before .before .before .decimal .ensures .0) ∙ c .before .n .given .1) .0)
 
 returns : tie.Need-returns
-returns c = sym (limit-value (c .before .before .before .before .before .args .s .now) (c .before .n .given .0 .0) (sym (c .before .before .before .decimal .ensures) ∙ c .before .n .given .1))
+returns c = sym (limit-value (c .before .before .before .before .before .args .s .now) (c .before .n .given .0 .0) (sym (c .before .before .before .decimal .ensures .0) ∙ c .before .n .given .1))
 
 returns-2 : tie.Need-returns-2
-returns-2 c = sym (limit-none (c .before .before .before .before .args .s .now) (sym (c .before .before .decimal .ensures) ∙ c .enum-told .given .1))
+returns-2 c = sym (limit-none (c .before .before .before .before .args .s .now) (sym (c .before .before .decimal .ensures .0) ∙ c .enum-told .given .1))
 
 pub limit-in-spec : {M : Type 1} → statement M
 limit-in-spec =
