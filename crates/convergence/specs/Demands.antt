@@ -21,7 +21,7 @@ use Rattle.channel.specs.Limits.{memberLimit, slotCount}
 use Rattle.channel.specs.Channel.{Channel}
 use Rattle.channel.specs.Record.{encode, emptyRecord}
 use Rattle.channel.specs.Plain.{everyone, plain}
-use Rattle.links.specs.Links.{linksIn}
+use Rattle.links.specs.Links.{hasLink, linksIn}
 use Rattle.table.specs.declared.Table.{Table}
 use Rattle.sjoin.specs.Join.{channelIn}
 use Rattle.sjoin.specs.Telling.{sjoin}
@@ -67,8 +67,8 @@ pub record Accepts (t : Table) (link : ℕ) (line out : List ℕ) (answer : Take
   pub number : answer .number ≡ accepted
   -- the slots change as SJOIN, PART and QUIT say, and nothing else of the table does
   pub table : answer .table ≡ withSlots t (slotsBy (t .slots) line)
-  -- the relay set: every registered link except the source
-  pub links : (k : ℕ) → hasBit (answer .set) k ≡ hasBit (t .links .set) k && not (eqb k link)
+  -- the relay set: every registered link except the source, and no other bit
+  pub links : (k : ℕ) → hasBit (answer .set) k ≡ hasLink (t .links .set) k && not (eqb k link)
   -- the number of links in it
   pub count : answer .count ≡ length (linksIn (answer .set))
   -- the line that goes out, in the writer's form, stands at the front of the output, the rest unchanged

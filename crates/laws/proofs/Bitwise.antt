@@ -1,5 +1,5 @@
 -- Laws of bits: a shift and a mask test one, a number's bits lie below its width, a union has the bits of both and so none if neither has one, a power
--- of two has one, and one that is taken off leaves the others. Assumes nothing.
+-- of two has one, one that is taken off leaves the others, and numbers with the same bits are the same. Assumes nothing.
 use mathlib.Core.Path.{_≡_, refl, sym, ap, _∙_}
 use mathlib.Core.Bool.{Bool, true, false, true≢false, not, _&&_, _||_, and-true, and-false, and-assoc}
 use mathlib.Core.List.{List}
@@ -115,3 +115,24 @@ bit-off n (suc k) zero e =
 bit-off n (suc k) (suc j) e =
     let half : (n - 2 ^ suc k) / 2 ≡ n / 2 - 2 ^ k = omega (arith, pow-suc 2 k) in
     bit-half (n - 2 ^ suc k) j ∙ rw (half, eqb·suc-suc j k, bit-half n j) (bit-off (n / 2) k j (sym (bit-half n k) ∙ e))
+
+-- ---- numbers with the same bits are the same
+same-digit : (x y : ℕ) → x < 2 → y < 2 → eqb x 1 ≡ eqb y 1 → x ≡ y
+same-digit zero zero p q e = refl
+same-digit zero (suc zero) p q e = absurd (true≢false (sym e))
+same-digit zero (suc (suc y)) p q e = absurd (omega arith)
+same-digit (suc zero) zero p q e = absurd (true≢false e)
+same-digit (suc zero) (suc zero) p q e = refl
+same-digit (suc zero) (suc (suc y)) p q e = absurd (omega arith)
+same-digit (suc (suc x)) y p q e = absurd (omega arith)
+
+-- by their halves, up to a bound
+same-upto : (n a b : ℕ) → a ≤ n → b ≤ n → ((k : ℕ) → hasBit a k ≡ hasBit b k) → a ≡ b
+same-upto zero a b p q h = omega arith
+same-upto (suc n) a b p q h =
+    let half : a / 2 ≡ b / 2 = same-upto n (a / 2) (b / 2) (omega arith) (omega arith) (λ k. sym (bit-half a k) ∙ h (suc k) ∙ bit-half b k) in
+    let last : a % 2 ≡ b % 2 = same-digit (a % 2) (b % 2) (omega arith) (omega arith) (sym (bit-last a) ∙ h 0 ∙ bit-last b) in
+    omega arith
+
+pub same-bits : (a b : ℕ) → ((k : ℕ) → hasBit a k ≡ hasBit b k) → a ≡ b
+same-bits a b = same-upto (a + b) a b (omega arith) (omega arith)

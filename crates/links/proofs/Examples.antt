@@ -6,7 +6,7 @@ use native.Mathlib.Omega.{arith}
 use lib.Count.{ones}
 use Rattle.laws.specs.Bits.{hasBit}
 use Rattle.links.specs.declared.Links.{Links}
-use Rattle.links.specs.Links.{links, noLinks, withLink, lessLink, withoutLink, relaySet, linksFrom, linksIn}
+use Rattle.links.specs.Links.{links, noLinks, withLink, setBelow, lessLink, withoutLink, relaySet, linksFrom, linksIn}
 use Rattle.links.proofs.Sets.{with-is, with-none, less-in, less-out}
 use Rattle.links.proofs.Counted.{ones-links}
 
@@ -19,11 +19,11 @@ unfolding three linksFrom hasBit
 registered = refl
 
 relayed : linksIn (relaySet three 3) ≡ 0 ∷ 5 ∷ []
-unfolding three relaySet lessLink linksFrom hasBit
+unfolding three relaySet lessLink setBelow linksFrom hasBit
 relayed = refl
 
 dropped : linksIn (withoutLink three 0 .set) ≡ 3 ∷ 5 ∷ []
-unfolding three withoutLink lessLink linksFrom hasBit
+unfolding three withoutLink lessLink setBelow linksFrom hasBit
 dropped = refl
 
 -- 31 is the last link, 32 is none
@@ -40,11 +40,11 @@ no-more = with-none (links 33) 32 (omega arith)
 
 one-less : lessLink 41 3 ≡ 33
 unfolding hasBit
-one-less = less-in 41 3 refl
+one-less = less-in 41 3 (omega arith) refl
 
 no-less : lessLink 33 3 ≡ 33
 unfolding hasBit
-no-less = less-out 33 3 refl
+no-less = less-out 33 3 (omega arith) refl
 
 two : ones 33 ≡ 2
 unfolding linksFrom hasBit

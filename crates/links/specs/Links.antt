@@ -1,9 +1,9 @@
 -- Sets of links as 32 bits: link i is bit i.
-use Prim.Native.Nat.{ℕ, zero, suc, _-_, _^_}
-use mathlib.Core.Bool.{Bool, cond}
+use Prim.Native.Nat.{ℕ, zero, suc, _^_}
+use mathlib.Core.Bool.{Bool, not, cond, _&&_}
 use mathlib.Core.List.{List, [], _∷_}
 use lib.Bits.{bitOr}
-use lib.Dec.{ltb}
+use lib.Dec.{eqb, ltb}
 use Rattle.laws.specs.Bits.{hasBit}
 use Rattle.links.specs.declared.Links.{Links}
 
@@ -15,6 +15,10 @@ linkCount = 32
 abbrev pub isLink : ℕ → Bool
 isLink link = ltb link linkCount
 
+-- a link is in a set; a number that is no link's is in none
+abbrev pub hasLink : ℕ → ℕ → Bool
+hasLink set link = isLink link && hasBit set link
+
 abbrev pub links : ℕ → Links
 links set = record { set = set }
 
@@ -25,9 +29,18 @@ noLinks = links 0
 unfoldable pub withLink : Links → ℕ → Links
 withLink l link = cond (isLink link) (links (bitOr (l .set) (2 ^ link))) l
 
--- a set less one of its links
+-- the set of those numbers below n that pass a test
+unfoldable pub setBelow : ℕ → (ℕ → Bool) → ℕ
+setBelow zero test = 0
+setBelow (suc n) test = bitOr (setBelow n test) (cond (test n) (2 ^ n) 0)
+
+-- the set of the links that pass a test
+abbrev pub setWhere : (ℕ → Bool) → ℕ
+setWhere test = setBelow linkCount test
+
+-- a set less one link: the links that are in it and aren't that one
 unfoldable pub lessLink : ℕ → ℕ → ℕ
-lessLink set link = cond (hasBit set link) (set - 2 ^ link) set
+lessLink set link = setWhere (λ k. hasBit set k && not (eqb k link))
 
 -- one dropped
 unfoldable pub withoutLink : Links → ℕ → Links

@@ -18,7 +18,7 @@ use Rattle.ascending.specs.Ascending.{insert, put, unite, ascends}
 use Rattle.octets.specs.Decimals.{leadsWithZero, isDecimal, valueFrom, digitsUpTo, digitsOf}
 use Rattle.names.specs.Fold.{fold, sameName}
 use Rattle.names.specs.Names.{isChannel, isServerId, isUserId}
-use Rattle.links.specs.Links.{isLink, links, lessLink, relaySet, linksFrom, linksIn}
+use Rattle.links.specs.Links.{isLink, links, setBelow, lessLink, relaySet, linksFrom, linksIn}
 use Rattle.message.specs.Grammar.{lineLimit, word, spaces, prefix, prefixEnd, commandStart, command, commandEnd, isCommand, rest, params}
 use Rattle.message.specs.Content.{contentIn}
 use Rattle.message.specs.Words.{wordsAt}
@@ -106,7 +106,7 @@ answer-of t link line n slots w good room linked none after goes = simp (good, r
 
 -- that to the SJOIN: to links 0 and 5, count 2, and 46 bytes, CR LF counted
 answers : processAnswer water 3 joining lineLimit ≡ record { number = accepted; table = withSlots water (race (encode after)); set = 33; count = 2; len = 46 }
-unfolding water relaySet lessLink linksFrom hasBit
+unfolding water relaySet lessLink setBelow linksFrom hasBit
 answers = answer-of water 3 joining lineLimit (race (encode after)) _ water-good refl refl (accepts .0) (comes-to .0) (goes-out .0)
 
 -- ---- what the laws say of them

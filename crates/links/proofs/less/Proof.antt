@@ -1,4 +1,5 @@
--- `less` meets its contract: a link that is in a set of 32 bits is below 32, so that 1 shifted to its place is its bit. Assumes nothing.
+-- `less` meets its contract: a link that is in a set of 32 bits is below 32, so that 1 shifted to its place is its bit, and taking that off leaves the
+-- others. Assumes nothing.
 use mathlib.Core.Path.{_≡_, sym, _∙_}
 use mathlib.Core.Bool.{true}
 use Prim.Native.Nat.{_<_}
@@ -27,10 +28,10 @@ sub-result : tie.Need-sub-result
 sub-result c = let a = c .before .before .args in rw (shifted-one linkCount (a .link) (below c)) (bit-value (a .set) (a .link) (held c))
 
 returns : tie.Need-returns
-returns c = let a = c .before .before .args in rw (shifted-one linkCount (a .link) (below c)) (sym (less-in (a .set) (a .link) (held c)))
+returns c = let a = c .before .before .args in rw (shifted-one linkCount (a .link) (below c)) (sym (less-in (a .set) (a .link) (search needs) (held c)))
 
 returns-2 : tie.Need-returns-2
-returns-2 c = sym (less-out (c .before .before .args .set) (c .before .before .args .link) (sym (c .before .has-link .ensures) ∙ c .if1 .left))
+returns-2 c = sym (less-out (c .before .before .args .set) (c .before .before .args .link) (search needs) (sym (c .before .has-link .ensures) ∙ c .if1 .left))
 
 pub less-spec : {M : Type 1} → statement M
 less-spec = tie.close (tie.spec has-link-requires shl-result sub-result returns returns-2)
