@@ -114,13 +114,21 @@ static void parts(void)
     printf("not a line: %d, an empty one: %d\n", relay_read(text("X")).number, relay_read(text("\r\n")).number);
 }
 
+/* Whether of two equal keys the first is handed back: its very bytes, not those of the other. */
+static bool hands_back_first(void)
+{
+    static const char first[] = "buoy", second[] = "buoy";
+    relay_bytes key = relay_greater_key(text(first), text(second));
+    return key.ptr == (const uint8_t *)first && key.len == strlen(first);
+}
+
 static void names_masks_keys(void)
 {
     printf("names: %d %d\n", relay_same_name(text("#A["), text("#a{")), relay_same_name(text("#~"), text("#^")));
     printf("masks: %d %d\n", relay_match(text("a*b*c"), text("abxbc")).yes, relay_match(text("?"), text("")).yes);
     printf("greater key: ");
     print(relay_greater_key(text("buoy"), text("buoys")));
-    printf("\n");
+    printf(", of equal ones the first: %d\n", hands_back_first());
 }
 
 static void day_log(void)

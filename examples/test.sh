@@ -1,24 +1,28 @@
 #!/bin/sh
 # Tests of the console that a single run on a file can't make: the day through bin/relay, input in small pieces, unfinished last lines, the journal, and
-# what happens where the journal or the output can't be written. Says which test fails, and ends with status 1 if one does.
-set -eu
-cd "$(dirname "$0")/.."
-room=$(mktemp -d)
+# what happens where the journal or the output can't be written. Says which test fails; the last line is 'N passed, M failed', the status 1 if one did.
+set -u
+cd "$(dirname "$0")/.." || exit 2
+room=$(mktemp -d) || exit 2
 trap 'rm -rf "$room"' EXIT
-failed=0
+passed=0 failed=0
 
 # what a test wrote, and what it should have written
 same() { # NAME GOT EXPECTED
-    if ! cmp -s "$2" "$3"; then
-        echo "examples: $1: differs: $(cmp "$2" "$3" 2>&1 || true)"
-        failed=1
+    if cmp -s "$2" "$3"; then
+        passed=$((passed + 1))
+    else
+        echo "examples: $1: differs: $(cmp "$2" "$3" 2>&1)"
+        failed=$((failed + 1))
     fi
 }
 
 said() { # NAME FILE
-    if [ ! -s "$2" ]; then
+    if [ -s "$2" ]; then
+        passed=$((passed + 1))
+    else
         echo "examples: $1: nothing was said on standard error"
-        failed=1
+        failed=$((failed + 1))
     fi
 }
 
@@ -95,5 +99,5 @@ said "a journal that can't be opened" "$room/err"
 $console <"$room/in" >/dev/full 2>"$room/err"
 said "a full output" "$room/err"
 
-[ "$failed" -eq 0 ] && echo "examples: all passed"
-exit "$failed"
+echo "$passed passed, $failed failed"
+[ "$failed" -eq 0 ]
