@@ -2,13 +2,15 @@
 -- Assumes nothing.
 use Prim.Native.Nat.{ℕ, suc, _≤_}
 use mathlib.Core.Path.{_≡_, refl, sym, ap, _∙_}
-use mathlib.Core.Bool.{true, false, _&&_}
+use mathlib.Core.Bool.{true, false, not, _&&_}
 use mathlib.Core.Logic.{inl, inr}
 use mathlib.Core.List.{List, [], _∷_, _++_, map, List·Memᴰ, List·Memᴰ·head, List·Memᴰ·tail, List·Memᴰ·not-nil, Memᴰ·map}
 use native.Mathlib.Omega.{arith}
 use lib.ListN.{length, getD, replicate, length-replicate}
+use lib.Dec.{ltb}
 use Rattle.refusal.specs.Numbers.{accepted, emptyPrefix, zeroTime, badLink}
 use Rattle.refusal.specs.Rules.{firstOf}
+use Rattle.refusal.proofs.Rules.{skip, stop}
 use Rattle.laws.specs.Bits.{hasBit}
 use Rattle.octets.specs.Bytes.{capital, within, isPlain, isLetter, isDigit, isIdByte, isNameByte, isKeyByte}
 use Rattle.laws.specs.Lists.{all, sameBy, startsWith}
@@ -153,15 +155,16 @@ untimedFrom = from untimed untimed-is
 abbrev pub unreadFrom : ℕ → Join
 unreadFrom = from unread unread-is
 
+roomy : ltb (length room) lineLimit ≡ false
+roomy = rw length-room
+
 -- the number of a join at the start: that of its line on a registered link
 module _ (set link : ℕ) where
   on-link : (l : List ℕ) (is : IsJoin l) → isLink link && hasBit set link ≡ true → numberAt (start set) (from l is link) ≡ judge l
-  unfolding firstOf
-  on-link l is h = start-number (start set) refl (from l is link) ∙ rw (length-room, h)
+  on-link l is h = start-number (start set) refl (from l is link) ∙ skip _ _ roomy ∙ skip _ _ (ap not h)
 
   pub off-link : (l : List ℕ) (is : IsJoin l) → isLink link && hasBit set link ≡ false → numberAt (start set) (from l is link) ≡ badLink
-  unfolding firstOf
-  off-link l is h = start-number (start set) refl (from l is link) ∙ rw (length-room, h)
+  off-link l is h = start-number (start set) refl (from l is link) ∙ skip _ _ roomy ∙ stop _ _ (ap not h)
 
   module _ (h : isLink link && hasBit set link ≡ true) where
     pub earlier-number : numberAt (start set) (earlierFrom link) ≡ accepted
