@@ -1,7 +1,8 @@
--- Each useless relay fails: lines that the rules accept, and what is wrong after them. `later` has the time 1200, `earlier` 1000, an empty slot 0. Assumes nothing.
+-- Each useless relay fails: lines that the rules accept, and what is wrong after them. `later` has the time 1200, `earlier` 1000, an empty slot 0. A merging that
+-- never refuses meets demand 3, and fails what else is asked. Assumes nothing.
 use Prim.Native.Nat.{ℕ, _-_}
 use mathlib.Core.Path.{_≡_, refl, sym, ap, ap₂, _∙_}
-use mathlib.Core.Bool.{Bool, true, false, _&&_, cond}
+use mathlib.Core.Bool.{Bool, true, false, true≢false, not, _&&_, cond}
 use mathlib.Core.Logic.{_⊎_, inl, inr, ⊎-elim}
 use mathlib.Core.List.{List, [], _∷_, _++_, map}
 use native.Mathlib.Omega.{arith}
@@ -9,6 +10,7 @@ use lib.ListN.{length, set}
 use lib.Dec.{eqb}
 use borrow.Author.Tests.{eq-eqb, eqb-true, eqb-false}
 use Rattle.refusal.specs.Numbers.{accepted, notWellFormed}
+use Rattle.refusal.proofs.Rules.{stop}
 use Rattle.laws.specs.Bits.{hasBit}
 use Rattle.octets.specs.Bytes.{capital}
 use Rattle.laws.specs.Lists.{all}
@@ -20,22 +22,26 @@ use Rattle.channel.specs.declared.Record.{Record}
 use Rattle.channel.specs.declared.Merged.{Merged}
 use Rattle.channel.specs.Limits.{slotCount}
 use Rattle.channel.specs.Record.{encode, emptyRecord}
+use Rattle.channel.specs.WellFormed.{wellFormed}
+use Rattle.channel.specs.Merging.{mergeRules}
 use Rattle.channel.specs.Plain.{earliest, entries, everyone}
 use Rattle.channel.proofs.Examples.{2cd, 1ab, stored, incoming}
 use Rattle.channel.proofs.Blank.{empty-free}
 use Rattle.channel.proofs.Plains.{plain-time}
-use Rattle.links.specs.Links.{isLink}
+use Rattle.links.specs.Links.{isLink, setBelow, lessLink, relaySet, linksFrom, linksIn}
 use Rattle.table.specs.declared.Table.{Table}
 use Rattle.table.specs.Table.{isFree}
 use Rattle.table.proofs.Alone.{free-slot}
+use Rattle.table.proofs.Changing.{well-used}
 use Rattle.sjoin.specs.Telling.{sjoin}
 use Rattle.relay.specs.declared.Taken.{Taken}
 use Rattle.relay.specs.Relay.{slotsBy, withSlots}
 use Rattle.relay.proofs.Answering.{answer-accepted}
 use Rattle.relay.proofs.Joining.{slots-joined, opened}
-use Rattle.convergence.specs.Demands.{Taking, Merging, ruled, Accepts, Demand2, Join, goodLines, takeJoin, tableAfter, channelOf, Kept, plainRecord, holding, firstSlot, Demand3}
+use Rattle.convergence.specs.Demands.{Taking, Merging, ruled, ruledMerge, Merges, Accepts, Demand2, Join, goodLines, takeJoin, tableAfter, channelOf, Kept, plainRecord, holding, firstSlot, Demand3}
 use Rattle.convergence.specs.Ours.{ours}
-use Rattle.convergence.specs.Useless.{refusing, constant, unaltering, firstOnly, firstRecord}
+use Rattle.convergence.specs.Useless.{refusing, constant, unaltering, firstOnly, countedAs, firstRecord, neverRefusing}
+use Rattle.convergence.proofs.Demand3.{demand3}
 use Rattle.convergence.proofs.Lines.{earlier, later, earlier-command, later-command, room, start, earlierFrom, laterFrom, earlier-tells, later-tells, earlier-number, later-number, stored-race, incoming-race, kept-by, not-none}
 
 -- ---- the lines are good: links 0, 3 and 5 are registered
@@ -220,6 +226,30 @@ first-joins =
 pub first-fails : (merging : Merging) → Demand3 firstOnly merging → ⊥
 first-fails = fails-3 firstOnly (laterFrom 3 ∷ earlierFrom 0 ∷ []) first-joins
 
+-- ---- a count of links that is made up: from link 3 of 0, 3 and 5 it would have to be 2, and from a link alone 0
+alone : isLink 0 && hasBit 1 0 ≡ true
+unfolding hasBit
+alone = refl
+
+two-others : length (linksIn (relaySet (start links .links) 3)) ≡ 2
+unfolding relaySet lessLink setBelow linksFrom hasBit
+two-others = refl
+
+no-other : length (linksIn (relaySet (start 1 .links) 0)) ≡ 0
+unfolding relaySet lessLink setBelow linksFrom hasBit
+no-other = refl
+
+module _ (n : ℕ) (d : Demand2 (countedAs n)) where
+  counts : (set link : ℕ) → isLink link && hasBit set link ≡ true → n ≡ length (linksIn (relaySet (start set .links) link))
+  counts set link on =
+      let good = later-number set link on in
+      sym (ap (λ (k : ℕ). cond (eqb k accepted) n 0) good)
+      ∙ d (start set) link later room good .count
+      ∙ ap (λ (a : Taken). length (linksIn (a .set))) (answer-accepted (start set) link later (length room) good)
+
+pub counted-fails : (n : ℕ) → Demand2 (countedAs n) → ⊥
+counted-fails n d = omega (arith, counts n d links 3 on-3 ∙ two-others, counts n d 1 0 alone ∙ no-other)
+
 -- ---- a merging that answers its first record, whatever the taking
 pub first-record : firstRecord (plainRecord (later ∷ [])) (plainRecord (earlier ∷ [])) ≡ record { number = accepted; result = plainRecord (later ∷ earlier ∷ []) } → ⊥
 unfolding earliest
@@ -236,3 +266,33 @@ first-record-fails taking d =
   where
     answered : Record → Merged
     answered r = record { number = accepted; result = r }
+
+-- ---- a merging that never refuses: it meets demand 3, so that more is to be asked of a merging
+pub never-refusing-meets : Demand3 ours neverRefusing
+never-refusing-meets = record {
+  numbers = demand3 .numbers;
+  leaves = demand3 .leaves;
+  alike = demand3 .alike;
+  merges = λ start other js ks empty void some any kept. ap unrefused (demand3 .merges start other js ks empty void some any kept);
+}
+  where
+    unrefused : Merged → Merged
+    unrefused m = record { number = accepted; result = cond (eqb (m .number) accepted) (m .result) emptyRecord }
+
+-- no channel merged with no channel is to be refused: a well-formed record has members
+empty-ill : wellFormed emptyRecord ≡ false
+empty-ill = go (wellFormed emptyRecord) refl
+  where
+    go : (t : Bool) → wellFormed emptyRecord ≡ t → t ≡ false
+    go true e = absurd (true≢false (sym (eq-eqb (emptyRecord .count) 0 empty-free) ∙ well-used emptyRecord e))
+    go false e = refl
+
+pub empty-number : ruledMerge emptyRecord emptyRecord ≡ notWellFormed
+unfolding mergeRules
+empty-number = stop _ _ (ap (λ (t : Bool). not (t && wellFormed emptyRecord)) empty-ill)
+
+pub empty-refused : ruledMerge emptyRecord emptyRecord ≡ accepted → ⊥
+empty-refused e = omega (arith, e, empty-number)
+
+pub never-refusing-fails : Merges neverRefusing → ⊥
+never-refusing-fails m = empty-refused (sym (ap (λ (a : Merged). a .number) (m .refuses emptyRecord emptyRecord empty-refused)))

@@ -1,30 +1,33 @@
 -- Joins that meet the premises of the three demands, and what the theorems say of them: good and bad ones in one list, the good lines in another order and with
 -- a repeat, from another start. Assumes nothing.
 use Prim.Native.Nat.{ℕ}
-use mathlib.Core.Path.{_≡_, refl, ap, _∙_}
+use mathlib.Core.Path.{_≡_, refl, sym, ap, _∙_}
 use mathlib.Core.Bool.{true, false, _&&_}
 use mathlib.Core.List.{List, [], _∷_, _++_, map, List·Memᴰ·head, List·Memᴰ·tail, List·Memᴰ·not-nil}
 use native.Mathlib.Omega.{arith}
 use lib.ListN.{set}
-use Rattle.refusal.specs.Numbers.{accepted, badLink, emptyPrefix, zeroTime}
+use Rattle.refusal.specs.Numbers.{accepted, notWellFormed, badLink, emptyPrefix, zeroTime}
 use Rattle.laws.specs.Bits.{hasBit}
 use Rattle.laws.specs.Lists.{sameBy}
 use Rattle.octets.specs.Order.{compare}
 use Rattle.ascending.specs.Ascending.{insert, put, unite}
+use Rattle.channel.specs.declared.Merged.{Merged}
 use Rattle.channel.specs.Key.{greater}
 use Rattle.channel.specs.Channel.{Channel, member}
-use Rattle.channel.specs.Record.{encode}
+use Rattle.channel.specs.Record.{encode, decode, emptyRecord}
 use Rattle.channel.specs.Modes.{withMode}
-use Rattle.channel.specs.Merging.{mergeAnswer}
+use Rattle.channel.specs.Merging.{merge, mergeAnswer}
 use Rattle.channel.specs.Plain.{earliest, counts, entries, everyone, statusIn, statusAt, plain}
 use Rattle.channel.proofs.Examples.{2cd, 1ab, stored, incoming}
 use Rattle.links.specs.Links.{isLink}
 use Rattle.relay.specs.Relay.{withSlots, refused}
-use Rattle.convergence.specs.Demands.{ruled, Accepts, Join, numberAt, goodLines, numbersOf, tableAfter, Kept, plainRecord, holding, firstSlot, Among, Alike}
+use Rattle.convergence.specs.Demands.{ruled, ruledMerge, Accepts, Join, numberAt, goodLines, numbersOf, tableAfter, Kept, plainRecord, holding, firstSlot, Among, Alike}
 use Rattle.convergence.specs.Ours.{ours}
 use Rattle.convergence.proofs.Demand1.{demand1}
 use Rattle.convergence.proofs.Demand2.{demand2}
 use Rattle.convergence.proofs.Demand3.{demand3}
+use Rattle.convergence.proofs.Merges.{merges}
+use Rattle.convergence.proofs.Failures.{empty-number, empty-refused}
 use Rattle.convergence.proofs.Lines.{earlier, later, equal, unread, third, room, start, earlierFrom, laterFrom, equalFrom, unreadFrom, untimedFrom, later-is, earlier-tells, later-tells, equal-tells, off-link, earlier-number, later-number, equal-number, unread-number, untimed-number, stored-race, incoming-race, third-race, kept-by, not-none}
 
 -- ---- two starts: links 0, 3 and 5, and links 0, 1 and 2
@@ -168,3 +171,14 @@ apart : mergeAnswer (firstSlot (tableAfter ours (start 41) first)) (firstSlot (t
 unfolding plainRecord
 apart =
     demand3 .merges (start 41) (start 7) first second refl refl (not-none first-good) (not-none second-good) apart-kept ∙ rw (first-good, second-good, later-tells, earlier-tells, equal-tells, apart-plain)
+
+-- ---- of a merging: a pair that is accepted, and one that is refused
+apart-accepted : ruledMerge (firstSlot (tableAfter ours (start 41) first)) (firstSlot (tableAfter ours (start 7) second)) ≡ accepted
+unfolding mergeAnswer
+apart-accepted = ap (λ (m : Merged). m .number) apart
+
+apart-merged : encode (merge (decode (firstSlot (tableAfter ours (start 41) first))) (decode (firstSlot (tableAfter ours (start 7) second)))) ≡ encode after
+apart-merged = ap (λ (m : Merged). m .result) (sym (merges .accepts _ _ apart-accepted) ∙ apart)
+
+empty-merge : mergeAnswer emptyRecord emptyRecord ≡ record { number = notWellFormed; result = emptyRecord }
+empty-merge = merges .refuses emptyRecord emptyRecord empty-refused ∙ ap (λ (n : ℕ). record { number = n; result = emptyRecord }) empty-number

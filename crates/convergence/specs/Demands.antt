@@ -19,7 +19,8 @@ use Rattle.channel.specs.declared.Record.{Record}
 use Rattle.channel.specs.declared.Merged.{Merged}
 use Rattle.channel.specs.Limits.{memberLimit, slotCount}
 use Rattle.channel.specs.Channel.{Channel}
-use Rattle.channel.specs.Record.{encode, emptyRecord}
+use Rattle.channel.specs.Record.{encode, decode, emptyRecord}
+use Rattle.channel.specs.Merging.{merge, mergeRules}
 use Rattle.channel.specs.Plain.{everyone, plain}
 use Rattle.links.specs.Links.{hasLink, linksIn}
 use Rattle.table.specs.declared.Table.{Table}
@@ -42,6 +43,10 @@ Merging = Record → Record → Merged
 abbrev pub ruled : Table → ℕ → List ℕ → List ℕ → ℕ
 ruled t link line out = firstOf (processRules t link line (length out))
 
+-- the number that they give two records that are to be merged
+abbrev pub ruledMerge : Record → Record → ℕ
+ruledMerge a b = firstOf (mergeRules a b)
+
 -- ---- demand 1
 -- the number is from the fixed list
 abbrev pub Listed : ℕ → Type 0
@@ -60,6 +65,17 @@ pub record Demand1 (taking : Taking) : Type 0 where
   pub refuses : (t : Table) (link : ℕ) (line out : List ℕ) → (ruled t link line out ≡ accepted → ⊥) → taking t link line out ≡ (refused t (ruled t link line out), out)
   -- and the number is from the list
   pub listed : (t : Table) (link : ℕ) (line out : List ℕ) → (ruled t link line out ≡ accepted → ⊥) → Listed (taking t link line out .0 .number)
+
+-- Of a merging demand 1 asks the same, and a refused merge answers its first record as given. All else is merged by the rule of SJOIN (document 01: "Two whole
+-- records merge by the same rule, the first one's spelling kept"). Demand 3 says nothing of a refused merge, and of an accepted one only where both records were
+-- left by joins.
+pub record Merges (merging : Merging) : Type 0 where
+  -- where the rules give a number: that number, the first record as given
+  pub refuses : (a b : Record) → (ruledMerge a b ≡ accepted → ⊥) → merging a b ≡ record { number = ruledMerge a b; result = a }
+  -- and the number is from the list
+  pub listed : (a b : Record) → (ruledMerge a b ≡ accepted → ⊥) → Listed (merging a b .number)
+  -- else the record of the two channels merged
+  pub accepts : (a b : Record) → ruledMerge a b ≡ accepted → merging a b ≡ record { number = accepted; result = encode (merge (decode a) (decode b)) }
 
 -- ---- demand 2
 -- The answer to a line that is taken, and the output after.

@@ -1,16 +1,17 @@
--- The useless relays of document 01, 'How the promises are judged', each made as good as it can be without its use, and a useless merging.
+-- The useless relays of document 01, 'How the promises are judged', each made as good as it can be without its use, and two useless mergings.
 use Prim.Native.Nat.{ℕ}
 use mathlib.Core.Bool.{cond}
 use mathlib.Core.List.{List}
 use lib.Dec.{eqb}
 use Rattle.refusal.specs.Numbers.{accepted, notWellFormed}
 use Rattle.laws.specs.Lists.{all}
+use Rattle.channel.specs.Record.{emptyRecord}
 use Rattle.table.specs.declared.Table.{Table}
 use Rattle.table.specs.Table.{isFree}
 use Rattle.relay.specs.declared.Taken.{Taken}
 use Rattle.relay.specs.Relay.{refused}
 use Rattle.convergence.specs.Demands.{Taking, Merging, ruled}
-use Rattle.convergence.specs.Ours.{ours}
+use Rattle.convergence.specs.Ours.{ours, ourMerging}
 
 -- refuses all: by the rules' number where they give one, else by 1
 abbrev pub refusing : Taking
@@ -32,6 +33,18 @@ unaltering t link line out = (withTable (ours t link line out .0) t, ours t link
 abbrev pub firstOnly : Taking
 firstOnly t link line out = cond (all isFree (t .slots)) (ours t link line out) (unaltering t link line out)
 
+-- the answer with another count of links
+abbrev pub withCount : Taken → ℕ → Taken
+withCount a n = record { number = a .number; table = a .table; set = a .set; count = n; len = a .len }
+
+-- answers and writes as ours does, but for the count of links of an accepted line, which is made up
+abbrev pub countedAs : ℕ → Taking
+countedAs n t link line out = (withCount (ours t link line out .0) (cond (eqb (ruled t link line out) accepted) n 0), ours t link line out .1)
+
 -- answers its first record
 abbrev pub firstRecord : Merging
 firstRecord a b = record { number = accepted; result = a }
+
+-- merges as ours does, and accepts what that refuses, with no channel
+abbrev pub neverRefusing : Merging
+neverRefusing a b = record { number = accepted; result = cond (eqb (ourMerging a b .number) accepted) (ourMerging a b .result) emptyRecord }

@@ -1,0 +1,29 @@
+-- Our merging is as `Merges` asks: by its definition it answers a refusal where a rule applies and the merged record where none does, and each rule's number is
+-- from the list. Assumes nothing.
+use mathlib.Core.Path.{_≡_, ap}
+use borrow.Author.Tests.{ne-eqb}
+use Rattle.refusal.specs.Numbers.{accepted}
+use Rattle.refusal.proofs.Rules.{first-listed}
+use Rattle.channel.specs.declared.Record.{Record}
+use Rattle.channel.specs.declared.Merged.{Merged}
+use Rattle.channel.specs.Record.{encode, decode}
+use Rattle.channel.specs.Merging.{merge, mergeRules, mergeAnswer}
+use Rattle.channel.proofs.Rules.{rules-ascend}
+use Rattle.convergence.specs.Demands.{ruledMerge, Listed, Merges}
+use Rattle.convergence.specs.Ours.{ourMerging}
+
+module _ (a b : Record) where
+  accepts : ruledMerge a b ≡ accepted → ourMerging a b ≡ record { number = accepted; result = encode (merge (decode a) (decode b)) }
+  unfolding mergeAnswer
+  accepts e = rw e
+
+  module _ (bad : ruledMerge a b ≡ accepted → ⊥) where
+    refuses : ourMerging a b ≡ record { number = ruledMerge a b; result = a }
+    unfolding mergeAnswer
+    refuses = rw (ne-eqb (ruledMerge a b) accepted bad)
+
+    listed : Listed (ourMerging a b .number)
+    listed = rw refuses (first-listed (mergeRules a b) (rules-ascend a b) bad)
+
+pub merges : Merges ourMerging
+merges = record { refuses = refuses; listed = listed; accepts = accepts }

@@ -1,0 +1,51 @@
+-- Demands 1 and 2 settle the taking, and `Merges` the merging: what meets them, as ours does, answers as ours on every input, since they give each part of an
+-- answer, the relay set by its bits. Assumes nothing.
+use Prim.Native.Nat.{ℕ}
+use mathlib.Core.Path.{_≡_, refl, sym, ap, _∙_}
+use mathlib.Core.Bool.{Bool, true, false}
+use mathlib.Core.List.{List}
+use lib.ListN.{length}
+use lib.Dec.{eqb}
+use borrow.Author.Tests.{eqb-true, eqb-false}
+use Rattle.refusal.specs.Numbers.{accepted}
+use Rattle.laws.proofs.Bitwise.{same-bits}
+use Rattle.channel.specs.declared.Record.{Record}
+use Rattle.links.specs.Links.{linksIn}
+use Rattle.table.specs.declared.Table.{Table}
+use Rattle.relay.specs.declared.Taken.{Taken}
+use Rattle.convergence.specs.Demands.{Taking, Merging, ruled, ruledMerge, Accepts, Demand1, Demand2, Merges}
+use Rattle.convergence.specs.Ours.{ours, ourMerging}
+use Rattle.convergence.proofs.Demand1.{demand1}
+use Rattle.convergence.proofs.Demand2.{demand2}
+use Rattle.convergence.proofs.Merges.{merges}
+
+-- a number that is none, or one
+module _ {A : Type 0} (n : ℕ) where
+  by-number : (n ≡ accepted → A) → ((n ≡ accepted → ⊥) → A) → A
+  by-number good bad = go (eqb n accepted) refl
+    where
+      go : (t : Bool) → eqb n accepted ≡ t → A
+      go true e = good (eqb-true n accepted e)
+      go false e = bad (eqb-false n accepted e)
+
+module _ (t : Table) (link : ℕ) (line out : List ℕ) where
+  -- an accepted answer is settled
+  settled : (x y : Taken) (v w : List ℕ) → Accepts t link line out x v → Accepts t link line out y w → _≡_ {A = Taken × List ℕ} (x, v) (y, w)
+  settled x y v w a b =
+      let number : x .number ≡ y .number = a .number ∙ sym (b .number) in
+      let table : x .table ≡ y .table = a .table ∙ sym (b .table) in
+      let set : x .set ≡ y .set = same-bits (x .set) (y .set) (λ k. a .links k ∙ sym (b .links k)) in
+      let count : x .count ≡ y .count = a .count ∙ ap (λ (s : ℕ). length (linksIn s)) set ∙ sym (b .count) in
+      let len : x .len ≡ y .len = a .len ∙ sym (b .len) in
+      let output : v ≡ w = a .output ∙ sym (b .output) in
+      λ i. (record { number = number i; table = table i; set = set i; count = count i; len = len i }, output i)
+
+  pub only : (taking : Taking) → Demand1 taking → Demand2 taking → taking t link line out ≡ ours t link line out
+  only taking one two =
+      by-number (ruled t link line out)
+      (λ good. settled _ _ _ _ (two t link line out good) (demand2 t link line out good))
+      (λ bad. one .refuses t link line out bad ∙ sym (demand1 .refuses t link line out bad))
+
+pub only-merging : (merging : Merging) → Merges merging → (a b : Record) → merging a b ≡ ourMerging a b
+only-merging merging m a b =
+    by-number (ruledMerge a b) (λ good. m .accepts a b good ∙ sym (merges .accepts a b good)) (λ bad. m .refuses a b bad ∙ sym (merges .refuses a b bad))
