@@ -1,6 +1,7 @@
 // The relay for programs in C and Rust: what they need of it under C names, each answer with its promise as the core gives them, but for the reader's
-// answer, which is a struct here, and the choice of a key. The header include/relay.h declares these functions and says what a caller must know. Structs go in and come back by value. An exported function can't return a
-// reference, so the header makes the parts of a line from `relay_parts`, and hands back the greater of two keys by `relay_key_less`.
+// answer, which is a struct here, and the choice of a key. The header include/relay.h declares these functions and says what a caller must know.
+// Structs go in and come back by value. An exported function can't return a reference, so the header makes the parts of a line from `relay_parts`, and
+// hands back the greater of two keys by `relay_key_less`.
 mod layout;
 
 ghost use mathlib.Core.Path.{_≡_};
