@@ -28,7 +28,7 @@ use Rattle.channel.specs.Plain.{earliest, entries, everyone}
 use Rattle.channel.proofs.Examples.{2cd, 1ab, stored, incoming}
 use Rattle.channel.proofs.Blank.{empty-free}
 use Rattle.channel.proofs.Plains.{plain-time}
-use Rattle.links.specs.Links.{isLink, setBelow, lessLink, relaySet, linksFrom, linksIn}
+use Rattle.links.specs.Links.{hasLink, setBelow, lessLink, relaySet, linksFrom, linksIn}
 use Rattle.table.specs.declared.Table.{Table}
 use Rattle.table.specs.Table.{isFree}
 use Rattle.table.proofs.Alone.{free-slot}
@@ -48,11 +48,11 @@ use Rattle.convergence.proofs.Lines.{earlier, later, earlier-command, l
 abbrev links : ℕ
 links = 41
 
-on-0 : isLink 0 && hasBit links 0 ≡ true
+on-0 : hasLink links 0 ≡ true
 unfolding hasBit
 on-0 = refl
 
-on-3 : isLink 3 && hasBit links 3 ≡ true
+on-3 : hasLink links 3 ≡ true
 unfolding hasBit
 on-3 = refl
 
@@ -227,7 +227,7 @@ pub first-fails : (merging : Merging) → Demand3 firstOnly merging → ⊥
 first-fails = fails-3 firstOnly (laterFrom 3 ∷ earlierFrom 0 ∷ []) first-joins
 
 -- ---- a count of links that is made up: from link 3 of 0, 3 and 5 it would have to be 2, and from a link alone 0
-alone : isLink 0 && hasBit 1 0 ≡ true
+alone : hasLink 1 0 ≡ true
 unfolding hasBit
 alone = refl
 
@@ -240,7 +240,7 @@ unfolding relaySet lessLink setBelow linksFrom hasBit
 no-other = refl
 
 module _ (n : ℕ) (d : Demand2 (countedAs n)) where
-  counts : (set link : ℕ) → isLink link && hasBit set link ≡ true → n ≡ length (linksIn (relaySet (start set .links) link))
+  counts : (set link : ℕ) → hasLink set link ≡ true → n ≡ length (linksIn (relaySet (start set .links) link))
   counts set link on =
       let good = later-number set link on in
       sym (ap (λ (k : ℕ). cond (eqb k accepted) n 0) good)

@@ -2,7 +2,7 @@
 -- Assumes nothing.
 use Prim.Native.Nat.{ℕ, suc, _≤_}
 use mathlib.Core.Path.{_≡_, refl, sym, ap, _∙_}
-use mathlib.Core.Bool.{true, false, not, _&&_}
+use mathlib.Core.Bool.{true, false, not}
 use mathlib.Core.Logic.{inl, inr}
 use mathlib.Core.List.{List, [], _∷_, _++_, map, List·Memᴰ, List·Memᴰ·head, List·Memᴰ·tail, List·Memᴰ·not-nil, Memᴰ·map}
 use native.Mathlib.Omega.{arith}
@@ -11,7 +11,6 @@ use lib.Dec.{ltb}
 use Rattle.refusal.specs.Numbers.{accepted, emptyPrefix, zeroTime, badLink}
 use Rattle.refusal.specs.Rules.{firstOf}
 use Rattle.refusal.proofs.Rules.{skip, stop}
-use Rattle.laws.specs.Bits.{hasBit}
 use Rattle.octets.specs.Bytes.{capital, within, isPlain, isLetter, isDigit, isIdByte, isNameByte, isKeyByte}
 use Rattle.laws.specs.Lists.{all, sameBy, startsWith}
 use Rattle.octets.specs.Order.{compare}
@@ -30,7 +29,7 @@ use Rattle.channel.specs.Channel.{Channel, member}
 use Rattle.channel.specs.Record.{emptyRecord}
 use Rattle.channel.specs.Plain.{everyone}
 use Rattle.channel.proofs.Examples.{2cd, 1ab, stored, incoming}
-use Rattle.links.specs.Links.{isLink, links}
+use Rattle.links.specs.Links.{hasLink, links}
 use Rattle.table.specs.declared.Table.{Table}
 use Rattle.sjoin.specs.Modes.{once, goodLetters, modesByte, parametered, isLimit, goodArgument, goodArguments, argumentOf, goodModes}
 use Rattle.sjoin.specs.Entries.{past, idOf, statusOf, isEntry, memberOf, goodEntries}
@@ -160,13 +159,13 @@ roomy = rw length-room
 
 -- the number of a join at the start: that of its line on a registered link
 module _ (set link : ℕ) where
-  on-link : (l : List ℕ) (is : IsJoin l) → isLink link && hasBit set link ≡ true → numberAt (start set) (from l is link) ≡ judge l
+  on-link : (l : List ℕ) (is : IsJoin l) → hasLink set link ≡ true → numberAt (start set) (from l is link) ≡ judge l
   on-link l is h = start-number (start set) refl (from l is link) ∙ skip _ _ roomy ∙ skip _ _ (ap not h)
 
-  pub off-link : (l : List ℕ) (is : IsJoin l) → isLink link && hasBit set link ≡ false → numberAt (start set) (from l is link) ≡ badLink
+  pub off-link : (l : List ℕ) (is : IsJoin l) → hasLink set link ≡ false → numberAt (start set) (from l is link) ≡ badLink
   off-link l is h = start-number (start set) refl (from l is link) ∙ skip _ _ roomy ∙ stop _ _ (ap not h)
 
-  module _ (h : isLink link && hasBit set link ≡ true) where
+  module _ (h : hasLink set link ≡ true) where
     pub earlier-number : numberAt (start set) (earlierFrom link) ≡ accepted
     earlier-number = on-link earlier earlier-is h ∙ ap (λ (l : List ℕ). getD l 0 0) judged
 

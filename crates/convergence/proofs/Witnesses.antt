@@ -2,7 +2,7 @@
 -- a repeat, from another start. Assumes nothing.
 use Prim.Native.Nat.{ℕ}
 use mathlib.Core.Path.{_≡_, refl, sym, ap, _∙_}
-use mathlib.Core.Bool.{true, false, _&&_}
+use mathlib.Core.Bool.{true, false}
 use mathlib.Core.List.{List, [], _∷_, _++_, map, List·Memᴰ·head, List·Memᴰ·tail, List·Memᴰ·not-nil}
 use native.Mathlib.Omega.{arith}
 use lib.ListN.{set}
@@ -19,7 +19,7 @@ use Rattle.channel.specs.Modes.{withMode}
 use Rattle.channel.specs.Merging.{merge, mergeAnswer}
 use Rattle.channel.specs.Plain.{earliest, counts, entries, everyone, statusIn, statusAt, plain}
 use Rattle.channel.proofs.Examples.{2cd, 1ab, stored, incoming}
-use Rattle.links.specs.Links.{isLink}
+use Rattle.links.specs.Links.{hasLink}
 use Rattle.relay.specs.Relay.{withSlots, refused}
 use Rattle.convergence.specs.Demands.{ruled, ruledMerge, Accepts, Join, numberAt, goodLines, numbersOf, tableAfter, Kept, plainRecord, holding, firstSlot, Among, Alike}
 use Rattle.convergence.specs.Ours.{ours}
@@ -31,11 +31,11 @@ use Rattle.convergence.proofs.Failures.{empty-number, empty-refused}
 use Rattle.convergence.proofs.Lines.{earlier, later, equal, unread, third, room, start, earlierFrom, laterFrom, equalFrom, unreadFrom, untimedFrom, later-is, earlier-tells, later-tells, equal-tells, off-link, earlier-number, later-number, equal-number, unread-number, untimed-number, stored-race, incoming-race, third-race, kept-by, not-none}
 
 -- ---- two starts: links 0, 3 and 5, and links 0, 1 and 2
-on-first : (isLink 0 && hasBit 41 0 ≡ true) × (isLink 3 && hasBit 41 3 ≡ true) × (isLink 5 && hasBit 41 5 ≡ true) × (isLink 7 && hasBit 41 7 ≡ false)
+on-first : (hasLink 41 0 ≡ true) × (hasLink 41 3 ≡ true) × (hasLink 41 5 ≡ true) × (hasLink 41 7 ≡ false)
 unfolding hasBit
 on-first = (refl, refl, refl, refl)
 
-on-second : (isLink 0 && hasBit 7 0 ≡ true) × (isLink 1 && hasBit 7 1 ≡ true) × (isLink 2 && hasBit 7 2 ≡ true)
+on-second : (hasLink 7 0 ≡ true) × (hasLink 7 1 ≡ true) × (hasLink 7 2 ≡ true)
 unfolding hasBit
 on-second = (refl, refl, refl)
 
