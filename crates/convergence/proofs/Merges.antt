@@ -1,11 +1,10 @@
 -- Our merging is as `Merges` asks: by its definition it answers a refusal where a rule applies and the merged record where none does, and each rule's number is
 -- from the list. Assumes nothing.
-use mathlib.Core.Path.{_≡_, ap}
+use mathlib.Core.Path.{_≡_}
 use borrow.Author.Tests.{ne-eqb}
 use Rattle.refusal.specs.Numbers.{accepted}
 use Rattle.refusal.proofs.Rules.{first-listed}
 use Rattle.channel.specs.declared.Record.{Record}
-use Rattle.channel.specs.declared.Merged.{Merged}
 use Rattle.channel.specs.Record.{encode, decode}
 use Rattle.channel.specs.Merging.{merge, mergeRules, mergeAnswer}
 use Rattle.channel.proofs.Rules.{rules-ascend}
