@@ -4,6 +4,7 @@ pub mod Relation
 pub mod Places
 pub mod Gathered
 pub mod Readings
+pub mod Held
 pub mod Examples
 pub mod Splits
 pub mod Sizes

@@ -2,7 +2,7 @@
 -- parts lie. Assumes nothing.
 use mathlib.Core.Path.{_≡_, refl, sym, ap, _∙_}
 use mathlib.Core.Bool.{Bool, true, false, true≢false, _&&_, and-false, and-true}
-use mathlib.Core.List.{List, [], _∷_, map}
+use mathlib.Core.List.{List, [], _∷_}
 use mathlib.Core.Option.{Option·getD}
 use Prim.Native.Nat.{ℕ, _+_, _-_, _≤_, _<_}
 use native.Mathlib.Omega.{arith}
@@ -10,22 +10,22 @@ use lib.ListN.{length, drop, getD, length-take, length-map, getD-replicate, drop
 use lib.Dec.{eqb, ltb}
 use borrow.Author.Tests.{eq-eqb, ne-eqb, lt-ltb, le-ltb, ltb-true, ltb-false, eqb-true, eqb-false, not-false}
 use Rattle.refusal.specs.Numbers.{accepted, lineTooLong, noLineEnd, forbiddenByte, emptyLine, emptyPrefix, badCommand, tooManyParams}
-use Rattle.refusal.specs.Rules.{firstOf, ascend, ascendFrom, placeIn}
-use Rattle.refusal.proofs.Rules.{first-none, numbered}
+use Rattle.refusal.specs.Rules.{_when_, firstOf, ascend, ascendFrom, placeIn}
+use Rattle.refusal.proofs.Rules.{skip, stop, first-nil, first-none, numbered}
 use Rattle.octets.specs.Bytes.{cr, lf, isPlain}
 use Rattle.laws.specs.Lists.{all, isNil, sameBy}
 use Rattle.octets.specs.Room.{part}
 use Rattle.octets.proofs.Room.{part-front}
-use Rattle.laws.proofs.Lists.{nil-length, drop-step, length-padded}
+use Rattle.laws.proofs.Lists.{nil-length, drop-step}
 use Rattle.message.specs.declared.Span.{Span}
 use Rattle.message.specs.declared.Message.{Message}
-use Rattle.message.specs.declared.Reading.{Reading}
+use Rattle.message.specs.declared.Parsed.{Parsed}
 use Rattle.message.specs.declared.Reading.the-variants.{Line, Refused}
 use Rattle.message.specs.Grammar.{Part, lineLimit, paramLimit, hasPrefix, prefix, prefixEnd, command, isCommand, params}
 use Rattle.message.specs.Content.{bytesOf, contentIn}
-use Rattle.message.specs.Parts.{emptyAt, spanOf, messageIn, blank}
-use Rattle.message.specs.Reading.{endsLine, bodyOf, bodyRules, grammarRules, lineRules, numberFor, isRead, numberOf, countOf, answer, readingOf, contentOf, messageOf}
-use Rattle.message.specs.Scan.{bodyReading}
+use Rattle.message.specs.Parts.{emptyAt, messageIn, blank}
+use Rattle.message.specs.Reading.{endsLine, bodyOf, bodyRules, grammarRules, lineRules, numberFor, isRead, numberOf, countOf, answer, readingOf, contentOf, messageOf, parsedOf}
+use Rattle.message.specs.Scan.{unread, bodyParsed}
 use Rattle.message.proofs.Places.{Placed, empty-placed, command-placed, prefix-in-line, command-in-line, param-in-line}
 
 -- The rules stand in the order of their numbers: the first in it that applies is given.
@@ -170,37 +170,47 @@ module _ (line : List ℕ) where
       go false h = rw h
 
   -- the answer settles its number and its count
-  pub answers : (r : Reading) → r ≡ readingOf line → (r ≡ readingOf line) × ((numberOf r ≡ numberFor line) × (countOf r ≡ length (contentOf line .params)))
-  answers r e = (e, (ap numberOf e ∙ reading-number, ap countOf e ∙ reading-count))
+  pub answers : (r : Parsed) → r ≡ parsedOf line → (r ≡ parsedOf line) × ((numberOf (r .reading) ≡ numberFor line) × (countOf (r .reading) ≡ length (contentOf line .params)))
+  answers r e = let q : r .reading ≡ readingOf line = ap (λ (x : Parsed). x .reading) e in (e, (ap numberOf q ∙ reading-number, ap countOf q ∙ reading-count))
 
--- ---- what each test makes of the reading
+-- ---- what the line comes to at its number
+module _ (line : List ℕ) (r : Parsed) where
+  pub parses-refused : (k : ℕ) → numberFor line ≡ k → (k ≡ accepted → ⊥) → r ≡ unread k (length line) → r ≡ parsedOf line
+  unfolding readingOf answer messageOf isRead
+  parses-refused k e ne q = simp (e, ne-eqb k accepted ne, q)
+
+  pub parses-body : (b : List ℕ) → b ≡ bodyOf line → numberFor line ≡ firstOf (bodyRules (bodyOf line)) → r ≡ bodyParsed b (length line) → r ≡ parsedOf line
+  unfolding readingOf messageOf isRead bodyParsed
+  parses-body b is e q = rw e (rw is at q)
+
+-- ---- what each test makes of the number
 module _ (line : List ℕ) where
-  pub reads-long : lineLimit < length line → Refused lineTooLong ≡ readingOf line
-  unfolding readingOf answer numberFor lineRules firstOf
-  reads-long h = rw (lt-ltb lineLimit (length line) h)
+  pub number-long : lineLimit < length line → numberFor line ≡ lineTooLong
+  unfolding numberFor lineRules
+  number-long h = stop _ _ (lt-ltb lineLimit (length line) h)
 
   module _ (small : length line ≤ lineLimit) where
-    pub reads-unended : endsLine line ≡ false → Refused noLineEnd ≡ readingOf line
-    unfolding readingOf answer numberFor lineRules firstOf
-    reads-unended e = simp (le-ltb lineLimit (length line) small, e)
+    number-grammar : numberFor line ≡ firstOf (grammarRules line)
+    unfolding numberFor lineRules
+    number-grammar = skip _ _ (le-ltb lineLimit (length line) small)
+
+    pub number-unended : endsLine line ≡ false → numberFor line ≡ noLineEnd
+    number-unended e = number-grammar ∙ stop _ _ (rw e)
 
     module _ (ends : endsLine line ≡ true) (body : List ℕ) (is : body ≡ bodyOf line) where
-      pub reads-control : all isPlain body ≡ false → Refused forbiddenByte ≡ readingOf line
-      unfolding readingOf answer numberFor lineRules firstOf
-      reads-control e = simp (le-ltb lineLimit (length line) small, ends, rw is at e)
+      pub number-control : all isPlain body ≡ false → numberFor line ≡ forbiddenByte
+      number-control e = number-grammar ∙ skip _ _ (rw ends) ∙ stop _ _ (rw (rw is at e))
 
       module _ (plain : all isPlain body ≡ true) where
-        pub reads-empty : length line ≡ 2 → Refused emptyLine ≡ readingOf line
-        unfolding readingOf answer numberFor lineRules firstOf
-        reads-empty h =
-            let none : isNil (bodyOf line) ≡ true = nil-length (bodyOf line) ∙ eq-eqb (length (bodyOf line)) 0 (omega (arith, body-length line)) in
-            simp (le-ltb lineLimit (length line) small, ends, rw is at plain, none)
+        number-plain : numberFor line ≡ firstOf (emptyLine when isNil (bodyOf line) ∷ bodyRules (bodyOf line))
+        number-plain = number-grammar ∙ skip _ _ (rw ends) ∙ skip _ _ (rw (rw is at plain))
 
-        pub reads-body : (length line ≡ 2 → ⊥) → (r : Reading) → r ≡ bodyReading body → r ≡ readingOf line
-        unfolding readingOf answer numberFor lineRules firstOf bodyReading
-        reads-body h r q =
-            let some : isNil (bodyOf line) ≡ false = nil-length (bodyOf line) ∙ ne-eqb (length (bodyOf line)) 0 (λ z. h (omega (arith, body-length line, ends-long line ends))) in
-            simp (le-ltb lineLimit (length line) small, ends, rw is at plain, some) (rw is at q)
+        pub number-empty : length line ≡ 2 → numberFor line ≡ emptyLine
+        number-empty h = number-plain ∙ stop _ _ (nil-length (bodyOf line) ∙ eq-eqb (length (bodyOf line)) 0 (omega (arith, body-length line)))
+
+        pub number-body : (length line ≡ 2 → ⊥) → numberFor line ≡ firstOf (bodyRules (bodyOf line))
+        number-body h =
+            number-plain ∙ skip _ _ (nil-length (bodyOf line) ∙ ne-eqb (length (bodyOf line)) 0 (λ z. h (omega (arith, body-length line, ends-long line ends))))
 
 one-eqb : (n : ℕ) → eqb 1 (1 + n) ≡ eqb n 0
 one-eqb n = go (eqb n 0) refl
@@ -229,23 +239,32 @@ module _ (b : List ℕ) (n : ℕ) (m : Message) (is : m ≡ messageIn b n) where
   pub command-in : Placed b (m .command) (command b)
   command-in = rw is (command-placed b n)
 
-  pub reads-empty-prefix : m .«has_prefix» && eqb (m .prefix .start) (m .prefix .end) ≡ true → Refused emptyPrefix ≡ bodyReading b
-  unfolding bodyReading answer bodyRules firstOf
-  reads-empty-prefix e = simp (sym tested ∙ e)
+  pub body-empty-prefix : m .«has_prefix» && eqb (m .prefix .start) (m .prefix .end) ≡ true → firstOf (bodyRules b) ≡ emptyPrefix
+  unfolding bodyRules
+  body-empty-prefix e = stop _ _ (sym tested ∙ e)
 
   module _ (full : m .«has_prefix» && eqb (m .prefix .start) (m .prefix .end) ≡ false) where
-    pub reads-no-command : isCommand (command b) ≡ false → Refused badCommand ≡ bodyReading b
-    unfolding bodyReading answer bodyRules firstOf
-    reads-no-command e = simp (sym tested ∙ full, e)
+    pub body-no-command : isCommand (command b) ≡ false → firstOf (bodyRules b) ≡ badCommand
+    unfolding bodyRules
+    body-no-command e = skip _ _ (sym tested ∙ full) ∙ stop _ _ (rw e)
 
     module _ (named : isCommand (command b) ≡ true) where
-      pub reads-many : paramLimit < m .count → Refused tooManyParams ≡ bodyReading b
-      unfolding bodyReading answer bodyRules firstOf
-      reads-many h = simp (sym tested ∙ full, named, lt-ltb paramLimit (length (params b)) (rw counted at h))
+      pub body-many : paramLimit < m .count → firstOf (bodyRules b) ≡ tooManyParams
+      unfolding bodyRules
+      body-many h = skip _ _ (sym tested ∙ full) ∙ skip _ _ (rw named) ∙ stop _ _ (lt-ltb paramLimit (length (params b)) (rw counted at h))
 
-      pub reads-well : m .count ≤ paramLimit → Line (m .count) ≡ bodyReading b
-      unfolding bodyReading answer bodyRules firstOf
-      reads-well h = simp (sym tested ∙ full, named, le-ltb paramLimit (length (params b)) (rw counted at h), counted)
+      body-accepted : m .count ≤ paramLimit → firstOf (bodyRules b) ≡ accepted
+      unfolding bodyRules
+      body-accepted h = skip _ _ (sym tested ∙ full) ∙ skip _ _ (rw named) ∙ skip _ _ (le-ltb paramLimit (length (params b)) (rw counted at h)) ∙ first-nil
+
+      pub body-reads : m .count ≤ paramLimit → record { reading = Line (m .count); message = m } ≡ bodyParsed b n
+      unfolding bodyParsed answer
+      body-reads h = rw (body-accepted h, ← counted, ← is)
+
+-- what a body comes to that gets a number
+pub body-refused : (b : List ℕ) (n : ℕ) (r : Parsed) (k : ℕ) → firstOf (bodyRules b) ≡ k → (k ≡ accepted → ⊥) → r ≡ unread k n → r ≡ bodyParsed b n
+unfolding bodyParsed answer
+body-refused b n r k e ne q = rw (e, ne-eqb k accepted ne) q
 
 -- ---- where the parts of any line lie
 pub prefix-nil : (b : List ℕ) → hasPrefix b ≡ false → prefix b ≡ []
@@ -286,25 +305,13 @@ module _ (line : List ℕ) (m : Message) (is : m ≡ messageOf line) where
       go false h = rw (h, getD-replicate paramLimit k (emptyAt (length line)) d lt) (empty-placed line)
 
 -- ---- past the last parameter
-pub spans-length : (line : List ℕ) → length (messageOf line .params) ≡ paramLimit
-unfolding messageOf messageIn blank
-spans-length line = go (isRead line) refl
+pub param-past : (line : List ℕ) (k : ℕ) → paramLimit ≤ k → getD (contentOf line .params) k [] ≡ []
+unfolding contentOf contentIn
+param-past line k past = go (isRead line) refl
   where
-    go : (t : Bool) → isRead line ≡ t → length (messageOf line .params) ≡ paramLimit
-    go true h = rw h (length-padded (emptyAt (length line)) paramLimit (map spanOf (params (bodyOf line))))
+    go : (t : Bool) → isRead line ≡ t → getD (contentOf line .params) k [] ≡ []
+    go true h = rw h (List·getD-eq-default (bytesOf (params (bodyOf line))) [] {n = k} (omega (arith, read-formed line h .few, length-map (params (bodyOf line)) (λ (p : Part). p .bytes))))
     go false h = rw h
-
-module _ (line : List ℕ) (k : ℕ) (past : paramLimit ≤ k) where
-  pub param-past : getD (contentOf line .params) k [] ≡ []
-  unfolding contentOf contentIn
-  param-past = go (isRead line) refl
-    where
-      go : (t : Bool) → isRead line ≡ t → getD (contentOf line .params) k [] ≡ []
-      go true h = rw h (List·getD-eq-default (bytesOf (params (bodyOf line))) [] {n = k} (omega (arith, read-formed line h .few, length-map (params (bodyOf line)) (λ (p : Part). p .bytes))))
-      go false h = rw h
-
-  pub span-past : getD (messageOf line .params) k (emptyAt (length line)) ≡ emptyAt (length line)
-  span-past = List·getD-eq-default (messageOf line .params) (emptyAt (length line)) {n = k} (omega (arith, spans-length line))
 
 -- a message never counts more parameters than it has spans
 pub count-few : (line : List ℕ) → messageOf line .count ≤ paramLimit

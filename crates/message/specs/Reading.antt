@@ -9,6 +9,7 @@ use Rattle.refusal.specs.Rules.{Rule, _when_, firstOf}
 use Rattle.octets.specs.Bytes.{cr, lf, isPlain}
 use Rattle.laws.specs.Lists.{all, isNil, same}
 use Rattle.message.specs.declared.Message.{Message}
+use Rattle.message.specs.declared.Parsed.{Parsed}
 use Rattle.message.specs.declared.Reading.{Reading}
 use Rattle.message.specs.declared.Reading.the-variants.{Line, Refused}
 use Rattle.message.specs.Grammar.{lineLimit, paramLimit, hasPrefix, prefix, command, isCommand, params}
@@ -75,3 +76,7 @@ contentOf line = cond (isRead line) (contentIn (bodyOf line)) noContent
 
 unfoldable pub messageOf : List ℕ → Message
 messageOf line = cond (isRead line) (messageIn (bodyOf line) (length line)) (blank (length line))
+
+-- the answer, and the parts
+abbrev pub parsedOf : List ℕ → Parsed
+parsedOf line = record { reading = readingOf line; message = messageOf line }

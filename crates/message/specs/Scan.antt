@@ -1,15 +1,18 @@
 -- What private functions promise. No public contract cites this file: nobody needs to believe it.
 use Prim.Native.Nat.{ℕ, _+_}
-use mathlib.Core.Bool.{Bool}
+use mathlib.Core.Bool.{Bool, cond}
 use mathlib.Core.List.{List, [], _∷_}
 use lib.ListN.{length, drop, set, replicate}
+use lib.Dec.{eqb}
+use Rattle.refusal.specs.Numbers.{accepted}
 use Rattle.refusal.specs.Rules.{firstOf}
 use Rattle.message.specs.declared.Span.{Span}
 use Rattle.message.specs.declared.Message.{Message}
-use Rattle.message.specs.declared.Reading.{Reading}
+use Rattle.message.specs.declared.Parsed.{Parsed}
+use Rattle.message.specs.declared.Reading.the-variants.{Refused}
 use Rattle.message.specs.Grammar.{Part, paramLimit, word, rest, params}
 use Rattle.message.specs.Reading.{bodyRules, answer}
-use Rattle.message.specs.Parts.{span, spanOf, emptyAt}
+use Rattle.message.specs.Parts.{span, spanOf, emptyAt, messageIn, blank}
 
 -- a message with no parameter yet, in a line of n bytes
 unfoldable pub opened : Bool → Span → Span → ℕ → Message
@@ -41,6 +44,12 @@ fromCommand body at has before n =
     let stop : ℕ = at + length (word (drop at body)) in
     withParams (opened has before (span at stop) n) (rest 0 stop (drop stop body))
 
--- what a body reads as
-unfoldable pub bodyReading : List ℕ → Reading
-bodyReading body = answer (firstOf (bodyRules body)) (length (params body))
+-- what a line of n bytes that gets the number k comes to
+abbrev pub unread : ℕ → ℕ → Parsed
+unread k n = record { reading = Refused k; message = blank n }
+
+-- what a line of n bytes comes to whose body isn't empty, at the number that the body gets
+unfoldable pub bodyParsed : List ℕ → ℕ → Parsed
+bodyParsed body n =
+    let k : ℕ = firstOf (bodyRules body) in
+    record { reading = answer k (length (params body)); message = cond (eqb k accepted) (messageIn body n) (blank n) }

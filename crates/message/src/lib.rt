@@ -1,6 +1,7 @@
 // Reads one line of the server protocol (RFC 1459, section 2.3.1; document 01, 'Reading one line'): prefix, command and parameters,
 // each as a part of the caller's line. Any bytes are taken; a line that isn't read is refused by a number of crate `refusal`.
 mod scan;
+pub mod spans;
 
 ghost use mathlib.Core.Path.{_≡_};
 ghost use mathlib.Core.Bool.{_&&_};
@@ -13,9 +14,9 @@ ghost use denote.Ref.{ptr};
 ghost use Rattle.octets.specs.Room.{placeIn};
 ghost use Rattle.message.specs.Grammar.{lineLimit, isCommand};
 ghost use Rattle.message.specs.Parts.{emptyAt};
-ghost use Rattle.message.specs.Reading.{endsLine, numberOf, countOf, numberFor, readingOf, contentOf, messageOf};
+ghost use Rattle.message.specs.Reading.{endsLine, numberOf, countOf, numberFor, readingOf, contentOf, messageOf, parsedOf};
 ghost use Rattle.message.specs.Words.{nextWord};
-ghost use Rattle.message.specs.Scan.{bodyReading};
+ghost use Rattle.message.specs.Scan.{unread as unreadOf, bodyParsed};
 use octets::Class;
 use octets::all_in;
 use octets::part;
@@ -31,6 +32,9 @@ use scan::blank;
 use scan::message_in;
 use scan::spaces_end;
 use scan::word_end;
+use spans::command_in;
+use spans::param_in;
+use spans::prefix_in;
 
 // The most bytes of a line, CR LF counted.
 pub const LINE_LIMIT: usize = 512;
@@ -72,6 +76,12 @@ impl Reading {
             Reading::Refused(k) => k,
         }
     }
+}
+
+// What a line comes to that is read once: the reader's answer, and the parts.
+pub struct Parsed {
+    pub reading: Reading,
+    pub message: Message,
 }
 
 // Whether the last two bytes are CR LF.
@@ -116,24 +126,61 @@ fn empty_prefix(m: Message) -> bool
     false
 }
 
-// What the bytes before CR LF read as.
-fn read_body(body: &[u8]) -> Reading
-    requires { ⌜ length (now body) ≤ lineLimit ⌝ }
-    ensures { λ r. ⌜ r ≡ bodyReading (now (body .entry)) ⌝ }
+// What a line of n bytes comes to that is refused: no part at all.
+fn unread(k: u8, n: usize) -> Parsed
+    ensures { λ r. ⌜ r ≡ unreadOf k n ⌝ }
 {
-    let m = message_in(body, body.len());
-    if empty_prefix(m) {
-        return Reading::Refused(EMPTY_PREFIX);
+    Parsed {
+        reading: Reading::Refused(k),
+        message: blank(n),
     }
-    let c = m.command;
+}
+
+// What a line of n bytes comes to by the bytes before CR LF.
+fn parse_body(body: &[u8], n: usize) -> Parsed
+    requires { ⌜ length (now body) ≤ lineLimit ⌝ }
+    ensures { λ r. ⌜ r ≡ bodyParsed (now (body .entry)) n ⌝ }
+{
+    let message = message_in(body, n);
+    if empty_prefix(message) {
+        return unread(EMPTY_PREFIX, n);
+    }
+    let c = message.command;
     if !is_command(part(body, c.start, c.end)) {
-        return Reading::Refused(BAD_COMMAND);
+        return unread(BAD_COMMAND, n);
     }
-    let n = m.count;
-    if PARAM_LIMIT < n {
-        return Reading::Refused(TOO_MANY_PARAMS);
+    let count = message.count;
+    if PARAM_LIMIT < count {
+        return unread(TOO_MANY_PARAMS, n);
     }
-    Reading::Line(n)
+    Parsed {
+        reading: Reading::Line(count),
+        message,
+    }
+}
+
+// What the line reads as, and its parts, from one scan. A part that is missing, and every part of a line that isn't read, is the empty one at
+// the line's end.
+pub fn parse(line: &[u8]) -> Parsed
+    ensures parsed { λ r. ⌜ r ≡ parsedOf (now (line .entry)) ⌝ }
+    ensures number { λ r. ⌜ numberOf (r .reading) ≡ numberFor (now (line .entry)) ⌝ }
+    ensures count { λ r. ⌜ countOf (r .reading) ≡ length (contentOf (now (line .entry)) .params) ⌝ }
+{
+    let n = line.len();
+    if LINE_LIMIT < n {
+        return unread(LINE_TOO_LONG, n);
+    }
+    if !ends_line(line) {
+        return unread(NO_LINE_END, n);
+    }
+    let body = part(line, 0, n - 2);
+    if !all_in(body, Class::Plain) {
+        return unread(FORBIDDEN_BYTE, n);
+    }
+    if n == 2 {
+        return unread(EMPTY_LINE, n);
+    }
+    parse_body(body, n)
 }
 
 // What the line reads as.
@@ -142,32 +189,16 @@ pub fn read(line: &[u8]) -> Reading
     ensures number { λ r. ⌜ numberOf r ≡ numberFor (now (line .entry)) ⌝ }
     ensures count { λ r. ⌜ countOf r ≡ length (contentOf (now (line .entry)) .params) ⌝ }
 {
-    let n = line.len();
-    if LINE_LIMIT < n {
-        return Reading::Refused(LINE_TOO_LONG);
-    }
-    if !ends_line(line) {
-        return Reading::Refused(NO_LINE_END);
-    }
-    let body = part(line, 0, n - 2);
-    if !all_in(body, Class::Plain) {
-        return Reading::Refused(FORBIDDEN_BYTE);
-    }
-    if n == 2 {
-        return Reading::Refused(EMPTY_LINE);
-    }
-    read_body(body)
+    let parsed = parse(line);
+    parsed.reading
 }
 
 // The parts of the line. A part that is missing, and every part of a line that isn't read, is the empty one at the line's end.
 pub fn parts(line: &[u8]) -> Message
     ensures { λ r. ⌜ r ≡ messageOf (now (line .entry)) ⌝ }
 {
-    let n = line.len();
-    let Reading::Line(_) = read(line) else {
-        return blank(n);
-    };
-    message_in(part(line, 0, n - 2), n)
+    let parsed = parse(line);
+    parsed.message
 }
 
 // The prefix, or the empty part at the line's end.
@@ -175,9 +206,7 @@ pub fn prefix(line: &[u8]) -> &[u8]
     ensures bytes { λ r. ⌜ now r ≡ Option·getD (contentOf (now (line .entry)) .prefix) [] ⌝ }
     ensures place { λ r. ⌜ ptr r ≡ placeIn (line .entry) (messageOf (now (line .entry)) .prefix .start) ⌝ }
 {
-    let m = parts(line);
-    let s = m.prefix;
-    part(line, s.start, s.end)
+    prefix_in(line, parts(line))
 }
 
 // The command, or of a line that isn't read the empty part at the line's end.
@@ -185,9 +214,7 @@ pub fn command(line: &[u8]) -> &[u8]
     ensures bytes { λ r. ⌜ now r ≡ contentOf (now (line .entry)) .command ⌝ }
     ensures place { λ r. ⌜ ptr r ≡ placeIn (line .entry) (messageOf (now (line .entry)) .command .start) ⌝ }
 {
-    let m = parts(line);
-    let s = m.command;
-    part(line, s.start, s.end)
+    command_in(line, parts(line))
 }
 
 // The parameter k, counted from 0, or the empty part at the line's end.
@@ -195,13 +222,7 @@ pub fn param(line: &[u8], k: usize) -> &[u8]
     ensures bytes { λ r. ⌜ now r ≡ getD (contentOf (now (line .entry)) .params) k [] ⌝ }
     ensures place { λ r. ⌜ ptr r ≡ placeIn (line .entry) (getD (messageOf (now (line .entry)) .params) k (emptyAt (length (now (line .entry)))) .start) ⌝ }
 {
-    let n = line.len();
-    if PARAM_LIMIT <= k {
-        return part(line, n, n);
-    }
-    let m = parts(line);
-    let s = m.params[k];
-    part(line, s.start, s.end)
+    param_in(line, parts(line), k)
 }
 
 // The first word at a place or after it: words are parted by one or more SPACEs, and SPACEs at either end are passed over. Where there is none, the

@@ -1,33 +1,29 @@
 -- Laws of the writer's answers: what each rule makes of them, and what the scratch line holds when it is copied out. Assumes nothing.
 use mathlib.Core.Path.{_≡_, refl, sym, ap, _∙_}
-use mathlib.Core.Bool.{true, false}
-use mathlib.Core.List.{List, [], _++_, map, map-append}
+use mathlib.Core.Bool.{Bool, true, false}
+use mathlib.Core.List.{List, [], _∷_}
 use Prim.Native.Nat.{ℕ, _≤_, _<_}
-use native.Mathlib.Nat.{zero-add}
 use native.Mathlib.Omega.{arith}
-use lib.ListN.{length, take, drop, length-map, length-take}
-use lib.Seq.{take-at}
-use lib.Dec.{leb}
+use lib.ListN.{length, take}
+use lib.Dec.{leb, ltb}
 use borrow.Author.Tests.{lt-ltb, le-ltb, leb-true}
 use Rattle.refusal.specs.Numbers.{accepted, outputTooShort, unwritable, noRoom}
-use Rattle.refusal.specs.Rules.{Rule, firstOf, emitted}
-use Rattle.refusal.proofs.Rules.{emitted-none, emitted-all}
-use Rattle.octets.specs.Bytes.{capital}
-use Rattle.octets.specs.Room.{putAt, endOf, front}
+use Rattle.refusal.specs.Rules.{Rule, _when_, firstOf, emitted}
+use Rattle.refusal.proofs.Rules.{skip, stop, first-nil, emitted-none, emitted-all}
+use Rattle.octets.specs.Room.{putAt, front}
 use Rattle.octets.specs.Held.{Holds, Adds}
 use Rattle.laws.proofs.Bools.{and-left}
-use Rattle.octets.proofs.Room.{put-front, end-fits, holds-nothing}
+use Rattle.octets.proofs.Room.{put-front, holds-nothing}
 use Rattle.message.specs.declared.Message.{Message}
 use Rattle.message.specs.Grammar.{lineLimit, paramLimit}
-use Rattle.message.specs.Reading.{isRead, contentOf, messageOf}
-use Rattle.message.proofs.Places.{placed-length}
-use Rattle.message.proofs.Readings.{read-small, command-at}
+use Rattle.message.specs.Content.{Content}
+use Rattle.message.specs.Parts.{contentBy}
 use Rattle.writer.specs.declared.Written.{Written}
-use Rattle.writer.specs.Form.{written, contentBy, withCommand}
-use Rattle.writer.specs.Writing.{writeRules, forwardRules, forwarded, answerFor}
-use Rattle.writer.specs.Fit.{fit, refusedBy}
+use Rattle.writer.specs.Form.{written, withCommand}
+use Rattle.writer.specs.Writing.{writeRules, forwardRules, answerFor}
+use Rattle.writer.specs.Fit.{fit, cased, refusedBy}
 use Rattle.writer.proofs.Fitting.{fit-exactly}
-use Rattle.writer.proofs.Rounds.{message-holds, forwarded-reads}
+use Rattle.writer.proofs.Rounds.{capitals-length}
 
 -- ---- any rules
 module _ (rules : List Rule) (w out : List ℕ) where
@@ -40,25 +36,39 @@ module _ (rules : List Rule) (w out : List ℕ) where
   unfolding answerFor
   answers-written e len n next f = rw (emitted-all rules w e, e, n) (refl, f)
 
+-- the answer depends on the number and on what is written, not on the rules
+pub answers-same : (rules others : List Rule) → firstOf rules ≡ firstOf others → (w v out : List ℕ) → w ≡ v → (r : Written) (next : List ℕ)
+    → (r ≡ answerFor rules w) × (next ≡ front (emitted rules w) out) → (r ≡ answerFor others v) × (next ≡ front (emitted others v) out)
+unfolding answerFor emitted
+answers-same rules others e w v out f r next h = rw (← e, ← f) h
+
 -- ---- a message of spans
+-- the command in capitals or not, the line is as long
+pub cased-length : (capitals : Bool) (d : Content) → length (written (cased capitals d)) ≡ length (written d)
+unfolding withCommand
+cased-length true d = capitals-length d
+cased-length false d = refl
+
 module _ (text : List ℕ) (m : Message) (out : List ℕ) where
   pub write-short : length out < lineLimit → firstOf (writeRules text m out) ≡ outputTooShort
-  unfolding writeRules firstOf
-  write-short h = rw (lt-ltb (length out) lineLimit h)
+  unfolding writeRules
+  write-short h = stop _ _ (lt-ltb (length out) lineLimit h)
 
   module _ (room : lineLimit ≤ length out) where
     pub write-unfit : fit text m ≡ false → firstOf (writeRules text m out) ≡ unwritable
-    unfolding writeRules firstOf
-    write-unfit e = simp (le-ltb (length out) lineLimit room, sym (fit-exactly text m) ∙ e)
+    unfolding writeRules
+    write-unfit e = skip _ _ (le-ltb (length out) lineLimit room) ∙ stop _ _ (rw (sym (fit-exactly text m) ∙ e))
 
     module _ (ok : fit text m ≡ true) where
+      write-fit : firstOf (writeRules text m out) ≡ firstOf (noRoom when ltb lineLimit (length (written (contentBy text m))) ∷ [])
+      unfolding writeRules
+      write-fit = skip _ _ (le-ltb (length out) lineLimit room) ∙ skip _ _ (rw (sym (fit-exactly text m) ∙ ok))
+
       pub write-long : lineLimit < length (written (contentBy text m)) → firstOf (writeRules text m out) ≡ noRoom
-      unfolding writeRules firstOf
-      write-long h = simp (le-ltb (length out) lineLimit room, sym (fit-exactly text m) ∙ ok, lt-ltb lineLimit (length (written (contentBy text m))) h)
+      write-long h = write-fit ∙ stop _ _ (lt-ltb lineLimit (length (written (contentBy text m))) h)
 
       pub write-accepts : length (written (contentBy text m)) ≤ lineLimit → firstOf (writeRules text m out) ≡ accepted
-      unfolding writeRules firstOf
-      write-accepts h = simp (le-ltb (length out) lineLimit room, sym (fit-exactly text m) ∙ ok, le-ltb lineLimit (length (written (contentBy text m))) h)
+      write-accepts h = write-fit ∙ skip _ _ (le-ltb lineLimit (length (written (contentBy text m))) h) ∙ first-nil
 
 pub fit-count : (text : List ℕ) (m : Message) → fit text m ≡ true → m .count ≤ paramLimit
 unfolding fit
@@ -67,37 +77,8 @@ fit-count text m e = leb-true (m .count) paramLimit (and-left (leb (m .count) pa
 -- ---- a line passed on
 module _ (line out : List ℕ) where
   pub forward-short : length out < lineLimit → firstOf (forwardRules line out) ≡ outputTooShort
-  unfolding forwardRules firstOf
-  forward-short h = rw (lt-ltb (length out) lineLimit h)
-
--- what is put together from the parts of a line that is read, its command raised
-pub forwarded-is : (line : List ℕ) → isRead line ≡ true → (m : Message) → m ≡ messageOf line → (c : List ℕ) → c ≡ map capital (contentOf line .command) → written (withCommand (contentBy line m) c) ≡ forwarded line
-unfolding forwarded
-forwarded-is line h m e c f = rw (e, message-holds line h, f)
-
-pub forwarded-short : (line : List ℕ) → isRead line ≡ true → length (forwarded line) ≤ lineLimit
-forwarded-short line h = omega (arith, forwarded-reads line h .2, read-small line h)
-
--- ---- a command in capitals, in a line of its own
--- The bytes up to r are the command in capitals.
-pub record Raised (word : List ℕ) (r : ℕ) (command : List ℕ) : Type 0 where
-  pub inside : r ≤ length word
-  pub counts : r ≡ length (take r word)
-  pub stands : take r word ≡ map capital command
-
-pub raised : (empty : List ℕ) → length empty ≡ lineLimit → (line : List ℕ) → isRead line ≡ true → (p word next : List ℕ) (r : ℕ)
-    → p ≡ contentOf line .command → r ≡ endOf empty 0 p → word ≡ putAt empty 0 p → next ≡ map capital word → Raised next r (contentOf line .command)
-raised empty long line h p word next r e f g k =
-    let c = contentOf line .command in
-    let small : length c ≤ length empty = omega (arith, placed-length line _ _ (command-at line (messageOf line) refl), read-small line h) in
-    let n : r ≡ length c = f ∙ ap (endOf empty 0) e ∙ end-fits empty 0 c (omega arith) ∙ zero-add (length c) in
-    let w : next ≡ map capital c ++ map capital (drop (length c) empty) = k ∙ ap (map capital) (g ∙ ap (putAt empty 0) e ∙ put-front empty c small) ∙ map-append capital c (drop (length c) empty) in
-    let s : take r next ≡ map capital c = rw (w, n) (take-at (map capital c) (map capital (drop (length c) empty)) (length c) (length-map c capital)) in
-    record {
-      inside = omega (arith, ap (λ (l : List ℕ). length l) s, length-take r next, length-map c capital);
-      counts = n ∙ sym (length-map c capital) ∙ sym (ap (λ (l : List ℕ). length l) s);
-      stands = s;
-    }
+  unfolding forwardRules
+  forward-short h = stop _ _ (lt-ltb (length out) lineLimit h)
 
 -- ---- the scratch line
 -- A text put into an empty line: its end is past the line exactly if it is too long, and else it stands at the front.
@@ -110,9 +91,6 @@ module _ (empty line : List ℕ) (r : ℕ) (w : List ℕ) (long : length empty �
 
   pub over-long : lineLimit < r → lineLimit < length w
   over-long h = omega (arith, held .counts, line-long)
-
-  pub fits-short : length w ≤ lineLimit → r ≤ lineLimit
-  fits-short h = omega (arith, held .counts, line-long)
 
   module _ (fits : r ≤ lineLimit) where
     pub ends-at : r ≡ length w

@@ -13,9 +13,9 @@ use Rattle.message.specs.declared.Span.{Span}
 use Rattle.message.specs.declared.Message.{Message}
 use Rattle.message.specs.Grammar.{lineLimit, paramLimit, word, spaces, prefix, prefixEnd, commandStart, command, commandEnd, isCommand, rest, params}
 use Rattle.message.specs.Content.{contentIn}
-use Rattle.message.specs.Parts.{span, emptyAt}
+use Rattle.message.specs.Parts.{span, emptyAt, contentBy}
 use Rattle.message.specs.Reading.{crlf, endsLine, bodyOf, bodyRules}
-use Rattle.writer.specs.Form.{takesColon, writtenParam, writtenParams, writtenPrefix, writtenBody, written, samePrefix, sameContent, readsBack, contentBy, liesIn, lies}
+use Rattle.writer.specs.Form.{takesColon, writtenParam, writtenParams, writtenPrefix, writtenBody, written, samePrefix, sameContent, readsBack, liesIn, lies}
 use Rattle.writer.specs.Writing.{writeRules}
 
 -- the text `Xa b`

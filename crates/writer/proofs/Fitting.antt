@@ -20,13 +20,14 @@ use Rattle.message.specs.declared.Span.{Span}
 use Rattle.message.specs.declared.Message.{Message}
 use Rattle.message.specs.Grammar.{Part, paramLimit, word, isMiddle, rest, afterMiddle, hasPrefix, prefix, isCommand, commandEnd, params}
 use Rattle.message.specs.Content.{Content, bytesOf, contentIn}
-use Rattle.message.specs.Parts.{bytesAt}
+use Rattle.message.specs.Parts.{bytesAt, contentBy}
 use Rattle.message.specs.Reading.{bodyOf, grammarRules}
 use Rattle.message.proofs.Readings.{Formed, formed}
-use Rattle.writer.specs.Form.{writtenBody, written, samePrefix, sameContent, readsBack, contentBy, liesIn, lies}
+use Rattle.message.proofs.Held.{content-eq}
+use Rattle.writer.specs.Form.{writtenBody, written, samePrefix, sameContent, readsBack, liesIn, lies}
 use Rattle.writer.specs.Fit.{goodPrefix, goodSource, goodParam, goodParams, good, fitPrefix, fitCommand, fitParam, fitParams, fit}
 use Rattle.writer.proofs.Words.{all-word, word-clear, word-middle}
-use Rattle.writer.proofs.Trips.{content-eq, content-back, body-plain, body-full, good-reads, body-back, form-reads}
+use Rattle.writer.proofs.Trips.{content-back, body-plain, body-full, good-reads, body-back, form-reads}
 
 -- ---- the parameters that are read are good: all but the last are middles
 good-cons : (p : List ℕ) (ps : List (List ℕ)) → all isPlain p ≡ true → isMiddle p ≡ true → goodParams ps ≡ true → goodParams (p ∷ ps) ≡ true

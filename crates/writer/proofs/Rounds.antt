@@ -3,35 +3,34 @@
 -- The same holds of a line passed on with its command in capitals. True since the tests for number 24 are exactly what the grammar asks
 -- (`Fitting`), and no line that holds a message is shorter than the fixed form (`Lengths`). Assumes nothing.
 use mathlib.Core.Path.{_≡_, refl, sym, ap, _∙_}
-use mathlib.Core.Bool.{Bool, true, not, cond, _&&_, _||_, or-true}
+use mathlib.Core.Bool.{Bool, true, not, _&&_, _||_, or-true}
 use mathlib.Core.List.{List, [], _∷_, map}
-use mathlib.Core.Option.{some, none}
 use Prim.Native.Nat.{ℕ, _-_, _≤_}
 use native.Mathlib.Omega.{arith}
-use lib.ListN.{length, take, length-append, length-map}
+use lib.ListN.{length, length-append, length-map}
 use lib.Dec.{leb}
 use borrow.Author.Tests.{le-leb, le-ltb, ltb-false, not-false}
 use Rattle.refusal.specs.Numbers.{accepted}
 use Rattle.refusal.specs.Rules.{firstOf, ascend, ascendFrom, placeIn}
 use Rattle.refusal.proofs.Rules.{first-none}
 use Rattle.octets.specs.Bytes.{capital}
-use Rattle.laws.specs.Lists.{all, padded}
+use Rattle.laws.specs.Lists.{all}
 use Rattle.laws.proofs.Bools.{and-left, and-right, and-intro}
 use Rattle.octets.proofs.Bytes.{capitals-twice}
-use Rattle.laws.proofs.Lists.{take-padded}
 use Rattle.message.specs.declared.Span.{Span}
 use Rattle.message.specs.declared.Message.{Message}
 use Rattle.message.specs.Grammar.{Part, lineLimit, paramLimit, hasPrefix, prefix, command, isCommand, params}
-use Rattle.message.specs.Content.{Content, bytesOf, contentIn}
-use Rattle.message.specs.Parts.{emptyAt, bytesAt, spanOf, messageIn}
+use Rattle.message.specs.Content.{Content, contentIn}
+use Rattle.message.specs.Parts.{spanOf, messageIn, contentBy}
 use Rattle.message.specs.Reading.{crlf, bodyOf, bodyRules, lineRules, numberFor, isRead, contentOf, messageOf}
 use Rattle.message.proofs.Places.{Placed, Each, In, prefix-in-line, command-in-line, params-in-line}
 use Rattle.message.proofs.Readings.{Formed, ends-long, body-length, read-small, read-formed, read-content, read-message}
-use Rattle.writer.specs.Form.{writtenBody, written, readsBack, contentBy, liesIn, lies, withCommand, inCapitals}
+use Rattle.message.proofs.Held.{spans-are, message-holds}
+use Rattle.writer.specs.Form.{writtenBody, written, readsBack, liesIn, lies, withCommand, inCapitals}
 use Rattle.writer.specs.Writing.{writeRules, forwardRules, forwarded}
 use Rattle.writer.specs.Fit.{goodSource, goodParams, good}
 use Rattle.writer.proofs.Words.{command-long, command-capital}
-use Rattle.writer.proofs.Trips.{content-eq, good-command}
+use Rattle.writer.proofs.Trips.{good-command}
 use Rattle.writer.proofs.Fitting.{formed-good, good-form, good-exactly}
 use Rattle.writer.proofs.Lengths.{body-short}
 
@@ -81,12 +80,10 @@ placed-lies : (s : List ℕ) (at : Span) (bytes : List ℕ) → Placed s at byte
 unfolding liesIn
 placed-lies s at bytes p = and-intro _ _ (le-leb (at .start) (at .end) (p .forward)) (le-leb (at .end) (length s) (p .inside))
 
-each-placed : (line : List ℕ) (ps : List Part) → Each (In line) ps → (all (liesIn (length line)) (map spanOf ps) ≡ true) × (map (bytesAt line) (map spanOf ps) ≡ bytesOf ps)
+each-lies : (line : List ℕ) (ps : List Part) → Each (In line) ps → all (liesIn (length line)) (map spanOf ps) ≡ true
 unfolding all
-each-placed line [] e = (refl, refl)
-each-placed line (p ∷ ps) e =
-    let r = each-placed line ps (e .1) in
-    (and-intro _ _ (placed-lies line (spanOf p) (p .bytes) (e .0)) (r .0), rw (e .0 .same, r .1))
+each-lies line [] e = refl
+each-lies line (p ∷ ps) e = and-intro _ _ (placed-lies line (spanOf p) (p .bytes) (e .0)) (each-lies line ps (e .1))
 
 module _ (line : List ℕ) (few : length (params (bodyOf line)) ≤ paramLimit) where
   abbrev body : List ℕ
@@ -95,46 +92,30 @@ module _ (line : List ℕ) (few : length (params (bodyOf line)) ≤ paramLimit) 
   abbrev parts : Message
   parts = messageIn body (length line)
 
-  spans-are : take (parts .count) (parts .params) ≡ map spanOf (params body)
-  unfolding messageIn
-  spans-are =
-      let n : length (map spanOf (params body)) ≡ length (params body) = length-map (params body) spanOf in
-      ap (λ (i : ℕ). take i (padded paramLimit (emptyAt (length line)) (map spanOf (params body)))) (sym n) ∙ take-padded (emptyAt (length line)) paramLimit (map spanOf (params body)) (omega arith)
-
-  prefix-placed : Placed line (parts .prefix) (prefix body)
+  prefix-lies : liesIn (length line) (parts .prefix) ≡ true
   unfolding bodyOf
-  prefix-placed = prefix-in-line line (length line - 2)
+  prefix-lies = placed-lies line _ _ (prefix-in-line line (length line - 2))
 
-  command-placed : Placed line (parts .command) (command body)
+  command-lies : liesIn (length line) (parts .command) ≡ true
   unfolding bodyOf
-  command-placed = command-in-line line (length line - 2)
+  command-lies = placed-lies line _ _ (command-in-line line (length line - 2))
 
-  params-placed : (all (liesIn (length line)) (map spanOf (params body)) ≡ true) × (map (bytesAt line) (map spanOf (params body)) ≡ bytesOf (params body))
+  params-lie : all (liesIn (length line)) (map spanOf (params body)) ≡ true
   unfolding bodyOf
-  params-placed = each-placed line (params body) (params-in-line line (length line - 2))
+  params-lie = each-lies line (params body) (params-in-line line (length line - 2))
 
   parts-lie : lies line parts ≡ true
   unfolding lies messageIn
   parts-lie =
       and-intro _ _ (le-leb (length (params body)) paramLimit few)
-      (and-intro (not (hasPrefix body) || liesIn (length line) (parts .prefix)) _ (rw (placed-lies line (parts .prefix) (prefix body) prefix-placed) (or-true (not (hasPrefix body))))
-      (and-intro _ _ (placed-lies line (parts .command) (command body) command-placed) (rw spans-are (params-placed .0))))
-
-  parts-hold : contentBy line parts ≡ contentIn body
-  unfolding contentBy contentIn messageIn
-  parts-hold =
-      content-eq (contentBy line parts) (contentIn body) (ap (λ (p : List ℕ). cond (hasPrefix body) (some p) none) (prefix-placed .same)) (command-placed .same)
-      (ap (map (bytesAt line)) spans-are ∙ params-placed .1)
+      (and-intro (not (hasPrefix body) || liesIn (length line) (parts .prefix)) _ (rw prefix-lies (or-true (not (hasPrefix body))))
+      (and-intro _ _ command-lies (rw (spans-are line few) params-lie)))
 
 -- ---- a line that is read
 module _ (line : List ℕ) (h : isRead line ≡ true) where
   -- The parts that the reader finds lie in the line.
-  pub message-lies : lies line (messageOf line) ≡ true
+  message-lies : lies line (messageOf line) ≡ true
   message-lies = rw (read-message line h) (parts-lie line (read-formed line h .few))
-
-  -- They are the message that the line holds.
-  pub message-holds : contentBy line (messageOf line) ≡ contentOf line
-  message-holds = rw (read-message line h, read-content line h) (parts-hold line (read-formed line h .few))
 
   content-good : good (contentOf line) ≡ true
   content-good = rw (read-content line h) (formed-good line (read-formed line h))
@@ -156,9 +137,9 @@ pub read-writes : (line out : List ℕ) → isRead line ≡ true → lineLimit �
 read-writes line out h room =
     let d : Content = contentOf line in
     let short : length (written d) ≤ lineLimit = omega (arith, content-short line h, read-small line h) in (
-      good-writes line (messageOf line) out d (message-lies line h) (message-holds line h) (content-good line h) short room,
-      rw (message-holds line h) (good-line d (content-good line h) short .1),
-      rw (message-holds line h) (content-short line h),
+      good-writes line (messageOf line) out d (message-lies line h) (message-holds line) (content-good line h) short room,
+      rw (message-holds line) (good-line d (content-good line h) short .1),
+      rw (message-holds line) (content-short line h),
     )
 
 -- Writing what was written and read again is never refused either, and gives the same line.
@@ -168,7 +149,7 @@ pub written-twice : (text : List ℕ) (m : Message) (out next : List ℕ) → fi
 written-twice text m out next e room =
     let line : List ℕ = written (contentBy text m) in
     let r = written-reads text m out e in
-    (read-writes line next (r .0) room .0, ap written (message-holds line (r .0) ∙ r .1))
+    (read-writes line next (r .0) room .0, ap written (message-holds line ∙ r .1))
 
 -- ---- the command in capitals
 -- The command in capitals leaves the line as long as it is.
@@ -200,3 +181,10 @@ forwarded-reads line h =
 pub forwarded-twice : (line : List ℕ) → isRead line ≡ true → forwarded (forwarded line) ≡ forwarded line
 unfolding forwarded withCommand
 forwarded-twice line h = ap (λ (d : Content). written (inCapitals d)) (forwarded-reads line h .1) ∙ ap (λ (c : List ℕ). written (withCommand (contentOf line) c)) (capitals-twice (contentOf line .command))
+
+-- A line that is read is passed on by the parts that the reader found, if the output isn't too short: none of the writer's rules applies to them, and what
+-- they are written as is the line passed on.
+pub read-forwards : (line out : List ℕ) (m : Message) → m ≡ messageOf line → isRead line ≡ true → lineLimit ≤ length out
+    → (firstOf (writeRules line m out) ≡ accepted) × (written (inCapitals (contentBy line m)) ≡ forwarded line)
+unfolding forwarded
+read-forwards line out m is h room = rw is (read-writes line out h room .0, ap (λ (d : Content). written (inCapitals d)) (message-holds line))

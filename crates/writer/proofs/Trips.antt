@@ -20,6 +20,7 @@ use Rattle.message.specs.Grammar.{Part, paramLimit, spaces, isMiddle, rest, has
 use Rattle.message.specs.Content.{Content, bytesOf, contentIn}
 use Rattle.message.specs.Reading.{crlf, endsLine, bodyOf, bodyRules, grammarRules}
 use Rattle.message.proofs.Relation.{Stops, word-append, middle-read}
+use Rattle.message.proofs.Held.{content, content-eq}
 use Rattle.writer.specs.Form.{takesColon, writtenParam, writtenParams, writtenPrefix, writtenBody}
 use Rattle.writer.specs.Fit.{goodPrefix, goodSource, goodParam, goodParams, good}
 use Rattle.writer.proofs.Parts.{colon-exactly}
@@ -148,14 +149,6 @@ module _ (c : List ℕ) (ps : List (List ℕ)) (is : isMiddle c ≡ true) (ok : 
     tail-there =
         rw (start-there, ← drop-drop 1 (1 + length p) body)
         (ap (λ (l : List ℕ). drop 1 l) (drop-at (colon ∷ p) (space ∷ tail) (1 + length p) (omega arith)))
-
--- ---- two messages with the same parts
-abbrev content : Option (List ℕ) → List ℕ → List (List ℕ) → Content
-content o c ps = record { prefix = o; command = c; params = ps }
-
-pub content-eq : (d e : Content) → d .prefix ≡ e .prefix → d .command ≡ e .command → d .params ≡ e .params → d ≡ e
-content-eq d e p c ps =
-    ap (λ (o : Option (List ℕ)). content o (d .command) (d .params)) p ∙ ap (λ (l : List ℕ). content (e .prefix) l (d .params)) c ∙ ap (content (e .prefix) (e .command)) ps
 
 -- ---- the parts of a good message
 module _ (d : Content) (ok : good d ≡ true) where

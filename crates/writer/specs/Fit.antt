@@ -1,12 +1,12 @@
--- What private functions promise: the tests of src/fit.rt, which `Fitting` of proofs/ shows to be exactly those of number 24, and the answer of a
--- refusal. No public contract cites this file: nobody needs to believe it.
+-- What private functions promise: the tests of src/fit.rt, which `Fitting` of proofs/ shows to be exactly those of number 24, the message as it is put,
+-- and the answer of a refusal. No public contract cites this file: nobody needs to believe it.
 use Prim.Native.Nat.{ℕ}
-use mathlib.Core.Bool.{Bool, true, not, _&&_, _||_}
-use mathlib.Core.List.{List, [], _∷_}
+use mathlib.Core.Bool.{Bool, true, not, cond, _&&_, _||_}
+use mathlib.Core.List.{List, [], _∷_, map}
 use mathlib.Core.Option.{Option, some, none}
 use lib.ListN.{length, take}
 use lib.Dec.{leb}
-use Rattle.octets.specs.Bytes.{isPlain, isNonSpace}
+use Rattle.octets.specs.Bytes.{isPlain, isNonSpace, capital}
 use Rattle.laws.specs.Lists.{all, isNil}
 use Rattle.message.specs.declared.Span.{Span}
 use Rattle.message.specs.declared.Message.{Message}
@@ -14,7 +14,7 @@ use Rattle.message.specs.Grammar.{paramLimit, isCommand, isMiddle}
 use Rattle.message.specs.Content.{Content}
 use Rattle.message.specs.Parts.{bytesAt}
 use Rattle.writer.specs.declared.Written.{Written}
-use Rattle.writer.specs.Form.{liesIn}
+use Rattle.writer.specs.Form.{liesIn, withCommand}
 
 -- ---- of a message
 -- one or more bytes, none of them NUL, CR, LF or SPACE
@@ -52,6 +52,10 @@ fitParams text (s ∷ ss) = fitParam text (isNil ss) s && fitParams text ss
 
 unfoldable pub fit : List ℕ → Message → Bool
 fit text m = leb (m .count) paramLimit && (fitPrefix text m && (fitCommand text m && fitParams text (take (m .count) (m .params))))
+
+-- ---- the message as it is put: its command in capitals if they are asked for
+abbrev pub cased : Bool → Content → Content
+cased capitals d = withCommand d (cond capitals (map capital (d .command)) (d .command))
 
 -- ---- the answer of a refusal: nothing is written
 abbrev pub refusedBy : ℕ → Written

@@ -13,7 +13,6 @@ use Rattle.message.specs.declared.Span.{Span}
 use Rattle.message.specs.declared.Message.{Message}
 use Rattle.message.specs.Grammar.{paramLimit}
 use Rattle.message.specs.Content.{Content, contentIn}
-use Rattle.message.specs.Parts.{bytesAt}
 use Rattle.message.specs.Reading.{crlf, bodyOf, grammarRules}
 
 -- ---- the form
@@ -53,15 +52,7 @@ sameContent d e = samePrefix (d .prefix) (e .prefix) && (same (d .command) (e .c
 unfoldable pub readsBack : Content → Bool
 readsBack d = eqb (firstOf (grammarRules (written d))) accepted && sameContent (contentIn (bodyOf (written d))) d
 
--- ---- a message whose parts are spans of a text
--- the spans past the count, and that of a prefix that is missing, are no parts
-unfoldable pub contentBy : List ℕ → Message → Content
-contentBy text m = record {
-  prefix = cond (m .«has_prefix») (some (bytesAt text (m .prefix))) none;
-  command = bytesAt text (m .command);
-  params = map (bytesAt text) (take (m .count) (m .params));
-}
-
+-- ---- the parts of a message as spans of a text
 -- the span is a part of n bytes
 unfoldable pub liesIn : ℕ → Span → Bool
 liesIn n s = leb (s .start) (s .end) && leb (s .end) n

@@ -8,9 +8,10 @@ use Rattle.refusal.specs.Numbers.{outputTooShort, unwritable, noRoom}
 use Rattle.refusal.specs.Rules.{Rule, _when_, firstOf, emitted}
 use Rattle.message.specs.declared.Message.{Message}
 use Rattle.message.specs.Grammar.{lineLimit}
+use Rattle.message.specs.Parts.{contentBy}
 use Rattle.message.specs.Reading.{lineRules, contentOf}
 use Rattle.writer.specs.declared.Written.{Written}
-use Rattle.writer.specs.Form.{written, readsBack, contentBy, lies, inCapitals}
+use Rattle.writer.specs.Form.{written, readsBack, lies, inCapitals}
 
 -- ---- a message of spans
 unfoldable pub writeRules : List ℕ → Message → List ℕ → List Rule

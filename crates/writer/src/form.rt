@@ -6,13 +6,16 @@ ghost use mathlib.Core.List.{_∷_, map};
 ghost use mathlib.Core.Option.{some, none};
 ghost use Prim.Native.Nat.{_≤_};
 ghost use lib.ListN.{take};
-ghost use Rattle.octets.specs.Bytes.{space};
+ghost use Rattle.octets.specs.Bytes.{space, capital as capitalOf};
 ghost use Rattle.octets.specs.Held.{Adds};
 ghost use Rattle.message.specs.Grammar.{paramLimit};
-ghost use Rattle.message.specs.Parts.{bytesAt};
-ghost use Rattle.writer.specs.Form.{takesColon, writtenParam, writtenParams, writtenPrefix, written, contentBy, withCommand};
+ghost use Rattle.message.specs.Parts.{bytesAt, contentBy};
+ghost use Rattle.writer.specs.Form.{takesColon, writtenParam, writtenParams, writtenPrefix, written};
+ghost use Rattle.writer.specs.Fit.{cased};
 use crate::fit::is_middle;
 use message::Message;
+use message::spans::command_in;
+use octets::capital;
 use octets::part;
 use octets::put;
 
@@ -67,13 +70,37 @@ fn put_prefix(text: &[u8], m: Message, line: &mut [u8]) -> usize
     put(line, stop, b" ")
 }
 
-// Puts the message, with the given bytes for its command, and CR LF.
-pub(crate) fn put_message(text: &[u8], m: Message, command: &[u8], line: &mut [u8]) -> usize
+// Adds the bytes, every small letter in capitals.
+fn put_capitals(line: &mut [u8], at: usize, p: &[u8]) -> usize
+    ensures { λ r. ⌜ Adds (now (line .entry)) at (now (line .exit)) r (map capitalOf (now (p .entry))) ⌝ }
+{
+    let mut next = at;
+    let mut i = 0;
+    while i < p.len() {
+        let raised = [capital(p[i])];
+        next = put(line, next, &raised);
+        i += 1;
+    }
+    next
+}
+
+// Adds the command, in capitals if they are asked for.
+fn put_command(line: &mut [u8], at: usize, p: &[u8], capitals: bool) -> usize
+    ensures { λ r. ⌜ Adds (now (line .entry)) at (now (line .exit)) r (cond capitals (map capitalOf (now (p .entry))) (now (p .entry))) ⌝ }
+{
+    if capitals {
+        return put_capitals(line, at, p);
+    }
+    put(line, at, p)
+}
+
+// Puts the message, its command in capitals if they are asked for, and CR LF.
+pub(crate) fn put_message(text: &[u8], m: Message, capitals: bool, line: &mut [u8]) -> usize
     requires { ⌜ m .count ≤ paramLimit ⌝ }
-    ensures { λ r. ⌜ Adds (now (line .entry)) 0 (now (line .exit)) r (written (withCommand (contentBy (now (text .entry)) m) (now (command .entry)))) ⌝ }
+    ensures { λ r. ⌜ Adds (now (line .entry)) 0 (now (line .exit)) r (written (cased capitals (contentBy (now (text .entry)) m))) ⌝ }
 {
     let start = put_prefix(text, m, line);
-    let after = put(line, start, command);
+    let after = put_command(line, start, command_in(text, m), capitals);
     let stop = put_params(text, m, line, after);
     put(line, stop, b"\r\n")
 }

@@ -7,16 +7,15 @@ pub mod form;
 ghost use mathlib.Core.Path.{_≡_};
 ghost use Rattle.refusal.specs.Rules.{emitted};
 ghost use Rattle.octets.specs.Room.{front};
-ghost use Rattle.writer.specs.Form.{written, contentBy};
+ghost use Rattle.message.specs.Parts.{contentBy};
+ghost use Rattle.writer.specs.Form.{written, inCapitals};
 ghost use Rattle.writer.specs.Writing.{writeRules, forwardRules, forwarded, answerFor};
-ghost use Rattle.writer.specs.Fit.{refusedBy};
+ghost use Rattle.writer.specs.Fit.{cased, refusedBy};
 use fit::fit;
 use form::put_message;
 use message::LINE_LIMIT;
 use message::Message;
 use message::Reading;
-use octets::capitalize;
-use octets::part;
 use octets::put;
 use refusal::ACCEPTED;
 use refusal::NO_ROOM;
@@ -37,10 +36,10 @@ fn refused(number: u8) -> Written
     Written { number, len: 0 }
 }
 
-// Writes the message, whose parts are spans of the text, to the front of the output.
-pub fn write(text: &[u8], m: Message, out: &mut [u8]) -> Written
-    ensures answer { λ r. ⌜ r ≡ answerFor (writeRules (now (text .entry)) m (now (out .entry))) (written (contentBy (now (text .entry)) m)) ⌝ }
-    ensures output { λ _. ⌜ now (out .exit) ≡ front (emitted (writeRules (now (text .entry)) m (now (out .entry))) (written (contentBy (now (text .entry)) m))) (now (out .entry)) ⌝ }
+// Writes the message, its command in capitals if they are asked for.
+fn write_cased(text: &[u8], m: Message, capitals: bool, out: &mut [u8]) -> Written
+    ensures answer { λ r. ⌜ r ≡ answerFor (writeRules (now (text .entry)) m (now (out .entry))) (written (cased capitals (contentBy (now (text .entry)) m))) ⌝ }
+    ensures output { λ _. ⌜ now (out .exit) ≡ front (emitted (writeRules (now (text .entry)) m (now (out .entry))) (written (cased capitals (contentBy (now (text .entry)) m)))) (now (out .entry)) ⌝ }
 {
     if out.len() < LINE_LIMIT {
         return refused(OUTPUT_TOO_SHORT);
@@ -48,9 +47,8 @@ pub fn write(text: &[u8], m: Message, out: &mut [u8]) -> Written
     if !fit(text, m) {
         return refused(UNWRITABLE);
     }
-    let c = m.command;
     let mut line = [0u8; LINE_LIMIT];
-    let len = put_message(text, m, part(text, c.start, c.end), &mut line);
+    let len = put_message(text, m, capitals, &mut line);
     if LINE_LIMIT < len {
         return refused(NO_ROOM);
     }
@@ -61,7 +59,23 @@ pub fn write(text: &[u8], m: Message, out: &mut [u8]) -> Written
     }
 }
 
-// Writes a line as it was read, its command in capitals, to the front of the output: how a line goes out that is passed on unchanged.
+// Writes the message, whose parts are spans of the text, to the front of the output.
+pub fn write(text: &[u8], m: Message, out: &mut [u8]) -> Written
+    ensures answer { λ r. ⌜ r ≡ answerFor (writeRules (now (text .entry)) m (now (out .entry))) (written (contentBy (now (text .entry)) m)) ⌝ }
+    ensures output { λ _. ⌜ now (out .exit) ≡ front (emitted (writeRules (now (text .entry)) m (now (out .entry))) (written (contentBy (now (text .entry)) m))) (now (out .entry)) ⌝ }
+{
+    write_cased(text, m, false, out)
+}
+
+// The same, with the command in capitals: how a line goes out that is passed on unchanged, by the parts that the reader found.
+pub fn forward_message(text: &[u8], m: Message, out: &mut [u8]) -> Written
+    ensures answer { λ r. ⌜ r ≡ answerFor (writeRules (now (text .entry)) m (now (out .entry))) (written (inCapitals (contentBy (now (text .entry)) m))) ⌝ }
+    ensures output { λ _. ⌜ now (out .exit) ≡ front (emitted (writeRules (now (text .entry)) m (now (out .entry))) (written (inCapitals (contentBy (now (text .entry)) m)))) (now (out .entry)) ⌝ }
+{
+    write_cased(text, m, true, out)
+}
+
+// Writes a line as it was read, its command in capitals, to the front of the output.
 pub fn forward(line: &[u8], out: &mut [u8]) -> Written
     ensures answer { λ r. ⌜ r ≡ answerFor (forwardRules (now (line .entry)) (now (out .entry))) (forwarded (now (line .entry))) ⌝ }
     ensures output { λ _. ⌜ now (out .exit) ≡ front (emitted (forwardRules (now (line .entry)) (now (out .entry))) (forwarded (now (line .entry)))) (now (out .entry)) ⌝ }
@@ -69,18 +83,10 @@ pub fn forward(line: &[u8], out: &mut [u8]) -> Written
     if out.len() < LINE_LIMIT {
         return refused(OUTPUT_TOO_SHORT);
     }
-    let reading = message::read(line);
+    let parsed = message::parse(line);
+    let reading = parsed.reading;
     let Reading::Line(_) = reading else {
         return refused(reading.number());
     };
-    let mut word = [0u8; LINE_LIMIT];
-    let n = put(&mut word, 0, message::command(line));
-    capitalize(&mut word);
-    let mut scratch = [0u8; LINE_LIMIT];
-    let len = put_message(line, message::parts(line), &word[..n], &mut scratch);
-    put(out, 0, &scratch[..len]);
-    Written {
-        number: ACCEPTED,
-        len,
-    }
+    forward_message(line, parsed.message, out)
 }

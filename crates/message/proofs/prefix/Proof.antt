@@ -1,27 +1,30 @@
 -- `prefix` meets its contract: the span that `parts` gives lies in the line and has the prefix's bytes there. Assumes nothing.
 use mathlib.Core.Path.{ap, _∙_}
+use mathlib.Core.List.{[]}
+use mathlib.Core.Option.{Option·getD}
+use lib.ListN.{length}
 use borrow.Author.Needs.{needs}
 use Rattle.octets.specs.Room.{placeIn}
 use Rattle.message.specs.declared.Message.{Message}
-use Rattle.message.proofs.Places.{placed-start}
-use Rattle.message.proofs.Readings.{prefix-at}
+use Rattle.message.specs.Content.{Content}
+use Rattle.message.specs.Parts.{contentBy, prefixSpan, startIn}
+use Rattle.message.proofs.Held.{message-holds, prefix-start}
 use Rattle.message.proofs.prefix.Statement.{statement}
 use Rattle.message.proofs.prefix.Tie as tie
 
 parts-requires : tie.Need-parts-requires
 parts-requires c κs = search needs
 
-part-requires : tie.Need-part-requires
-part-requires c κs = search needs
+prefix-in-requires : tie.Need-prefix-in-requires
+prefix-in-requires c κs = search needs
 
 returns : tie.Need-returns
 returns c =
-    let line = c .before .before .before .before .args .line in
-    let m = c .before .before .parts .result in
-    let p = prefix-at (line .now) m (c .before .before .parts .ensures) in (
-      c .part .ensures .0 ∙ p .same,
-      c .part .ensures .1 ∙ ap (placeIn line) (placed-start (line .now) (m .prefix) _ p ∙ ap (λ (x : Message). x .prefix .start) (c .before .before .parts .ensures)),
+    let a = c .before .before .before .args in
+    let is = c .before .parts .ensures in (
+      c .prefix-in .ensures .0 ∙ ap (λ (m : Message). Option·getD (contentBy (a .line .now) m .prefix) []) is ∙ ap (λ (x : Content). Option·getD (x .prefix) []) (message-holds (a .line .now)),
+      c .prefix-in .ensures .1 ∙ ap (λ (x : Message). placeIn (a .line) (startIn (length (a .line .now)) (prefixSpan (length (a .line .now)) x))) is ∙ ap (placeIn (a .line)) (prefix-start (a .line .now)),
     )
 
 pub prefix-spec : {M : Type 1} → statement M
-prefix-spec = tie.close (tie.spec parts-requires part-requires returns)
+prefix-spec = tie.close (tie.spec parts-requires prefix-in-requires returns)

@@ -1,84 +1,15 @@
--- `read` meets its contract: each return is a law of `Readings` at what the tests before it showed. Assumes nothing.
-use mathlib.Core.Path.{_≡_, sym, _∙_}
-use mathlib.Core.Bool.{true}
-use mathlib.Core.List.{List}
-use Prim.Native.Nat.{ℕ, _≤_}
-use native.Mathlib.Omega.{arith}
-use lib.ListN.{length}
-use denote.Ref.{now}
+-- `read` meets its contract: it is a part of what `parse` gives. Assumes nothing.
+use mathlib.Core.Path.{ap}
 use borrow.Author.Needs.{needs}
-use borrow.Author.Tests.{not-true, not-false}
-use Rattle.message.specs.Grammar.{lineLimit}
-use Rattle.message.specs.Reading.{endsLine, bodyOf}
-use Rattle.message.proofs.Readings.{ends-long, body-is, body-length, answers, reads-long, reads-unended, reads-control, reads-empty, reads-body}
+use Rattle.message.specs.declared.Parsed.{Parsed}
 use Rattle.message.proofs.read.Statement.{statement}
 use Rattle.message.proofs.read.Tie as tie
 
+parse-requires : tie.Need-parse-requires
+parse-requires c κs = search needs
+
 returns : tie.Need-returns
-returns c = let line = c .before .before .args .line .now in answers line _ (reads-long line (c .if1 .taken))
-
-ends-line-requires : tie.Need-ends-line-requires
-ends-line-requires c κs = search needs
-
-returns-2 : tie.Need-returns-2
-returns-2 c =
-    let line = c .before .before .before .before .args .line .now in
-    answers line _ (reads-unended line (c .before .before .if1 .left) (sym (c .before .ends-line .ensures) ∙ not-true _ (c .if2 .taken)))
-
-sub-part : tie.Need-sub-part
-sub-part c = ends-long (c .before .before .before .before .args .line .now) (sym (c .before .ends-line .ensures) ∙ not-false _ (c .if2 .left))
-
-part-requires : tie.Need-part-requires
-part-requires c κs = search needs
-
--- what is known once the body is lent, for each place after that
-abbrev line : tie.After-part → List ℕ
-line c = c .before .before .before .before .before .args .line .now
-
-small : (c : tie.After-part) → length (line c) ≤ lineLimit
-small c = c .before .before .before .if1 .left
-
-ends : (c : tie.After-part) → endsLine (line c) ≡ true
-ends c = sym (c .before .before .ends-line .ensures) ∙ not-false _ (c .before .if2 .left)
-
-body : (c : tie.After-part) → now (c .part .result) ≡ bodyOf (line c)
-body c = c .part .ensures .0 ∙ body-is (line c)
-
-all-in-requires : tie.Need-all-in-requires
-all-in-requires c κs = search needs
-
-returns-3 : tie.Need-returns-3
-returns-3 c =
-    let p = c .before .before in
-    answers (line p) _ (reads-control (line p) (small p) (ends p) _ (body p) (sym (c .before .all-in .ensures) ∙ not-true _ (c .if3 .taken)))
-
-returns-4 : tie.Need-returns-4
-returns-4 c =
-    let p = c .before .before .before in
-    answers (line p) _ (reads-empty (line p) (small p) (ends p) _ (body p) (sym (c .before .before .all-in .ensures) ∙ not-false _ (c .before .if3 .left)) (c .if4 .taken))
-
-read-body-requires : tie.Need-read-body-requires
-read-body-requires c κs =
-    let p = c .before .before .before in
-    rw (body p) (omega (arith, body-length (line p), small p))
-
-returns-5 : tie.Need-returns-5
-returns-5 c =
-    let p = c .before .before .before .before in
-    answers (line p) (c .read-body .result)
-    (reads-body (line p) (small p) (ends p) _ (body p) (sym (c .before .before .before .all-in .ensures) ∙ not-false _ (c .before .before .if3 .left)) (c .before .if4 .left) (c .read-body .result) (c .read-body .ensures))
+returns c = (ap (λ (x : Parsed). x .reading) (c .parse .ensures .0), c .parse .ensures .1)
 
 pub read-spec : {M : Type 1} → statement M
-read-spec =
-    tie.close
-    (tie.spec
-    returns
-    ends-line-requires
-    returns-2
-    sub-part
-    part-requires
-    all-in-requires
-    returns-3
-    returns-4
-    read-body-requires
-    returns-5)
+read-spec = tie.close (tie.spec parse-requires returns)
