@@ -11,7 +11,7 @@ use Rattle.octets.specs.declared.Order.{Order}
 use Rattle.octets.specs.declared.Order.the-variants.{Less, Same, More}
 use Rattle.octets.specs.Order.{compare, isLess}
 use Rattle.laws.specs.Lists.{all, isNil, same}
-use Rattle.ascending.specs.Ascending.{Kind, insert, put, unite, ascends}
+use Rattle.ascending.specs.Ascending.{Kind, insert, put, unite, taken, against, onePass, ascends}
 use Rattle.laws.proofs.Bools.{and-left, and-right}
 use Rattle.laws.proofs.Lists.{all-head, all-tail, all-cons}
 use Rattle.octets.proofs.Bytes.{same-refl}
@@ -99,11 +99,6 @@ module _ {E P : Type 0} (K : Kind E P) where
   above-at x (e ∷ l) zero d h = λ k. h .0
   above-at x (e ∷ l) (suc i) d h = λ k. above-at x l i d (h .1) (omega arith)
 
-  pub ascending-drop : (n : ℕ) (l : List E) → Ascending K l → Ascending K (drop n l)
-  ascending-drop zero l h = h
-  ascending-drop (suc n) [] h = tt
-  ascending-drop (suc n) (e ∷ l) h = ascending-drop n l (h .1)
-
   -- what stands before a place is below the entry there
   pub under-take : (l : List E) (i : ℕ) (d : E) → Ascending K l → i < length l → Under K (K .key (getD l i d)) (take i l)
   under-take [] i d h = λ k. absurd (omega arith)
@@ -126,7 +121,7 @@ module _ {E P : Type 0} (K : Kind E P) where
   unite-past x a [] h = refl
   unite-past x a (y ∷ b) h = ap (λ (l : List E). unite K l b) (put-more K y x a (h .0)) ∙ unite-past x (put K y a) b (h .1)
 
-  pub unite-nil-right : (a : List E) → unite K a [] ≡ a
+  unite-nil-right : (a : List E) → unite K a [] ≡ a
   unfolding unite
   unite-nil-right a = refl
 
@@ -136,16 +131,49 @@ module _ {E P : Type 0} (K : Kind E P) where
   unite-nil-left (y ∷ b) h = unite-past y [] b (h .0) ∙ ap (_∷_ y) (unite-nil-left b (h .1))
 
   module _ (x y : E) (a b : List E) (h : Ascending K (y ∷ b)) where
-    pub unite-less : Below (K .key x) (K .key y) → unite K (x ∷ a) (y ∷ b) ≡ x ∷ unite K a (y ∷ b)
+    unite-less : Below (K .key x) (K .key y) → unite K (x ∷ a) (y ∷ b) ≡ x ∷ unite K a (y ∷ b)
     unite-less p = unite-past x a (y ∷ b) (p, above-trans K (K .key x) (K .key y) b p (h .0))
 
-    pub unite-more : Below (K .key y) (K .key x) → unite K (x ∷ a) (y ∷ b) ≡ y ∷ unite K (x ∷ a) b
+    unite-more : Below (K .key y) (K .key x) → unite K (x ∷ a) (y ∷ b) ≡ y ∷ unite K (x ∷ a) b
     unfolding unite
     unite-more p = ap (λ (l : List E). unite K l b) (put-less K y x a p) ∙ unite-past y (x ∷ a) b (h .0)
 
-    pub unite-same : Stays K → K .key x ≡ K .key y → unite K (x ∷ a) (y ∷ b) ≡ joined K y x ∷ unite K a b
+    unite-same : Stays K → K .key x ≡ K .key y → unite K (x ∷ a) (y ∷ b) ≡ joined K y x ∷ unite K a b
     unfolding unite
     unite-same S p = ap (λ (l : List E). unite K l b) (put-same K y x a (sym p)) ∙ unite-past (joined K y x) a b (rw (S .stays y x (sym p), p) (h .0))
+
+  -- ---- one pass over any two lists, step by step
+  pub pass-nil-left : (b : List E) → onePass K [] b ≡ b
+  unfolding onePass
+  pass-nil-left b = refl
+
+  pub pass-nil-right : (a : List E) → onePass K a [] ≡ a
+  unfolding onePass against
+  pass-nil-right [] = refl
+  pass-nil-right (x ∷ a) = ap (_∷_ x) (pass-nil-right a)
+
+  pub pass-step : (x y : E) (a b : List E) → onePass K (x ∷ a) (y ∷ b) ≡ taken K (compare (K .key x) (K .key y)) x y (onePass K a (y ∷ b)) (onePass K a b) (onePass K (x ∷ a) b)
+  unfolding onePass against
+  pass-step x y a b = refl
+
+  -- and it is their union where the second ascends
+  module _ (S : Stays K) where
+    taken-unite : (x y : E) (a b : List E) (o : Order) → compare (K .key x) (K .key y) ≡ o → Ascending K (y ∷ b)
+        → taken K o x y (unite K a (y ∷ b)) (unite K a b) (unite K (x ∷ a) b) ≡ unite K (x ∷ a) (y ∷ b)
+    unfolding taken
+    taken-unite x y a b Less p h = sym (unite-less x y a b h p)
+    taken-unite x y a b Same p h = sym (unite-same x y a b h S (compare-same (K .key x) (K .key y) p))
+    taken-unite x y a b More p h = sym (unite-more x y a b h (more-below (K .key x) (K .key y) p))
+
+    against-unite : (x : E) (a : List E) (others : List E → List E) → ((b : List E) → Ascending K b → others b ≡ unite K a b) → (b : List E) → Ascending K b → against K x others b ≡ unite K (x ∷ a) b
+    unfolding against
+    against-unite x a others ih [] h = ap (_∷_ x) (ih [] h ∙ unite-nil-right a) ∙ sym (unite-nil-right (x ∷ a))
+    against-unite x a others ih (y ∷ b) h = rw (ih (y ∷ b) h, ih b (h .1), against-unite x a others ih b (h .1)) (taken-unite x y a b (compare (K .key x) (K .key y)) refl h)
+
+    pub pass-unite : (a b : List E) → Ascending K b → onePass K a b ≡ unite K a b
+    unfolding onePass
+    pass-unite [] b h = sym (unite-nil-left b h)
+    pass-unite (x ∷ a) b h = against-unite x a (onePass K a) (λ b h. pass-unite a b h) b h
 
   pub unite-append : (a b c : List E) → unite K a (b ++ c) ≡ unite K (unite K a b) c
   unfolding unite

@@ -31,6 +31,22 @@ module _ {E P : Type 0} (K : Kind E P) where
   unite a [] = a
   unite a (e ∷ b) = unite (put e a) b
 
+  -- ---- two lists in one pass over both, the smaller of the two first entries coming next, or both as one; it is their union where the second ascends
+  -- what comes next, by how x's key stands to y's; the three lists are what is made of the rest where x is used up, where both are, and where y is
+  unfoldable pub taken : Order → E → E → List E → List E → List E → List E
+  taken Less x y first both second = x ∷ first
+  taken Same x y first both second = K .make (K .key x) (K .join (K .load y) (K .load x)) ∷ both
+  taken More x y first both second = y ∷ second
+
+  -- x, and what follows it, against the second list; `others` is what those that follow it make of what is left of that
+  unfoldable pub against : E → (List E → List E) → List E → List E
+  against x others [] = x ∷ others []
+  against x others (y ∷ b) = taken (compare (K .key x) (K .key y)) x y (others (y ∷ b)) (others b) (against x others b)
+
+  unfoldable pub onePass : List E → List E → List E
+  onePass [] b = b
+  onePass (x ∷ a) b = against x (onePass a) b
+
   abbrev pub precedes : E → List E → Bool
   precedes e [] = true
   precedes e (d ∷ l) = isLess (compare (K .key e) (K .key d))

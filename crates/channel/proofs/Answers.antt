@@ -1,21 +1,20 @@
--- What a merge of two records answers, case by case, in the terms of the code: the refusals in their order, and the record field by field.
--- Assumes nothing.
+-- What a merge of two records answers, case by case, in the terms of the code: the refusals in their order, and the record field by field. Records that are
+-- known to be well formed and of one channel need no test. Assumes nothing.
 use mathlib.Core.Path.{_≡_, refl, sym, ap, ap₂, _∙_}
 use mathlib.Core.Bool.{Bool, true, false, cond, _&&_}
 use mathlib.Core.List.{List, [], _∷_, map}
 use Prim.Native.Nat.{ℕ, _≤_, _<_, min, max}
-use native.Mathlib.Omega.{arith}
 use lib.Bits.{bitOr}
-use lib.ListN.{length, take, drop, getD}
-use lib.Seq.{length-take-le}
-use lib.Dec.{eqb, leb}
-use borrow.Author.Tests.{lt-ltb, le-ltb, leb-true, eqb-true}
+use lib.ListN.{length, take}
+use lib.Dec.{eqb, ltb}
+use borrow.Author.Tests.{lt-ltb, le-ltb}
 use Rattle.refusal.specs.Numbers.{accepted, notWellFormed, badName, tooManyMembers}
-use Rattle.refusal.specs.Rules.{firstOf}
-use Rattle.laws.specs.Lists.{all, padded}
-use Rattle.ascending.specs.Ascending.{unite}
-use Rattle.laws.proofs.Bools.{and-left, and-intro}
-use Rattle.laws.proofs.Lists.{all-from, padded-take}
+use Rattle.refusal.specs.Rules.{Rule, _when_, firstOf}
+use Rattle.refusal.proofs.Rules.{skip, stop, first-nil}
+use Rattle.laws.specs.Lists.{padded}
+use Rattle.ascending.specs.Ascending.{onePass}
+use Rattle.ascending.proofs.Ascends.{Ascending, pass-unite}
+use Rattle.laws.proofs.Bools.{and-intro}
 use Rattle.names.specs.Names.{nameLimit}
 use Rattle.names.specs.Fold.{sameName}
 use Rattle.channel.specs.declared.Member.{Member}
@@ -23,45 +22,71 @@ use Rattle.channel.specs.declared.Record.{Record}
 use Rattle.channel.specs.declared.Roster.{Roster}
 use Rattle.channel.specs.declared.merging.Settings.{Settings}
 use Rattle.channel.specs.declared.merging.Key.{Key}
+use Rattle.channel.specs.declared.merging.Name.{Name}
 use Rattle.channel.specs.Limits.{memberLimit, keyLimit}
 use Rattle.channel.specs.Key.{greater}
 use Rattle.channel.specs.Channel.{Channel, member, byId}
 use Rattle.channel.specs.Record.{nobody, encode, decode}
-use Rattle.channel.specs.WellFormed.{isZero, inRoom, clear, wellFormed}
-use Rattle.channel.specs.Merging.{stands, bare, standing, merge, mergeRules, mergeAnswer}
+use Rattle.channel.specs.WellFormed.{wellFormed}
+use Rattle.channel.specs.Merging.{stands, bare, standing, mergeBy, merge, answered, roomRules, mergeRules, mergeAnswer, combined}
 use Rattle.channel.specs.Members.{roster}
-use Rattle.channel.specs.Private.{answerOf, asGiven, settingsOf, keyOf}
+use Rattle.channel.specs.Private.{answerOf, asGiven, settingsOf, keyOf, nameOf}
+use Rattle.channel.proofs.Tests.{take-within}
 use Rattle.channel.proofs.Records.{decode-encode}
+use Rattle.channel.proofs.Sides.{channel-path, stays-byId, ascending-standing}
 use Rattle.channel.proofs.Proper.{Proper, proper-fits, well-says, encode-well}
 use Rattle.channel.proofs.Uniting.{side}
 
--- ---- the refusals in their order
+-- ---- the first rule that applies decides
+module _ (a : Record) (c : Channel) where
+  refused-by : (rules : List Rule) (n : ℕ) → firstOf rules ≡ n → eqb n accepted ≡ false → answered rules a c ≡ answerOf n a
+  refused-by rules n e ne = rw (e, ne)
+
+  accepted-by : (rules : List Rule) → firstOf rules ≡ accepted → answered rules a c ≡ answerOf accepted (encode c)
+  accepted-by rules e = rw e
+
+  -- only the room is left to judge
+  room-over : memberLimit < length (c .members) → answered (roomRules c) a c ≡ answerOf tooManyMembers a
+  room-over h = refused-by (roomRules c) tooManyMembers (stop (tooManyMembers when ltb memberLimit (length (c .members))) [] (lt-ltb memberLimit (length (c .members)) h)) refl
+
+  room-fits : length (c .members) ≤ memberLimit → answered (roomRules c) a c ≡ answerOf accepted (encode c)
+  room-fits h = accepted-by (roomRules c) (skip (tooManyMembers when ltb memberLimit (length (c .members))) [] (le-ltb memberLimit (length (c .members)) h) ∙ first-nil)
+
 module _ (a b : Record) where
   pub answer-ill : wellFormed a && wellFormed b ≡ false → mergeAnswer a b ≡ answerOf notWellFormed a
-  unfolding mergeAnswer mergeRules firstOf
-  answer-ill e = rw e
+  unfolding mergeAnswer mergeRules
+  answer-ill e = refused-by a _ _ notWellFormed (stop _ _ (rw e)) refl
 
   module _ (w : wellFormed a && wellFormed b ≡ true) where
     pub answer-name : sameName (decode a .name) (decode b .name) ≡ false → mergeAnswer a b ≡ answerOf badName a
-    unfolding mergeAnswer mergeRules firstOf
-    answer-name e = simp (w, e)
+    unfolding mergeAnswer mergeRules
+    answer-name e = refused-by a _ _ badName (skip _ _ (rw w) ∙ stop _ _ (rw e)) refl
 
-    module _ (s : sameName (decode a .name) (decode b .name) ≡ true) where
-      answer-many : memberLimit < length (merge (decode a) (decode b) .members) → mergeAnswer a b ≡ answerOf tooManyMembers a
-      unfolding mergeAnswer mergeRules firstOf
-      answer-many h = simp (w, s, lt-ltb memberLimit (length (merge (decode a) (decode b) .members)) h)
+    answer-room : sameName (decode a .name) (decode b .name) ≡ true → mergeAnswer a b ≡ answered (roomRules (merge (decode a) (decode b))) a (merge (decode a) (decode b))
+    unfolding mergeAnswer mergeRules
+    answer-room s = ap (λ (n : ℕ). answerOf n (cond (eqb n accepted) (encode (merge (decode a) (decode b))) a)) (skip _ _ (rw w) ∙ skip _ _ (rw s))
 
-      answer-merged : length (merge (decode a) (decode b) .members) ≤ memberLimit → mergeAnswer a b ≡ answerOf accepted (encode (merge (decode a) (decode b)))
-      unfolding mergeAnswer mergeRules firstOf
-      answer-merged h = simp (w, s, le-ltb memberLimit (length (merge (decode a) (decode b) .members)) h)
+-- ---- two records that are well formed and of one channel
+-- one pass over both unites members that ascend
+pass-merge : (a b : Channel) → Ascending byId (b .members) → mergeBy (onePass byId) a b ≡ merge a b
+unfolding merge
+pass-merge a b h =
+    let m : ℕ = min (a .time) (b .time) in
+    channel-path refl refl refl refl refl (pass-unite byId stays-byId (standing m a) (standing m b) (ascending-standing m b h))
 
--- the records of two channels
+pub combined-merge : (a b : Record) → wellFormed a ≡ true → wellFormed b ≡ true → sameName (decode a .name) (decode b .name) ≡ true → combined a b ≡ mergeAnswer a b
+unfolding combined
+combined-merge a b w v s =
+    ap (λ (c : Channel). answered (roomRules c) a c) (pass-merge (decode a) (decode b) (well-says b v .holds .ascending))
+    ∙ sym (answer-room a b (and-intro _ _ w v) s)
+
+-- and the records of two channels
 pub answer-encoded : (a b : Channel) → Proper a → Proper b → sameName (a .name) (b .name) ≡ true → length (merge a b .members) ≤ memberLimit
     → mergeAnswer (encode a) (encode b) ≡ answerOf accepted (encode (merge a b))
 answer-encoded a b p q e h =
     let u : decode (encode a) ≡ a = decode-encode a (proper-fits a p) in
     let v : decode (encode b) ≡ b = decode-encode b (proper-fits b q) in
-    rw (u, v) at (answer-merged (encode a) (encode b) (and-intro _ _ (encode-well a p) (encode-well b q)) (rw (u, v) e) (rw (u, v) h))
+    rw (u, v) at (answer-room (encode a) (encode b) (and-intro _ _ (encode-well a p) (encode-well b q)) (rw (u, v) e) ∙ room-fits (encode a) (merge (decode (encode a)) (decode (encode b))) (rw (u, v) h))
 
 -- ---- what a side gives
 as-counted : (l : List Member) → map (asGiven true) l ≡ l
@@ -81,25 +106,11 @@ side-key : (t : Bool) (n : ℕ) (k : List ℕ) → take (cond t n 0) k ≡ cond 
 side-key true n k = refl
 side-key false n k = refl
 
--- ---- the name stands as it is, since the rest of its room is zero
-module _ (r : Record) (w : wellFormed r ≡ true) (long : length (r .name) ≡ nameLimit) where
-  own-name : padded nameLimit 0 (take (r .«name_len») (r .name)) ≡ r .name
-  unfolding clear
-  own-name =
-      let z : all isZero (drop (r .«name_len») (r .name)) ≡ true = and-left (all isZero (drop (r .«name_len») (r .name))) _ (well-says r w .rest) in
-      padded-take 0 (r .«name_len») nameLimit (r .name) long (λ k f g. eqb-true (getD (r .name) k 0) 0 (all-from isZero (r .«name_len») (r .name) 0 z k f (omega arith)))
-
-  own-length : length (take (r .«name_len») (r .name)) ≡ r .«name_len»
-  unfolding inRoom
-  own-length =
-      let u : leb (r .«name_len») nameLimit ≡ true = and-left (leb (r .«name_len») nameLimit) _ (well-says r w .room) in
-      length-take-le (r .«name_len») (r .name) (omega (arith, leb-true (r .«name_len») nameLimit u))
-
 -- ---- the record that is made of what the sides give
-abbrev pub made : Record → ℕ → Settings → Settings → Key → ℕ → Roster → Record
-made a time x y key limit all = record {
-  name = a .name;
-  «name_len» = a .«name_len»;
+abbrev pub made : ℕ → Name → Settings → Settings → Key → ℕ → Roster → Record
+made time name x y key limit all = record {
+  name = name .bytes;
+  «name_len» = name .len;
   time = time;
   modes = bitOr (x .modes) (y .modes);
   key = key .bytes;
@@ -112,46 +123,51 @@ made a time x y key limit all = record {
 abbrev pub given : Record → ℕ → Settings
 given r time = settingsOf (eqb (r .time) time) (r .modes) (r .«key_len») (r .limit)
 
-abbrev pub members : Record → Record → ℕ → List Member
-members a b time = unite byId (side (eqb (a .time) time) (a .members) (a .count)) (side (eqb (b .time) time) (b .members) (b .count))
+-- the members of both, of which so many are looked at
+abbrev pub members : Record → ℕ → Record → ℕ → ℕ → List Member
+members a m b n time = onePass byId (side (eqb (a .time) time) (a .members) m) (side (eqb (b .time) time) (b .members) n)
 
-abbrev pub key : Record → Record → ℕ → List ℕ
+abbrev key : Record → Record → ℕ → List ℕ
 key a b time = greater (take (given a time .«key_len») (a .key)) (take (given b time .«key_len») (b .key))
 
-module _ (a b : Record) (wa : wellFormed a ≡ true) (wb : wellFormed b ≡ true) (s : sameName (decode a .name) (decode b .name) ≡ true) (time : ℕ) (et : time ≡ min (a .time) (b .time)) where
-  merge-members : merge (decode a) (decode b) .members ≡ members a b time
-  unfolding merge decode
-  merge-members = rw et (ap₂ (unite byId) (side-standing (min (a .time) (b .time)) a) (side-standing (min (a .time) (b .time)) b))
+module _ (a b : Record) (time : ℕ) (et : time ≡ min (a .time) (b .time)) (m n : ℕ) (em : m ≡ min (a .count) (length (a .members))) (en : n ≡ min (b .count) (length (b .members))) where
+  abbrev both : Channel
+  both = mergeBy (onePass byId) (decode a) (decode b)
 
-  merge-key : merge (decode a) (decode b) .key ≡ key a b time
-  unfolding merge decode stands settingsOf
-  merge-key =
-      let m : ℕ = min (a .time) (b .time) in
-      rw et (ap₂ greater (sym (side-key (eqb (a .time) m) (a .«key_len») (a .key))) (sym (side-key (eqb (b .time) m) (b .«key_len») (b .key))))
+  both-members : both .members ≡ members a m b n time
+  unfolding decode
+  both-members =
+      rw (et, take-within (a .members) (a .count) m em, take-within (b .members) (b .count) n en)
+      (ap₂ (onePass byId) (side-standing (min (a .time) (b .time)) a) (side-standing (min (a .time) (b .time)) b))
 
-  both : wellFormed a && wellFormed b ≡ true
-  both = rw (wa, wb)
+  both-key : both .key ≡ key a b time
+  unfolding decode stands settingsOf
+  both-key =
+      let t : ℕ = min (a .time) (b .time) in
+      rw et (ap₂ greater (sym (side-key (eqb (a .time) t) (a .«key_len») (a .key))) (sym (side-key (eqb (b .time) t) (b .«key_len») (b .key))))
 
-  pub merged-over : memberLimit < length (members a b time) → mergeAnswer a b ≡ answerOf tooManyMembers a
-  merged-over h = answer-many a b both s (rw merge-members h)
+  pub combined-over : memberLimit < length (members a m b n time) → combined a b ≡ answerOf tooManyMembers a
+  unfolding combined
+  combined-over h = room-over a both (rw both-members h)
 
-  module _ (long : length (a .name) ≡ nameLimit) where
-    merged-record : encode (merge (decode a) (decode b)) ≡ made a time (given a time) (given b time) (keyOf (key a b time)) (max (given a time .limit) (given b time .limit)) (roster (members a b time))
-    unfolding encode merge decode stands settingsOf keyOf roster
-    merged-record =
-        let t : min (a .time) (b .time) ≡ time = sym et in
-        λ i. record {
-          name = own-name a wa long i;
-          «name_len» = own-length a wa long i;
-          time = t i;
-          modes = bitOr (cond (eqb (a .time) (t i)) (a .modes) 0) (cond (eqb (b .time) (t i)) (b .modes) 0);
-          key = padded keyLimit 0 (merge-key i);
-          «key_len» = length (merge-key i);
-          limit = max (cond (eqb (a .time) (t i)) (a .limit) 0) (cond (eqb (b .time) (t i)) (b .limit) 0);
-          members = padded memberLimit nobody (merge-members i);
-          count = length (merge-members i);
-        }
+  both-record : encode both ≡ made time (nameOf (take (a .«name_len») (a .name))) (given a time) (given b time) (keyOf (key a b time)) (max (given a time .limit) (given b time .limit)) (roster (members a m b n time))
+  unfolding encode decode stands settingsOf nameOf keyOf roster
+  both-record =
+      let t : min (a .time) (b .time) ≡ time = sym et in
+      λ i. record {
+        name = padded nameLimit 0 (take (a .«name_len») (a .name));
+        «name_len» = length (take (a .«name_len») (a .name));
+        time = t i;
+        modes = bitOr (cond (eqb (a .time) (t i)) (a .modes) 0) (cond (eqb (b .time) (t i)) (b .modes) 0);
+        key = padded keyLimit 0 (both-key i);
+        «key_len» = length (both-key i);
+        limit = max (cond (eqb (a .time) (t i)) (a .limit) 0) (cond (eqb (b .time) (t i)) (b .limit) 0);
+        members = padded memberLimit nobody (both-members i);
+        count = length (both-members i);
+      }
 
-    pub merged-fits : (x y : Settings) (k : Key) (limit : ℕ) (all : Roster) → x ≡ given a time → y ≡ given b time → k ≡ keyOf (greater (take (x .«key_len») (a .key)) (take (y .«key_len») (b .key))) → limit ≡ max (x .limit) (y .limit)
-        → all ≡ roster (members a b time) → length (members a b time) ≤ memberLimit → mergeAnswer a b ≡ answerOf accepted (made a time x y k limit all)
-    merged-fits x y k limit all ex ey ek el ea h = rw (ek, el, ea, ex, ey) (answer-merged a b both s (rw merge-members h) ∙ ap (answerOf accepted) merged-record)
+  pub combined-fits : (name : Name) (x y : Settings) (k : Key) (limit : ℕ) (all : Roster) → name ≡ nameOf (take (a .«name_len») (a .name)) → x ≡ given a time → y ≡ given b time
+      → k ≡ keyOf (greater (take (x .«key_len») (a .key)) (take (y .«key_len») (b .key))) → limit ≡ max (x .limit) (y .limit)
+      → all ≡ roster (members a m b n time) → length (members a m b n time) ≤ memberLimit → combined a b ≡ answerOf accepted (made time name x y k limit all)
+  unfolding combined
+  combined-fits name x y k limit all es ex ey ek el ea h = rw (es, ek, el, ea, ex, ey) (room-fits a both (rw both-members h) ∙ ap (answerOf accepted) both-record)

@@ -20,3 +20,4 @@ mod Others
 mod Placing
 mod Ordering
 mod Uniting
+mod Rooms

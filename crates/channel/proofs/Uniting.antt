@@ -1,7 +1,7 @@
--- Two ascending lists united in one pass: at each step the smaller first member is taken, or two with one id as one, and what is gathered so far
--- with what is left comes to the whole. Assumes nothing.
+-- Two lists of members in one pass: at each step the smaller first member is taken, or two with one id as one, and what is gathered so far with what is left
+-- comes to the whole. Assumes nothing.
 use mathlib.Core.Path.{_≡_, refl, sym, ap, ap₂, _∙_}
-use mathlib.Core.Bool.{Bool, true}
+use mathlib.Core.Bool.{Bool}
 use mathlib.Core.List.{List, [], _∷_, _++_, map, append-nil}
 use Prim.Native.Nat.{ℕ, zero, suc, _+_, _≤_, _<_}
 use native.Mathlib.Omega.{arith}
@@ -11,10 +11,9 @@ use Rattle.octets.specs.declared.Order.{Order}
 use Rattle.octets.specs.declared.Order.the-variants.{Less, Same, More}
 use Rattle.laws.specs.Lists.{padded}
 use Rattle.octets.specs.Order.{compare}
-use Rattle.ascending.specs.Ascending.{unite, ascends}
+use Rattle.ascending.specs.Ascending.{taken, onePass}
 use Rattle.laws.proofs.Lists.{length-padded}
-use Rattle.octets.proofs.Ordered.{compare-same, more-below}
-use Rattle.ascending.proofs.Ascends.{Above, Ascending, ascends-says, ascending-drop, unite-nil-left, unite-nil-right, unite-less, unite-more, unite-same}
+use Rattle.ascending.proofs.Ascends.{pass-nil-left, pass-nil-right, pass-step}
 use Rattle.channel.specs.declared.Member.{Member}
 use Rattle.channel.specs.declared.Roster.{Roster}
 use Rattle.channel.specs.declared.merging.Taken.{Taken}
@@ -23,7 +22,6 @@ use Rattle.channel.specs.Channel.{byId}
 use Rattle.channel.specs.Record.{nobody}
 use Rattle.channel.specs.Members.{roster}
 use Rattle.channel.specs.Private.{Held, Fills, asGiven, takenFrom}
-use Rattle.channel.proofs.Sides.{stays-byId}
 use Rattle.channel.proofs.Tests.{front-step}
 use Rattle.channel.proofs.Gathering.{Gathers, gathers-take, gathers-more, gathers-roster}
 
@@ -91,17 +89,6 @@ module _ (counts : Bool) (l : List Member) (n : ℕ) where
   pub side-past : (i : ℕ) → n ≤ i → n ≤ length l → map (asGiven counts) (drop i (take n l)) ≡ []
   side-past i h k = ap (map (asGiven counts)) (drop-of-length-le (take n l) {i = i} (omega (arith, length-take-le n l k)))
 
--- statuses don't matter to the order
-above-given : (counts : Bool) (x : List ℕ) (l : List Member) → Above byId x l → Above byId x (map (asGiven counts) l)
-unfolding asGiven
-above-given counts x [] h = tt
-above-given counts x (m ∷ l) h = (h .0, above-given counts x l (h .1))
-
-ascending-given : (counts : Bool) (l : List Member) → Ascending byId l → Ascending byId (map (asGiven counts) l)
-unfolding asGiven
-ascending-given counts [] h = tt
-ascending-given counts (m ∷ l) h = (above-given counts (m .id) l (h .0), ascending-given counts l (h .1))
-
 -- ---- what is taken
 pub taken-some : (o : Order) (x y : Member) → (takenFrom o x y .first ≤ 1) × (takenFrom o x y .second ≤ 1) × (1 ≤ takenFrom o x y .first + takenFrom o x y .second)
 unfolding takenFrom
@@ -109,42 +96,33 @@ taken-some Less x y = (omega arith, omega arith, omega arith)
 taken-some Same x y = (omega arith, omega arith, omega arith)
 taken-some More x y = (omega arith, omega arith, omega arith)
 
-module _ (A B : List Member) (i j : ℕ) (x y : Member) (ea : drop i A ≡ x ∷ drop (i + 1) A) (eb : drop j B ≡ y ∷ drop (j + 1) B) (asc : Ascending byId (y ∷ drop (j + 1) B)) where
-  unite-taken : (o : Order) → compare (x .id) (y .id) ≡ o → unite byId (drop i A) (drop j B) ≡ takenFrom o x y .member ∷ unite byId (drop (i + takenFrom o x y .first) A) (drop (j + takenFrom o x y .second) B)
-  unfolding takenFrom
-  unite-taken Less p =
-      let z : j ≡ j + 0 = omega arith in
-      ap₂ (unite byId) ea eb ∙ unite-less byId x y (drop (i + 1) A) (drop (j + 1) B) asc p
-      ∙ ap (λ (l : List Member). x ∷ unite byId (drop (i + 1) A) l) (sym eb ∙ ap (λ (k : ℕ). drop k B) z)
-  unite-taken Same p = ap₂ (unite byId) ea eb ∙ unite-same byId x y (drop (i + 1) A) (drop (j + 1) B) asc stays-byId (compare-same (x .id) (y .id) p)
-  unite-taken More p =
-      let z : i ≡ i + 0 = omega arith in
-      ap₂ (unite byId) ea eb ∙ unite-more byId x y (drop (i + 1) A) (drop (j + 1) B) asc (more-below (x .id) (y .id) p)
-      ∙ ap (λ (l : List Member). y ∷ unite byId l (drop (j + 1) B)) (sym ea ∙ ap (λ (k : ℕ). drop k A) z)
+module _ (A B : List Member) (i j : ℕ) (x y : Member) (ea : drop i A ≡ x ∷ drop (i + 1) A) (eb : drop j B ≡ y ∷ drop (j + 1) B) where
+  taken-on : (o : Order) → taken byId o x y (onePass byId (drop (i + 1) A) (y ∷ drop (j + 1) B)) (onePass byId (drop (i + 1) A) (drop (j + 1) B)) (onePass byId (x ∷ drop (i + 1) A) (drop (j + 1) B))
+      ≡ takenFrom o x y .member ∷ onePass byId (drop (i + takenFrom o x y .first) A) (drop (j + takenFrom o x y .second) B)
+  unfolding taken takenFrom
+  taken-on Less = let z : j ≡ j + 0 = omega arith in ap (λ (l : List Member). x ∷ onePass byId (drop (i + 1) A) l) (sym eb ∙ ap (λ (k : ℕ). drop k B) z)
+  taken-on Same = refl
+  taken-on More = let z : i ≡ i + 0 = omega arith in ap (λ (l : List Member). y ∷ onePass byId l (drop (j + 1) B)) (sym ea ∙ ap (λ (k : ℕ). drop k A) z)
 
 -- ---- the first m of a and the first n of b, from i and j on
-module _ (first second : Bool) (a b : List Member) (m n : ℕ) (ma : m ≤ length a) (nb : n ≤ length b) (pb : ascends byId (take n b) ≡ true) where
+module _ (first second : Bool) (a b : List Member) (m n : ℕ) (ma : m ≤ length a) (nb : n ≤ length b) (i j : ℕ) where
   abbrev A : List Member
   A = side first a m
 
   abbrev B : List Member
   B = side second b n
 
-  asc : (j : ℕ) → Ascending byId (drop j B)
-  asc j = ascending-drop byId j B (ascending-given second (take n b) (ascends-says byId (take n b) pb))
+  -- both have one left
+  pub both-left : (d : Member) → i < m → j < n → (x y : Member) (t : Taken) → x ≡ asGiven first (getD a i d) → y ≡ asGiven second (getD b j d) → t ≡ takenFrom (compare (x .id) (y .id)) x y
+      → onePass byId (drop i A) (drop j B) ≡ t .member ∷ onePass byId (drop (i + t .first) A) (drop (j + t .second) B)
+  both-left d h k x y t ex ey et =
+      let ea : drop i A ≡ x ∷ drop (i + 1) A = side-drop first a m i ∙ side-step first a m i d h ma ∙ ap₂ _∷_ (sym ex) (sym (side-drop first a m (i + 1))) in
+      let eb : drop j B ≡ y ∷ drop (j + 1) B = side-drop second b n j ∙ side-step second b n j d k nb ∙ ap₂ _∷_ (sym ey) (sym (side-drop second b n (j + 1))) in
+      rw et (ap₂ (onePass byId) ea eb ∙ pass-step byId x y (drop (i + 1) A) (drop (j + 1) B) ∙ taken-on A B i j x y ea eb (compare (x .id) (y .id)))
 
-  module _ (i j : ℕ) where
-    -- both have one left
-    pub unite-step : (d : Member) → i < m → j < n → (x y : Member) (t : Taken) → x ≡ asGiven first (getD a i d) → y ≡ asGiven second (getD b j d) → t ≡ takenFrom (compare (x .id) (y .id)) x y
-        → unite byId (drop i A) (drop j B) ≡ t .member ∷ unite byId (drop (i + t .first) A) (drop (j + t .second) B)
-    unite-step d h k x y t ex ey et =
-        let ea : drop i A ≡ x ∷ drop (i + 1) A = side-drop first a m i ∙ side-step first a m i d h ma ∙ ap₂ _∷_ (sym ex) (sym (side-drop first a m (i + 1))) in
-        let eb : drop j B ≡ y ∷ drop (j + 1) B = side-drop second b n j ∙ side-step second b n j d k nb ∙ ap₂ _∷_ (sym ey) (sym (side-drop second b n (j + 1))) in
-        rw et (unite-taken A B i j x y ea eb (rw eb at (asc j)) (compare (x .id) (y .id)) refl)
+  -- only the first has some left, or only the second
+  pub first-left : n ≤ j → onePass byId (drop i A) (drop j B) ≡ map (asGiven first) (drop i (take m a))
+  first-left h = ap (onePass byId (drop i A)) (side-drop second b n j ∙ side-past second b n j h nb) ∙ pass-nil-right byId (drop i A) ∙ side-drop first a m i
 
-    -- only the first has some left, or only the second
-    pub unite-first : n ≤ j → unite byId (drop i A) (drop j B) ≡ map (asGiven first) (drop i (take m a))
-    unite-first h = ap (unite byId (drop i A)) (side-drop second b n j ∙ side-past second b n j h nb) ∙ unite-nil-right byId (drop i A) ∙ side-drop first a m i
-
-    pub unite-second : m ≤ i → unite byId (drop i A) (drop j B) ≡ map (asGiven second) (drop j (take n b))
-    unite-second h = ap (λ (l : List Member). unite byId l (drop j B)) (side-drop first a m i ∙ side-past first a m i h ma) ∙ unite-nil-left byId (drop j B) (asc j) ∙ side-drop second b n j
+  pub second-left : m ≤ i → onePass byId (drop i A) (drop j B) ≡ map (asGiven second) (drop j (take n b))
+  second-left h = ap (λ (l : List Member). onePass byId l (drop j B)) (side-drop first a m i ∙ side-past first a m i h ma) ∙ pass-nil-left byId (drop j B) ∙ side-drop second b n j

@@ -15,6 +15,7 @@ use Rattle.laws.specs.Bits.{hasBit}
 use Rattle.ascending.specs.Ascending.{insert, put, unite, ascends}
 use Rattle.laws.proofs.Joins.{Within}
 use Rattle.laws.proofs.Lists.{all-head, all-tail, all-at}
+use Rattle.names.specs.Fold.{fold, sameName}
 use Rattle.names.specs.Names.{userIdLength, isChannel, isServerId, isUserId}
 use Rattle.channel.specs.declared.Member.{Member}
 use Rattle.channel.specs.declared.Record.{Record}
@@ -24,7 +25,7 @@ use Rattle.channel.specs.Key.{isKey, greater}
 use Rattle.channel.specs.Channel.{Channel, member, byId}
 use Rattle.channel.specs.Record.{nobody, emptyRecord, encode, decode}
 use Rattle.channel.specs.WellFormed.{goodTime, goodModes, goodKey, goodLimit, goodMember, goodMembers, channelTests, inRoom, clear, wellFormed}
-use Rattle.channel.specs.Merging.{stands, bare, standing, merge}
+use Rattle.channel.specs.Merging.{stands, bare, standing, merge, mergeAnswer, combined}
 use Rattle.channel.specs.Members.{others, withMembers, without}
 use Rattle.channel.specs.Plain.{earliest, counts, entries, everyone, statusIn, statusAt, plain, spelled}
 use Rattle.channel.proofs.Letters.{has-no-mode, has-with}
@@ -34,6 +35,7 @@ use Rattle.channel.proofs.Records.{Sized, decode-encode, encode-decode}
 use Rattle.channel.proofs.Proper.{Proper, proper-says, proper-fits, encode-well, proper-merge, merge-well}
 use Rattle.channel.proofs.Plains.{everyone-same, merge-plain, plain-single, plain-same}
 use Rattle.channel.proofs.Merges.{Fair, folded, merge-comm, merge-self, folded-plain, merge-assoc, length-folded}
+use Rattle.channel.proofs.Answers.{combined-merge}
 use Rattle.channel.proofs.Removals.{without-well, without-members, without-lacks, without-has, without-status}
 use Rattle.channel.proofs.Examples.{2cd, 1ab, stored, incoming}
 
@@ -202,6 +204,11 @@ well c m = encode-well c (proper c m)
 merged-well : wellFormed (encode (merge (decode (encode stored)) (decode (encode incoming)))) ≡ true
 unfolding merge standing stands bare insert put unite compare encode decode padded stored incoming 1ab 2cd
 merged-well = merge-well (encode stored) (encode incoming) (well stored stored-in) (well incoming incoming-in) (omega arith)
+
+-- two such records merged without a test
+untested : combined (encode stored) (encode incoming) ≡ mergeAnswer (encode stored) (encode incoming)
+unfolding sameName fold sameBy within encode decode padded stored incoming
+untested = combined-merge (encode stored) (encode incoming) (well stored stored-in) (well incoming incoming-in) refl
 
 -- ---- a member removed
 -- the only member: the empty record

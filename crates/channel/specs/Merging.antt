@@ -8,7 +8,7 @@ use lib.ListN.{length}
 use lib.Dec.{eqb, ltb}
 use Rattle.refusal.specs.Numbers.{accepted, notWellFormed, badName, tooManyMembers}
 use Rattle.refusal.specs.Rules.{Rule, _when_, firstOf}
-use Rattle.ascending.specs.Ascending.{unite}
+use Rattle.ascending.specs.Ascending.{unite, onePass}
 use Rattle.names.specs.Fold.{sameName}
 use Rattle.channel.specs.declared.Member.{Member}
 use Rattle.channel.specs.declared.Record.{Record}
@@ -35,8 +35,9 @@ bare l = map (λ m. member (m .id) 0) l
 unfoldable pub standing : ℕ → Channel → List Member
 standing time c = cond (stands time c) (c .members) (bare (c .members))
 
-unfoldable pub merge : Channel → Channel → Channel
-merge a b =
+-- two channels merged, `union` giving the members of both sides
+abbrev pub mergeBy : (List Member → List Member → List Member) → Channel → Channel → Channel
+mergeBy union a b =
     let time : ℕ = min (a .time) (b .time) in
     record {
       name = a .name;
@@ -44,20 +45,37 @@ merge a b =
       modes = bitOr (given 0 (λ c. c .modes) time a) (given 0 (λ c. c .modes) time b);
       key = greater (given [] (λ c. c .key) time a) (given [] (λ c. c .key) time b);
       limit = max (given 0 (λ c. c .limit) time a) (given 0 (λ c. c .limit) time b);
-      members = unite byId (standing time a) (standing time b);
+      members = union (standing time a) (standing time b);
     }
 
--- ---- of two whole records: the numbers 1, 16 and 22, and the answer
+unfoldable pub merge : Channel → Channel → Channel
+merge a b = mergeBy (unite byId) a b
+
+-- ---- of two whole records
+-- the number of the first rule that applies, and the first record as given; or the record of the merged channel
+abbrev pub answered : List Rule → Record → Channel → Merged
+answered rules a c = record {
+  number = firstOf rules;
+  result = cond (eqb (firstOf rules) accepted) (encode c) a;
+}
+
+-- number 22
+abbrev pub roomRules : Channel → List Rule
+roomRules c = tooManyMembers when ltb memberLimit (length (c .members)) ∷ []
+
+-- the numbers 1, 16 and 22
 unfoldable pub mergeRules : Record → Record → List Rule
 mergeRules a b =
     notWellFormed when not (wellFormed a && wellFormed b)
     ∷ badName when not (sameName (decode a .name) (decode b .name))
-    ∷ tooManyMembers when ltb memberLimit (length (merge (decode a) (decode b) .members))
-    ∷ []
+    ∷ roomRules (merge (decode a) (decode b))
 
--- a refused merge answers its first record as given
 unfoldable pub mergeAnswer : Record → Record → Merged
-mergeAnswer a b = record {
-  number = firstOf (mergeRules a b);
-  result = cond (eqb (firstOf (mergeRules a b)) accepted) (encode (merge (decode a) (decode b))) a;
-}
+mergeAnswer a b = answered (mergeRules a b) a (merge (decode a) (decode b))
+
+-- the same of records that are known to be well formed and of one channel, which nothing tests again. For any others it is what one pass over the members
+-- of both makes of them, as they stand.
+unfoldable pub combined : Record → Record → Merged
+combined a b =
+    let c : Channel = mergeBy (onePass byId) (decode a) (decode b) in
+    answered (roomRules c) a c

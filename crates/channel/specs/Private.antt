@@ -9,12 +9,14 @@ use Rattle.octets.specs.declared.Order.{Order}
 use Rattle.octets.specs.declared.Order.the-variants.{Less, Same, More}
 use Rattle.laws.specs.Lists.{padded}
 use Rattle.ascending.specs.Ascending.{ascends}
+use Rattle.names.specs.Names.{nameLimit}
 use Rattle.channel.specs.declared.Member.{Member}
 use Rattle.channel.specs.declared.Record.{Record}
 use Rattle.channel.specs.declared.Roster.{Roster}
 use Rattle.channel.specs.declared.Merged.{Merged}
 use Rattle.channel.specs.declared.merging.Settings.{Settings}
 use Rattle.channel.specs.declared.merging.Key.{Key}
+use Rattle.channel.specs.declared.merging.Name.{Name}
 use Rattle.channel.specs.declared.merging.Taken.{Taken}
 use Rattle.channel.specs.Limits.{memberLimit, keyLimit}
 use Rattle.channel.specs.Channel.{member, byId}
@@ -52,6 +54,10 @@ settingsOf counts modes len limit = record { modes = cond counts modes 0; «key_
 -- a key in its room
 unfoldable pub keyOf : List ℕ → Key
 keyOf k = record { bytes = padded keyLimit 0 k; len = length k }
+
+-- a name in its room
+unfoldable pub nameOf : List ℕ → Name
+nameOf s = record { bytes = padded nameLimit 0 s; len = length s }
 
 -- what is taken of two members, by how the first one's id stands to the second's
 unfoldable pub takenFrom : Order → Member → Member → Taken

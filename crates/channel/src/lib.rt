@@ -2,7 +2,7 @@
 // Any record is taken; those that aren't well formed are refused, or answered by the definition that the contract cites.
 pub mod key;
 pub mod members;
-mod merging;
+pub mod merging;
 pub mod modes;
 mod well;
 
@@ -14,7 +14,7 @@ ghost use Rattle.channel.specs.Record.{emptyRecord};
 ghost use Rattle.channel.specs.WellFormed.{wellFormed, isBlank};
 ghost use Rattle.channel.specs.Merging.{mergeAnswer};
 use members::vacant;
-use merging::merged;
+use merging::combine;
 use merging::refused;
 use names::NAME_LIMIT;
 use names::USER_ID;
@@ -204,5 +204,5 @@ pub fn merge(a: Record, b: Record) -> Merged
     if !equal(part(&name, 0, a.name_len), part(&other, 0, b.name_len)) {
         return refused(BAD_NAME, a);
     }
-    merged(a, b)
+    combine(a, b)
 }

@@ -37,7 +37,7 @@ pub fn vacant() -> [Member; Record::MEMBERS]
 }
 
 // A number of members, or all that there is room for where it is more.
-fn within(n: usize) -> usize
+pub(crate) fn within(n: usize) -> usize
     ensures { λ r. ⌜ r ≡ min n memberLimit ⌝ }
 {
     if n < Record::MEMBERS {

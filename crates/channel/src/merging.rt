@@ -1,25 +1,22 @@
 // Two records merged: what each side gives at the earlier of the two times, and the members of both united in one pass.
 ghost use mathlib.Core.Path.{_≡_};
-ghost use mathlib.Core.Bool.{true};
 ghost use mathlib.Core.List.{map, _++_};
 ghost use Prim.Native.Nat.{_≤_, suc, min, max};
 ghost use lib.ListN.{take, drop};
 ghost use Rattle.octets.specs.Order.{compare};
-ghost use Rattle.ascending.specs.Ascending.{ascends, unite};
-ghost use Rattle.names.specs.Fold.{sameName};
+ghost use Rattle.ascending.specs.Ascending.{onePass};
 ghost use Rattle.channel.specs.Limits.{memberLimit};
 ghost use Rattle.channel.specs.Key.{greater};
 ghost use Rattle.channel.specs.Channel.{byId};
-ghost use Rattle.channel.specs.Record.{decode};
-ghost use Rattle.channel.specs.WellFormed.{wellFormed};
-ghost use Rattle.channel.specs.Merging.{mergeAnswer};
-ghost use Rattle.channel.specs.Private.{Held, Fills, answerOf, asGiven, takenFrom, settingsOf, keyOf};
+ghost use Rattle.channel.specs.Merging.{combined};
+ghost use Rattle.channel.specs.Private.{Held, Fills, answerOf, asGiven, takenFrom, settingsOf, keyOf, nameOf};
 use crate::Member;
 use crate::Merged;
 use crate::Record;
 use crate::Roster;
 use crate::key::greater_key;
 use crate::members::vacant;
+use crate::members::within;
 use names::compare_ids;
 use octets::Order;
 use octets::part;
@@ -37,6 +34,12 @@ struct Settings {
 // A key in its room.
 struct Key {
     bytes: [u8; Record::KEY],
+    len: usize,
+}
+
+// A name in its room.
+struct Name {
+    bytes: [u8; Record::NAME],
     len: usize,
 }
 
@@ -99,6 +102,15 @@ fn greatest(a: [u8; Record::KEY], m: usize, b: [u8; Record::KEY], n: usize) -> K
     let mut bytes = [0u8; Record::KEY];
     let len = put(&mut bytes, 0, greater_key(part(&a, 0, m), part(&b, 0, n)));
     Key { bytes, len }
+}
+
+// The first n bytes of a name, in room that is zero behind them. A well-formed record's name stands so already.
+fn front(name: [u8; Record::NAME], n: usize) -> Name
+    ensures { λ r. ⌜ r ≡ nameOf (take n name) ⌝ }
+{
+    let mut bytes = [0u8; Record::NAME];
+    let len = put(&mut bytes, 0, part(&name, 0, n));
+    Name { bytes, len }
 }
 
 // A member as its side gives it: without status unless the side counts.
@@ -180,7 +192,7 @@ fn with_rest(
     }
 }
 
-// The first m of a and the first n of b, which ascend, united in one pass over both.
+// The first m of a and the first n of b, united in one pass over both.
 fn united(
     a: [Member; Record::MEMBERS],
     m: usize,
@@ -190,8 +202,7 @@ fn united(
     second: bool,
 ) -> Roster
     requires { ⌜ (m ≤ memberLimit) × (n ≤ memberLimit) ⌝ }
-    requires { ⌜ (ascends byId (take m a) ≡ true) × (ascends byId (take n b) ≡ true) ⌝ }
-    ensures { λ r. ⌜ Fills r (unite byId (map (asGiven first) (take m a)) (map (asGiven second) (take n b))) ⌝ }
+    ensures { λ r. ⌜ Fills r (onePass byId (map (asGiven first) (take m a)) (map (asGiven second) (take n b))) ⌝ }
 {
     let mut list = vacant();
     let mut count = 0;
@@ -216,17 +227,24 @@ fn united(
     with_rest(list, count, b, j, n, second)
 }
 
-// Two well-formed records of one channel merged, unless there are too many members.
-pub(crate) fn merged(a: Record, b: Record) -> Merged
-    requires { ⌜ (wellFormed a ≡ true) × (wellFormed b ≡ true) × (sameName (decode a .name) (decode b .name) ≡ true) ⌝ }
-    ensures { λ r. ⌜ r ≡ mergeAnswer a b ⌝ }
+// Two records merged that are known to be well formed and of one channel: neither is tested again. Refused where more members would result than a record has
+// room for. Any others are taken too: of counts and lengths only what there is room for counts, and members are united as they stand.
+pub fn combine(a: Record, b: Record) -> Merged
+    ensures { λ r. ⌜ r ≡ combined a b ⌝ }
 {
     let time = earlier(a.time, b.time);
     let first = a.time == time;
     let second = b.time == time;
     let members = a.members;
     let others = b.members;
-    let all = united(members, a.count, first, others, b.count, second);
+    let all = united(
+        members,
+        within(a.count),
+        first,
+        others,
+        within(b.count),
+        second,
+    );
     if Record::MEMBERS < all.count {
         return refused(TOO_MANY_MEMBERS, a);
     }
@@ -235,12 +253,14 @@ pub(crate) fn merged(a: Record, b: Record) -> Merged
     let own = a.key;
     let other = b.key;
     let key = greatest(own, x.key_len, other, y.key_len);
-    let name = a.name;
+    let held = a.name;
+    let name = front(held, a.name_len);
+    let spelling = name.bytes;
     let bytes = key.bytes;
     let list = all.list;
     let result = Record {
-        name,
-        name_len: a.name_len,
+        name: spelling,
+        name_len: name.len,
         time,
         modes: x.modes | y.modes,
         key: bytes,

@@ -1,4 +1,4 @@
--- `merge` meets its contract: the refusals come in the order of the rules. Assumes nothing.
+-- `merge` meets its contract: the refusals come in the order of the rules, and what is left needs no test. Assumes nothing.
 use mathlib.Core.Path.{_≡_, sym, ap₂, _∙_}
 use mathlib.Core.Bool.{true, _&&_}
 use borrow.Author.Needs.{needs}
@@ -8,7 +8,7 @@ use Rattle.names.specs.Fold.{sameName}
 use Rattle.channel.specs.declared.Record.{Record}
 use Rattle.channel.specs.Record.{decode}
 use Rattle.channel.specs.WellFormed.{wellFormed}
-use Rattle.channel.proofs.Answers.{answer-ill, answer-name}
+use Rattle.channel.proofs.Answers.{answer-ill, answer-name, combined-merge}
 use Rattle.channel.proofs.merge.Statement.{statement}
 use Rattle.channel.proofs.merge.Tie as tie
 
@@ -84,11 +84,13 @@ returns-3 c =
     let p = c .before .before in
     c .refused3 .ensures ∙ sym (answer-name (one p) (other p) (both (passed p)) (sym (names p) ∙ not-true _ (c .before .if3 .taken)))
 
-merged-requires : tie.Need-merged-requires
-merged-requires c κs = let p = c .before in (first (passed p .before .before), second (passed p), sym (names p) ∙ not-false _ (c .if3 .left))
+combine-requires : tie.Need-combine-requires
+combine-requires c κs = search needs
 
 returns-4 : tie.Need-returns-4
-returns-4 c = search needs
+returns-4 c =
+    let p = c .before .before in
+    c .combine .ensures ∙ combined-merge (one p) (other p) (first (passed p .before .before)) (second (passed p)) (sym (names p) ∙ not-false _ (c .before .if3 .left))
 
 pub merge-spec : {M : Type 1} → statement M
 merge-spec =
@@ -107,5 +109,5 @@ merge-spec =
     equal-requires
     refused-requires-3
     returns-3
-    merged-requires
+    combine-requires
     returns-4)

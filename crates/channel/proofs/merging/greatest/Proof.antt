@@ -1,23 +1,18 @@
 -- `greatest` meets its contract: the greater key fits its room, and is put at the front of it. Assumes nothing.
-use mathlib.Core.Path.{_≡_, refl, sym, ap, ap₂, _∙_}
+use mathlib.Core.Path.{_≡_, refl, ap, ap₂, _∙_}
 use mathlib.Core.Bool.{Bool, true, false, cond}
 use mathlib.Core.List.{List}
 use Prim.Native.Nat.{ℕ, _≤_}
 use native.Mathlib.Omega.{arith}
-use lib.ListN.{length, take, replicate, length-take}
-use lib.Seq.{sets-eq}
+use lib.ListN.{length, take, length-take}
 use denote.Ref.{RefT, now}
 use borrow.Author.Needs.{needs}
-use Rattle.laws.specs.Lists.{padded}
 use Rattle.octets.specs.Order.{compare, isLess}
-use Rattle.octets.specs.Room.{putAt, endOf}
-use Rattle.laws.proofs.Lists.{sets-padded}
-use Rattle.octets.proofs.Room.{part-front, put-fits, end-fits}
-use Rattle.channel.specs.declared.merging.Key.{Key}
+use Rattle.octets.proofs.Room.{part-front}
 use Rattle.channel.specs.Limits.{keyLimit}
 use Rattle.channel.specs.Key.{greater}
-use Rattle.channel.specs.Private.{keyOf}
 use Rattle.channel.proofs.Keys.{greater-is}
+use Rattle.channel.proofs.Rooms.{key-put}
 use Rattle.channel.proofs.merging.greatest.Statement.{statement}
 use Rattle.channel.proofs.merging.greatest.Tie as tie
 
@@ -29,20 +24,6 @@ bytes-of false x y = refl
 chosen : (r x y : RefT (List ℕ)) → r ≡ cond (isLess (compare (now x) (now y))) y x → now r ≡ greater (now x) (now y)
 unfolding greater
 chosen r x y e = ap now e ∙ bytes-of (isLess (compare (now x) (now y))) y x
-
-held : {bytes : List ℕ} {len : ℕ} (k : List ℕ) → bytes ≡ padded keyLimit 0 k → len ≡ length k → _≡_ {A = Key} (record { bytes = bytes; len = len }) (keyOf k)
-unfolding keyOf
-held k e f = rw (e, f)
-
-abbrev zeros : List ℕ
-zeros = replicate keyLimit 0
-
-module _ (k : List ℕ) (h : length k ≤ keyLimit) where
-  put-key : putAt zeros 0 k ≡ padded keyLimit 0 k
-  put-key = put-fits zeros 0 k (omega arith) ∙ sym (sets-eq k zeros 0 (omega arith)) ∙ sets-padded 0 keyLimit k
-
-  end-key : endOf zeros 0 k ≡ length k
-  end-key = end-fits zeros 0 k (omega arith) ∙ omega arith
 
 slice-aggregate-put : tie.Need-slice-aggregate-put
 slice-aggregate-put c = search needs
@@ -69,7 +50,6 @@ lengths : (c : tie.After-bytes) → (length (c .before .args .t1) ≡ keyLimit) 
 lengths c = (search needs, search needs)
 
 returns : tie.Need-returns
-unfolding keyOf
 returns c =
     let p = c .before .before in
     let a = p .before .before .before .before .before .before .args in
@@ -78,7 +58,7 @@ returns c =
     let e : now (p .greater-key .result) ≡ greater (take (a .m) (a .t1)) (take (a .n) (a .t3)) = chosen _ _ _ (p .greater-key .ensures) ∙ ap₂ greater first second in
     let l = lengths (p .before .before .before .before .before) in
     let h = greater-is (λ (k : List ℕ). length k ≤ keyLimit) (take (a .m) (a .t1)) (take (a .n) (a .t3)) (omega (arith, length-take (a .m) (a .t1))) (omega (arith, length-take (a .n) (a .t3))) in
-    held _ (c .before .put .ensures .1 ∙ ap (putAt zeros 0) e ∙ put-key _ h) (c .before .put .ensures .0 ∙ ap (endOf zeros 0) e ∙ end-key _ h)
+    key-put _ h e (c .before .put .ensures .1) (c .before .put .ensures .0)
 
 pub greatest-spec : {M : Type 1} → statement M
 greatest-spec =

@@ -1,4 +1,4 @@
--- `united` meets its contract. The invariant: what the list has, with the union of those from i and j on, comes to the whole union.
+-- `united` meets its contract. The invariant: what the list has, with the pass over those from i and j on, comes to the whole pass.
 -- Assumes nothing.
 use mathlib.Core.Path.{refl}
 use mathlib.Core.Logic.{⊎-elim}
@@ -7,17 +7,17 @@ use native.Mathlib.Omega.{arith}
 use lib.ListN.{length, drop}
 use borrow.Author.Needs.{needs}
 use borrow.Author.Tests.{ltb-true, ltb-false}
-use Rattle.ascending.specs.Ascending.{unite}
+use Rattle.ascending.specs.Ascending.{onePass}
 use Rattle.channel.specs.Limits.{memberLimit}
 use Rattle.channel.specs.Channel.{byId}
 use Rattle.channel.specs.Record.{nobody}
-use Rattle.channel.proofs.Uniting.{Begun, begun-none, begun-holds, begun-step, begun-over, begun-rest, side, unite-step, unite-first, unite-second, taken-some}
+use Rattle.channel.proofs.Uniting.{Begun, begun-none, begun-holds, begun-step, begun-over, begun-rest, side, both-left, first-left, second-left, taken-some}
 use Rattle.channel.proofs.merging.united.Statement.{statement}
 use Rattle.channel.proofs.merging.united.Tie as tie
 
 abbrev Inv-loop : tie.InvT-loop
 Inv-loop m first n second a b list₀ count₀ i₀ j₀ list count i j =
-    Begun list count (unite byId (drop i (side first a m)) (drop j (side second b n))) (unite byId (side first a m) (side second b n)) × (i ≤ m) × (j ≤ n) × (count ≤ memberLimit)
+    Begun list count (onePass byId (drop i (side first a m)) (drop j (side second b n))) (onePass byId (side first a m) (side second b n)) × (i ≤ m) × (j ≤ n) × (count ≤ memberLimit)
 
 abbrev μ-loop : tie.MeasureT-loop
 μ-loop m first n second a b list₀ count₀ i₀ j₀ list count i j = m + n - (i + j)
@@ -32,8 +32,8 @@ loop-holds c = (begun-none _ _ (c .vacant .ensures), omega arith, omega arith, o
 lengths : (c : tie.After-vacant Inv-loop μ-loop) → (c .before .args .m ≤ length (c .before .args .t1)) × (c .before .args .n ≤ length (c .before .args .t4))
 lengths c = (search needs, search needs)
 
-both-left : (c : tie.Then1 Inv-loop μ-loop) → (c .before .before .loop .i < c .before .before .before .before .args .m) × (c .before .before .loop .j < c .before .before .before .before .args .n)
-both-left c = (c .before .loop-test .taken, ltb-true _ _ (c .if1 .taken))
+some-left : (c : tie.Then1 Inv-loop μ-loop) → (c .before .before .loop .i < c .before .before .before .before .args .m) × (c .before .before .loop .j < c .before .before .before .before .args .n)
+some-left c = (c .before .loop-test .taken, ltb-true _ _ (c .if1 .taken))
 
 taken-few : (c : tie.After-next-of Inv-loop μ-loop) → (c .next-of .result .first ≤ 1) × (c .next-of .result .second ≤ 1) × (1 ≤ c .next-of .result .first + c .next-of .result .second)
 taken-few c = rw (c .next-of .ensures) (taken-some _ _ _)
@@ -45,11 +45,10 @@ returns : tie.Need-returns Inv-loop μ-loop
 returns c =
     let a = c .before .before .before .before .before .before .args in
     let l = c .before .before .before .before .loop in
-    let b = both-left (c .before .before) in
+    let b = some-left (c .before .before) in
     let h = lengths (c .before .before .before .before .before) in
-    let p = c .before .before .before .before .before .before .pre in
     begun-over (l .list) (l .count) _ _ (l .inv .0) (c .over .result) _ _ (c .before .if2 .taken)
-    (unite-step (a .first) (a .second) (a .t1) (a .t4) (a .m) (a .n) (h .0) (h .1) (p .1 .1) (l .i) (l .j) nobody (b .0) (b .1) _ _ _ refl refl refl)
+    (both-left (a .first) (a .second) (a .t1) (a .t4) (a .m) (a .n) (h .0) (h .1) (l .i) (l .j) nobody (b .0) (b .1) _ _ _ refl refl refl)
     (c .over .ensures)
 
 mul-e : tie.Need-mul-e Inv-loop μ-loop
@@ -62,7 +61,7 @@ mul-d : tie.Need-mul-d Inv-loop μ-loop
 mul-d c = search needs
 
 array-copy-out-d : tie.Need-array-copy-out-d Inv-loop μ-loop
-array-copy-out-d c = let b = both-left (c .before .before) in search needs
+array-copy-out-d c = let b = some-left (c .before .before) in search needs
 
 as-given-requires : tie.Need-as-given-requires Inv-loop μ-loop
 as-given-requires c κs = search needs
@@ -83,7 +82,7 @@ add-i : tie.Need-add-i Inv-loop μ-loop
 add-i c = let t = taken-few (c .before .before) in search needs
 
 add-j : tie.Need-add-j Inv-loop μ-loop
-add-j c = let t = taken-few (c .before .before .before) in let b = both-left (c .before .before .before .before .before .before .before .before .before) in omega arith
+add-j c = let t = taken-few (c .before .before .before) in let b = some-left (c .before .before .before .before .before .before .before .before .before) in omega arith
 
 add-count : tie.Need-add-count Inv-loop μ-loop
 add-count c = search needs
@@ -91,7 +90,7 @@ add-count c = search needs
 loop-less : tie.Need-loop-less Inv-loop μ-loop
 loop-less c =
     let t = taken-few (c .before .before .before) in
-    let b = both-left (c .before .before .before .before .before .before .before .before .before) in
+    let b = some-left (c .before .before .before .before .before .before .before .before .before) in
     omega arith
 
 loop-again : tie.Need-loop-again Inv-loop μ-loop
@@ -99,20 +98,20 @@ loop-again c =
     let q = c .before .before .before in
     let t = taken-few q in
     let one = q .before .before .before .before .before .before in
-    let b = both-left one in
+    let b = some-left one in
     let l = one .before .before .loop in
     let v = one .before .before .before in
     let a = v .before .args in
     let h = lengths v in (
       begun-step (l .list) (l .count) _ _ (l .inv .0) (q .next-of .result .member) _
-          (unite-step (a .first) (a .second) (a .t1) (a .t4) (a .m) (a .n) (h .0) (h .1) (v .before .pre .1 .1) (l .i) (l .j) _ (b .0) (b .1) _ _ (q .next-of .result) (q .before .before .as-given .ensures) (q .before .as-given2 .ensures) (q .next-of .ensures)),
+          (both-left (a .first) (a .second) (a .t1) (a .t4) (a .m) (a .n) (h .0) (h .1) (l .i) (l .j) _ (b .0) (b .1) _ _ (q .next-of .result) (q .before .before .as-given .ensures) (q .before .as-given2 .ensures) (q .next-of .ensures)),
       omega arith,
       omega arith,
       omega (arith, l .inv .3, q .before .before .before .before .before .if2 .left),
     )
 
 with-rest-requires : tie.Need-with-rest-requires Inv-loop μ-loop
-with-rest-requires c κs = let l = c .before .before .loop in (begun-holds (l .list) (l .count) _ _ (l .inv .0) (l .inv .3), c .before .before .before .before .pre .0 .0)
+with-rest-requires c κs = let l = c .before .before .loop in (begun-holds (l .list) (l .count) _ _ (l .inv .0) (l .inv .3), c .before .before .before .before .pre .0)
 
 returns-2 : tie.Need-returns-2 Inv-loop μ-loop
 returns-2 c =
@@ -122,10 +121,10 @@ returns-2 c =
     let a = v .before .args in
     let h = lengths v in
     let e : a .n ≤ l .j = ⊎-elim (λ w. ltb-false _ _ (w .1 .left)) (λ w. absurd (omega (arith, w .left, c .before .if3 .taken))) (p .loop-test .came) in
-    begun-rest (l .list) (l .count) _ _ (l .inv .0) (c .with-rest .result) _ (l .inv .3) (unite-first (a .first) (a .second) (a .t1) (a .t4) (a .m) (a .n) (h .0) (h .1) (v .before .pre .1 .1) (l .i) (l .j) e) (c .with-rest .ensures)
+    begun-rest (l .list) (l .count) _ _ (l .inv .0) (c .with-rest .result) _ (l .inv .3) (first-left (a .first) (a .second) (a .t1) (a .t4) (a .m) (a .n) (h .0) (h .1) (l .i) (l .j) e) (c .with-rest .ensures)
 
 with-rest-requires-2 : tie.Need-with-rest-requires-2 Inv-loop μ-loop
-with-rest-requires-2 c κs = let l = c .before .before .loop in (begun-holds (l .list) (l .count) _ _ (l .inv .0) (l .inv .3), c .before .before .before .before .pre .0 .1)
+with-rest-requires-2 c κs = let l = c .before .before .loop in (begun-holds (l .list) (l .count) _ _ (l .inv .0) (l .inv .3), c .before .before .before .before .pre .1)
 
 returns-3 : tie.Need-returns-3 Inv-loop μ-loop
 returns-3 c =
@@ -134,7 +133,7 @@ returns-3 c =
     let v = p .before .before in
     let a = v .before .args in
     let h = lengths v in
-    begun-rest (l .list) (l .count) _ _ (l .inv .0) (c .with-rest2 .result) _ (l .inv .3) (unite-second (a .first) (a .second) (a .t1) (a .t4) (a .m) (a .n) (h .0) (h .1) (v .before .pre .1 .1) (l .i) (l .j) (c .before .if3 .left)) (c .with-rest2 .ensures)
+    begun-rest (l .list) (l .count) _ _ (l .inv .0) (c .with-rest2 .result) _ (l .inv .3) (second-left (a .first) (a .second) (a .t1) (a .t4) (a .m) (a .n) (h .0) (h .1) (l .i) (l .j) (c .before .if3 .left)) (c .with-rest2 .ensures)
 
 pub united-spec : {M : Type 1} → statement M
 united-spec =

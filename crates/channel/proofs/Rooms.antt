@@ -1,0 +1,27 @@
+-- Bytes put into room that is zero: a key, and a name. Assumes nothing.
+use mathlib.Core.Path.{_≡_, ap, _∙_}
+use mathlib.Core.List.{List}
+use Prim.Native.Nat.{ℕ, _≤_}
+use native.Mathlib.Omega.{arith}
+use lib.ListN.{length, replicate, length-replicate}
+use Rattle.laws.specs.Lists.{padded}
+use Rattle.octets.specs.Room.{putAt, endOf}
+use Rattle.octets.proofs.Room.{put-padded, end-fits}
+use Rattle.names.specs.Names.{nameLimit}
+use Rattle.channel.specs.declared.merging.Key.{Key}
+use Rattle.channel.specs.declared.merging.Name.{Name}
+use Rattle.channel.specs.Limits.{keyLimit}
+use Rattle.channel.specs.Private.{keyOf, nameOf}
+
+module _ (n : ℕ) (p : List ℕ) (h : length p ≤ n) where
+  end-put : endOf (replicate n 0) 0 p ≡ length p
+  end-put = end-fits (replicate n 0) 0 p (omega (arith, length-replicate {A = ℕ} n 0)) ∙ omega arith
+
+module _ {bytes s : List ℕ} {len : ℕ} (p : List ℕ) where
+  pub key-put : length p ≤ keyLimit → s ≡ p → bytes ≡ putAt (replicate keyLimit 0) 0 s → len ≡ endOf (replicate keyLimit 0) 0 s → _≡_ {A = Key} (record { bytes = bytes; len = len }) (keyOf p)
+  unfolding keyOf
+  key-put h e f g = rw (f, g, e, put-padded keyLimit p h, end-put keyLimit p h)
+
+  pub name-put : length p ≤ nameLimit → s ≡ p → bytes ≡ putAt (replicate nameLimit 0) 0 s → len ≡ endOf (replicate nameLimit 0) 0 s → _≡_ {A = Name} (record { bytes = bytes; len = len }) (nameOf p)
+  unfolding nameOf
+  name-put h e f g = rw (f, g, e, put-padded nameLimit p h, end-put nameLimit p h)
