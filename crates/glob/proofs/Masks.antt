@@ -1,21 +1,36 @@
 -- Laws of what a mask matches: after a run, and by the next byte of mask and text. Assumes nothing.
 use mathlib.Core.Path.{_≡_, refl, sym, _∙_}
-use mathlib.Core.Bool.{Bool, true, false, true≢false, or-true}
+use mathlib.Core.Bool.{Bool, true, false, true≢false, _||_, or-true}
 use mathlib.Core.List.{List, [], _∷_}
 use Prim.Native.Nat.{ℕ, _+_, _≤_, _<_}
 use native.Mathlib.Numerals.{add-one}
 use lib.ListN.{length, drop, getD, drop-of-length-le}
 use lib.Seq.{drop-drop}
-use borrow.Author.Tests.{eq-eqb, ne-eqb}
-use Rattle.refusal.specs.Rules.{ascend, ascendFrom, placeIn}
+use lib.Dec.{ltb}
+use borrow.Author.Tests.{eq-eqb, ne-eqb, le-ltb}
+use Rattle.refusal.specs.Numbers.{accepted, textTooLong}
+use Rattle.refusal.specs.Rules.{_when_, firstOf, ascend, ascendFrom, placeIn}
+use Rattle.refusal.proofs.Rules.{skip, stop, first-nil}
 use Rattle.laws.proofs.Bools.{and-right}
 use Rattle.laws.proofs.Lists.{drop-step}
-use Rattle.glob.specs.Mask.{star, matchesByte, firstThen, afterRun, matches, matchRules}
+use Rattle.glob.specs.Mask.{textLimit, star, matchesByte, firstThen, afterRun, matches, matchRules, answerFor}
 
 -- The rules stand in the order of their numbers: the first in it that applies is given.
 pub rules-ascend : (mask text : List ℕ) → ascend (matchRules mask text) ≡ true
 unfolding ascendFrom matchRules placeIn
 rules-ascend mask text = refl
+
+-- ---- what each test makes of the answer
+module _ (mask text : List ℕ) where
+  pub answers-long : (ltb textLimit (length mask) || ltb textLimit (length text)) ≡ true → record { number = textTooLong; yes = false } ≡ answerFor mask text
+  unfolding answerFor matchRules
+  answers-long e = rw (stop (textTooLong when (ltb textLimit (length mask) || ltb textLimit (length text))) [] e)
+
+  pub answers-within : length mask ≤ textLimit → length text ≤ textLimit → (t : Bool) → t ≡ matches mask text → record { number = accepted; yes = t } ≡ answerFor mask text
+  unfolding answerFor matchRules
+  answers-within m s t e =
+      let n : firstOf (matchRules mask text) ≡ accepted = skip _ _ (simp (le-ltb textLimit (length mask) m, le-ltb textLimit (length text) s)) ∙ first-nil in
+      rw (n, e)
 
 -- ---- after a run
 module _ (f : List ℕ → Bool) where

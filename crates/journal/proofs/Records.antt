@@ -1,16 +1,17 @@
 -- Laws of day-log records: link and line can be had back from a log that begins with one, and what each rule makes of the answer. Assumes nothing.
 use mathlib.Core.Path.{_≡_, refl, ap, _∙_}
 use mathlib.Core.Bool.{true}
-use mathlib.Core.List.{List, _++_}
+use mathlib.Core.List.{List, [], _∷_, _++_}
 use Prim.Native.Nat.{ℕ, _+_, _≤_, _<_}
 use native.Mathlib.Nat.{div-add-mod'}
 use native.Mathlib.Omega.{arith}
 use lib.ListN.{length}
 use lib.Seq.{take-append-seam}
+use lib.Dec.{ltb}
 use borrow.Author.Tests.{lt-ltb, le-ltb}
 use Rattle.refusal.specs.Numbers.{accepted, badLink, lineTooLong, noRoom}
-use Rattle.refusal.specs.Rules.{firstOf, emitted, ascend, ascendFrom, placeIn}
-use Rattle.refusal.proofs.Rules.{emitted-none, emitted-all}
+use Rattle.refusal.specs.Rules.{_when_, firstOf, emitted, ascend, ascendFrom, placeIn}
+use Rattle.refusal.proofs.Rules.{skip, stop, first-nil, emitted-none, emitted-all}
 use Rattle.octets.specs.Room.{putAt, front}
 use Rattle.octets.proofs.Room.{put-front, put-behind}
 use Rattle.links.specs.Links.{linkCount}
@@ -41,26 +42,27 @@ module _ (link : ℕ) (line log : List ℕ) where
 
   pub logs-no-link : linkCount ≤ link → (r : Logged) → r ≡ refusedBy badLink
       → (r ≡ answerFor link line log) × (log ≡ front (emitted (logRules link line log) (recordOf link line)) log)
-  unfolding logRules firstOf
-  logs-no-link h = answers-refused badLink (rw (le-ltb link linkCount h)) (λ q. omega arith)
+  unfolding logRules
+  logs-no-link h = answers-refused badLink (stop _ _ (rw (le-ltb link linkCount h))) (λ q. omega arith)
 
   module _ (known : link < linkCount) where
     pub logs-long : lineLimit < length line → (r : Logged) → r ≡ refusedBy lineTooLong
         → (r ≡ answerFor link line log) × (log ≡ front (emitted (logRules link line log) (recordOf link line)) log)
-    unfolding logRules firstOf
-    logs-long h = answers-refused lineTooLong (simp (lt-ltb link linkCount known, lt-ltb lineLimit (length line) h)) (λ q. omega arith)
+    unfolding logRules
+    logs-long h = answers-refused lineTooLong (skip _ _ (rw (lt-ltb link linkCount known)) ∙ stop _ _ (lt-ltb lineLimit (length line) h)) (λ q. omega arith)
 
     module _ (small : length line ≤ lineLimit) where
+      room-decides : firstOf (logRules link line log) ≡ firstOf (noRoom when ltb (length log) (length line + headLength) ∷ [])
+      unfolding logRules
+      room-decides = skip _ _ (rw (lt-ltb link linkCount known)) ∙ skip _ _ (le-ltb lineLimit (length line) small)
+
       pub logs-no-room : length log < length line + headLength → (r : Logged) → r ≡ refusedBy noRoom
           → (r ≡ answerFor link line log) × (log ≡ front (emitted (logRules link line log) (recordOf link line)) log)
-      unfolding logRules firstOf
-      logs-no-room h =
-          answers-refused noRoom (simp (lt-ltb link linkCount known, le-ltb lineLimit (length line) small, lt-ltb (length log) (length line + headLength) h)) (λ q. omega arith)
+      logs-no-room h = answers-refused noRoom (room-decides ∙ stop _ _ (lt-ltb (length log) (length line + headLength) h)) (λ q. omega arith)
 
       module _ (room : length line + headLength ≤ length log) where
         pub accepts : firstOf (logRules link line log) ≡ accepted
-        unfolding logRules firstOf
-        accepts = simp (lt-ltb link linkCount known, le-ltb lineLimit (length line) small, le-ltb (length log) (length line + headLength) room)
+        accepts = room-decides ∙ skip _ _ (le-ltb (length log) (length line + headLength) room) ∙ first-nil
 
         -- head and line, put one behind the other, are the record
         pub logs : (first next : List ℕ) → first ≡ putAt log 0 (headOf link line) → next ≡ putAt first headLength line

@@ -63,7 +63,7 @@ module _ (text : List ℕ) (m : Message) where
     param-span-none h = sym (List·getD-eq-default (take (m .count) (m .params)) (emptyAt (length text)) {n = k} h)
 
 -- ---- the spans of a line that keeps to the grammar
-pub each-same : (line : List ℕ) (ps : List Part) → Each (In line) ps → map (bytesAt line) (map spanOf ps) ≡ bytesOf ps
+each-same : (line : List ℕ) (ps : List Part) → Each (In line) ps → map (bytesAt line) (map spanOf ps) ≡ bytesOf ps
 each-same line [] e = refl
 each-same line (p ∷ ps) e = rw (e .0 .same, each-same line ps (e .1))
 
@@ -74,7 +74,7 @@ module _ (line : List ℕ) (few : length (params (bodyOf line)) ≤ paramLimit) 
   abbrev parts : Message
   parts = messageIn body (length line)
 
-  pub spans-are : take (parts .count) (parts .params) ≡ map spanOf (params body)
+  spans-are : take (parts .count) (parts .params) ≡ map spanOf (params body)
   unfolding messageIn
   spans-are =
       let n : length (map spanOf (params body)) ≡ length (params body) = length-map (params body) spanOf in
@@ -155,12 +155,13 @@ module _ (line : List ℕ) where
       go true h = param-at line (messageOf line) refl k (emptyAt (length line)) (ltb-true k paramLimit h)
       go false h = let past : paramLimit ≤ k = ltb-false k paramLimit h in rw (past-count k (omega (arith, count-few line)), param-past line k past) (empty-placed line)
 
-  -- So each begins where its span does.
-  pub prefix-start : startIn (length line) (prefixSpan (length line) (messageOf line)) ≡ messageOf line .prefix .start
-  prefix-start = ap (startIn (length line)) prefix-span ∙ placed-start line (messageOf line .prefix) _ (prefix-at line (messageOf line) refl)
+-- So each part begins where its span does.
+module _ (line : List ℕ) (m : Message) (is : m ≡ messageOf line) where
+  pub prefix-start : startIn (length line) (prefixSpan (length line) m) ≡ messageOf line .prefix .start
+  prefix-start = rw (is, prefix-span line) (placed-start line (messageOf line .prefix) _ (prefix-at line (messageOf line) refl))
 
-  pub command-start : startIn (length line) (messageOf line .command) ≡ messageOf line .command .start
-  command-start = placed-start line (messageOf line .command) _ (command-at line (messageOf line) refl)
+  pub command-start : startIn (length line) (m .command) ≡ messageOf line .command .start
+  command-start = rw is (placed-start line (messageOf line .command) _ (command-at line (messageOf line) refl))
 
-  pub param-start : (k : ℕ) → startIn (length line) (paramSpan (length line) (messageOf line) k) ≡ getD (messageOf line .params) k (emptyAt (length line)) .start
-  param-start k = ap (startIn (length line)) (param-span k) ∙ placed-start line (getD (messageOf line .params) k (emptyAt (length line))) _ (param-placed k)
+  pub param-start : (k : ℕ) → startIn (length line) (paramSpan (length line) m k) ≡ getD (messageOf line .params) k (emptyAt (length line)) .start
+  param-start k = rw (is, param-span line k) (placed-start line (getD (messageOf line .params) k (emptyAt (length line))) _ (param-placed line k))

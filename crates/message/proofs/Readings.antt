@@ -121,9 +121,9 @@ module _ (line : List ℕ) (h : isRead line ≡ true) where
   unfolding contentOf
   read-content = rw h
 
-  pub read-message : messageOf line ≡ messageIn (bodyOf line) (length line)
-  unfolding messageOf
-  read-message = rw h
+pub number-read : (line : List ℕ) → numberFor line ≡ accepted → isRead line ≡ true
+unfolding isRead
+number-read line e = eq-eqb (numberFor line) accepted e
 
 pub refused-number : (line : List ℕ) → isRead line ≡ false → numberFor line ≡ accepted → ⊥
 unfolding isRead
@@ -190,7 +190,7 @@ module _ (line : List ℕ) where
   number-long h = stop _ _ (lt-ltb lineLimit (length line) h)
 
   module _ (small : length line ≤ lineLimit) where
-    number-grammar : numberFor line ≡ firstOf (grammarRules line)
+    pub number-grammar : numberFor line ≡ firstOf (grammarRules line)
     unfolding numberFor lineRules
     number-grammar = skip _ _ (le-ltb lineLimit (length line) small)
 

@@ -1,15 +1,15 @@
 -- Laws of the writer's answers: what each rule makes of them, and what the scratch line holds when it is copied out. Assumes nothing.
 use mathlib.Core.Path.{_≡_, refl, sym, ap, _∙_}
 use mathlib.Core.Bool.{Bool, true, false}
-use mathlib.Core.List.{List, [], _∷_}
+use mathlib.Core.List.{List, []}
 use Prim.Native.Nat.{ℕ, _≤_, _<_}
 use native.Mathlib.Omega.{arith}
 use lib.ListN.{length, take}
-use lib.Dec.{leb, ltb}
-use borrow.Author.Tests.{lt-ltb, le-ltb, leb-true}
-use Rattle.refusal.specs.Numbers.{accepted, outputTooShort, unwritable, noRoom}
-use Rattle.refusal.specs.Rules.{Rule, _when_, firstOf, emitted}
-use Rattle.refusal.proofs.Rules.{skip, stop, first-nil, emitted-none, emitted-all}
+use lib.Dec.{leb}
+use borrow.Author.Tests.{leb-true}
+use Rattle.refusal.specs.Numbers.{accepted}
+use Rattle.refusal.specs.Rules.{Rule, firstOf, emitted}
+use Rattle.refusal.proofs.Rules.{emitted-none, emitted-all}
 use Rattle.octets.specs.Room.{putAt, front}
 use Rattle.octets.specs.Held.{Holds, Adds}
 use Rattle.laws.proofs.Bools.{and-left}
@@ -17,12 +17,10 @@ use Rattle.octets.proofs.Room.{put-front, holds-nothing}
 use Rattle.message.specs.declared.Message.{Message}
 use Rattle.message.specs.Grammar.{lineLimit, paramLimit}
 use Rattle.message.specs.Content.{Content}
-use Rattle.message.specs.Parts.{contentBy}
 use Rattle.writer.specs.declared.Written.{Written}
 use Rattle.writer.specs.Form.{written, withCommand}
-use Rattle.writer.specs.Writing.{writeRules, forwardRules, answerFor}
+use Rattle.writer.specs.Writing.{answerFor}
 use Rattle.writer.specs.Fit.{fit, cased, refusedBy}
-use Rattle.writer.proofs.Fitting.{fit-exactly}
 use Rattle.writer.proofs.Rounds.{capitals-length}
 
 -- ---- any rules
@@ -36,11 +34,11 @@ module _ (rules : List Rule) (w out : List ℕ) where
   unfolding answerFor
   answers-written e len n next f = rw (emitted-all rules w e, e, n) (refl, f)
 
--- the answer depends on the number and on what is written, not on the rules
-pub answers-same : (rules others : List Rule) → firstOf rules ≡ firstOf others → (w v out : List ℕ) → w ≡ v → (r : Written) (next : List ℕ)
+-- Where none of some rules applies, and none of others, both answer the same.
+pub answers-same : (rules others : List Rule) → firstOf rules ≡ accepted → firstOf others ≡ accepted → (w v out : List ℕ) → w ≡ v → (r : Written) (next : List ℕ)
     → (r ≡ answerFor rules w) × (next ≡ front (emitted rules w) out) → (r ≡ answerFor others v) × (next ≡ front (emitted others v) out)
-unfolding answerFor emitted
-answers-same rules others e w v out f r next h = rw (← e, ← f) h
+unfolding answerFor
+answers-same rules others e f w v out is r next h = rw (emitted-all others v f, f, ← is) (rw (emitted-all rules w e, e) at h)
 
 -- ---- a message of spans
 -- the command in capitals or not, the line is as long
@@ -49,36 +47,9 @@ unfolding withCommand
 cased-length true d = capitals-length d
 cased-length false d = refl
 
-module _ (text : List ℕ) (m : Message) (out : List ℕ) where
-  pub write-short : length out < lineLimit → firstOf (writeRules text m out) ≡ outputTooShort
-  unfolding writeRules
-  write-short h = stop _ _ (lt-ltb (length out) lineLimit h)
-
-  module _ (room : lineLimit ≤ length out) where
-    pub write-unfit : fit text m ≡ false → firstOf (writeRules text m out) ≡ unwritable
-    unfolding writeRules
-    write-unfit e = skip _ _ (le-ltb (length out) lineLimit room) ∙ stop _ _ (rw (sym (fit-exactly text m) ∙ e))
-
-    module _ (ok : fit text m ≡ true) where
-      write-fit : firstOf (writeRules text m out) ≡ firstOf (noRoom when ltb lineLimit (length (written (contentBy text m))) ∷ [])
-      unfolding writeRules
-      write-fit = skip _ _ (le-ltb (length out) lineLimit room) ∙ skip _ _ (rw (sym (fit-exactly text m) ∙ ok))
-
-      pub write-long : lineLimit < length (written (contentBy text m)) → firstOf (writeRules text m out) ≡ noRoom
-      write-long h = write-fit ∙ stop _ _ (lt-ltb lineLimit (length (written (contentBy text m))) h)
-
-      pub write-accepts : length (written (contentBy text m)) ≤ lineLimit → firstOf (writeRules text m out) ≡ accepted
-      write-accepts h = write-fit ∙ skip _ _ (le-ltb lineLimit (length (written (contentBy text m))) h) ∙ first-nil
-
 pub fit-count : (text : List ℕ) (m : Message) → fit text m ≡ true → m .count ≤ paramLimit
 unfolding fit
 fit-count text m e = leb-true (m .count) paramLimit (and-left (leb (m .count) paramLimit) _ e)
-
--- ---- a line passed on
-module _ (line out : List ℕ) where
-  pub forward-short : length out < lineLimit → firstOf (forwardRules line out) ≡ outputTooShort
-  unfolding forwardRules
-  forward-short h = stop _ _ (lt-ltb (length out) lineLimit h)
 
 -- ---- the scratch line
 -- A text put into an empty line: its end is past the line exactly if it is too long, and else it stands at the front.

@@ -3,6 +3,7 @@ pub mod Parts
 pub mod Words
 pub mod Trips
 pub mod Fitting
+pub mod Rules
 pub mod Lengths
 pub mod Rounds
 pub mod Shorter

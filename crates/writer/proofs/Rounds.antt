@@ -4,58 +4,44 @@
 -- (`Fitting`), and no line that holds a message is shorter than the fixed form (`Lengths`). Assumes nothing.
 use mathlib.Core.Path.{_≡_, refl, sym, ap, _∙_}
 use mathlib.Core.Bool.{Bool, true, not, _&&_, _||_, or-true}
-use mathlib.Core.List.{List, [], _∷_, map}
-use Prim.Native.Nat.{ℕ, _-_, _≤_}
+use mathlib.Core.List.{List, map}
+use Prim.Native.Nat.{ℕ, _≤_, _<_}
 use native.Mathlib.Omega.{arith}
-use lib.ListN.{length, length-append, length-map}
+use lib.ListN.{length, take, getD, length-append, length-map, length-take}
+use lib.Seq.{getD-take}
 use lib.Dec.{leb}
-use borrow.Author.Tests.{le-leb, le-ltb, ltb-false, not-false}
+use borrow.Author.Tests.{le-leb, ltb-false, not-false}
 use Rattle.refusal.specs.Numbers.{accepted}
-use Rattle.refusal.specs.Rules.{firstOf, ascend, ascendFrom, placeIn}
+use Rattle.refusal.specs.Rules.{firstOf}
 use Rattle.refusal.proofs.Rules.{first-none}
 use Rattle.octets.specs.Bytes.{capital}
 use Rattle.laws.specs.Lists.{all}
 use Rattle.laws.proofs.Bools.{and-left, and-right, and-intro}
+use Rattle.laws.proofs.Lists.{at-all}
 use Rattle.octets.proofs.Bytes.{capitals-twice}
 use Rattle.message.specs.declared.Span.{Span}
 use Rattle.message.specs.declared.Message.{Message}
-use Rattle.message.specs.Grammar.{Part, lineLimit, paramLimit, hasPrefix, prefix, command, isCommand, params}
+use Rattle.message.specs.Grammar.{lineLimit, paramLimit, prefix, command, isCommand, params}
 use Rattle.message.specs.Content.{Content, contentIn}
-use Rattle.message.specs.Parts.{spanOf, messageIn, contentBy}
-use Rattle.message.specs.Reading.{crlf, bodyOf, bodyRules, lineRules, numberFor, isRead, contentOf, messageOf}
-use Rattle.message.proofs.Places.{Placed, Each, In, prefix-in-line, command-in-line, params-in-line}
-use Rattle.message.proofs.Readings.{Formed, ends-long, body-length, read-small, read-formed, read-content, read-message}
-use Rattle.message.proofs.Held.{spans-are, message-holds}
+use Rattle.message.specs.Parts.{emptyAt, contentBy}
+use Rattle.message.specs.Reading.{crlf, bodyOf, isRead, contentOf, messageOf}
+use Rattle.message.proofs.Places.{Placed}
+use Rattle.message.proofs.Readings.{Formed, ends-long, body-length, number-grammar, number-read, read-small, read-formed, read-content, prefix-at, command-at, param-at, count-few}
+use Rattle.message.proofs.Held.{message-holds}
 use Rattle.writer.specs.Form.{writtenBody, written, readsBack, liesIn, lies, withCommand, inCapitals}
-use Rattle.writer.specs.Writing.{writeRules, forwardRules, forwarded}
-use Rattle.writer.specs.Fit.{goodSource, goodParams, good}
+use Rattle.writer.specs.Writing.{writeRules, forwarded}
+use Rattle.writer.specs.Fit.{goodSource, goodParams, good, fit}
 use Rattle.writer.proofs.Words.{command-long, command-capital}
 use Rattle.writer.proofs.Trips.{good-command}
-use Rattle.writer.proofs.Fitting.{formed-good, good-form, good-exactly}
+use Rattle.writer.proofs.Fitting.{formed-good, good-form, good-exactly, fit-exactly}
+use Rattle.writer.proofs.Rules.{write-accepts}
 use Rattle.writer.proofs.Lengths.{body-short}
-
--- ---- the numbers
--- The numbers of a message that is to be written ascend: the lowest that applies is given.
-pub write-rules-ascend : (text : List ℕ) (m : Message) (out : List ℕ) → ascend (writeRules text m out) ≡ true
-unfolding ascendFrom writeRules placeIn
-write-rules-ascend text m out = refl
-
--- Those of a line that is to be passed on ascend too.
-pub forward-rules-ascend : (line out : List ℕ) → ascend (forwardRules line out) ≡ true
-unfolding ascendFrom forwardRules lineRules bodyRules placeIn
-forward-rules-ascend line out = refl
-
--- A line that is to be passed on gets the reader's number, if the output has room for a line.
-pub forward-number : (line out : List ℕ) → lineLimit ≤ length out → firstOf (forwardRules line out) ≡ numberFor line
-unfolding forwardRules firstOf numberFor
-forward-number line out room = rw (le-ltb (length out) lineLimit room)
 
 -- ---- the written form of a good message
 pub good-line : (d : Content) → good d ≡ true → length (written d) ≤ lineLimit → (isRead (written d) ≡ true) × (contentOf (written d) ≡ d)
-unfolding isRead numberFor lineRules firstOf
 good-line d ok h =
     let r = good-form d ok in
-    let q : isRead (written d) ≡ true = rw (le-ltb lineLimit (length (written d)) h, r .0) in
+    let q : isRead (written d) ≡ true = number-read (written d) (number-grammar (written d) h ∙ r .0) in
     (q, read-content (written d) q ∙ r .1)
 
 -- Reading what was written gives the message back.
@@ -69,56 +55,39 @@ written-reads text m out e =
     let ok : good (contentBy text m) ≡ true = good-exactly (contentBy text m) ∙ and-right (lies text m) (readsBack (contentBy text m)) (not-false _ (r24 .0)) in
     good-line (contentBy text m) ok (ltb-false lineLimit _ (r25 .0))
 
--- A message is written whose parts lie in the text and pass the tests, if the line and the output keep to their limits.
-pub good-writes : (text : List ℕ) (m : Message) (out : List ℕ) (d : Content) → lies text m ≡ true → contentBy text m ≡ d → good d ≡ true → length (written d) ≤ lineLimit → lineLimit ≤ length out
-    → firstOf (writeRules text m out) ≡ accepted
-unfolding writeRules firstOf
-good-writes text m out d l e ok short room = simp (le-ltb (length out) lineLimit room, l, e, sym (good-exactly d) ∙ ok, le-ltb lineLimit (length (written d)) short)
-
--- ---- the spans of a line that is read
+-- ---- the spans that the reader finds
 placed-lies : (s : List ℕ) (at : Span) (bytes : List ℕ) → Placed s at bytes → liesIn (length s) at ≡ true
 unfolding liesIn
 placed-lies s at bytes p = and-intro _ _ (le-leb (at .start) (at .end) (p .forward)) (le-leb (at .end) (length s) (p .inside))
 
-each-lies : (line : List ℕ) (ps : List Part) → Each (In line) ps → all (liesIn (length line)) (map spanOf ps) ≡ true
-unfolding all
-each-lies line [] e = refl
-each-lies line (p ∷ ps) e = and-intro _ _ (placed-lies line (spanOf p) (p .bytes) (e .0)) (each-lies line ps (e .1))
+module _ (line : List ℕ) where
+  spans-lie : all (liesIn (length line)) (take (messageOf line .count) (messageOf line .params)) ≡ true
+  spans-lie = at-all (liesIn (length line)) (take (messageOf line .count) (messageOf line .params)) (emptyAt (length line)) one
+    where
+      one : (k : ℕ) → k < length (take (messageOf line .count) (messageOf line .params)) → liesIn (length line) (getD (take (messageOf line .count) (messageOf line .params)) k (emptyAt (length line))) ≡ true
+      one k h =
+          let i : k < messageOf line .count = omega (arith, length-take (messageOf line .count) (messageOf line .params)) in
+          rw (getD-take (messageOf line .count) (messageOf line .params) k (emptyAt (length line)) i)
+          (placed-lies line _ _ (param-at line (messageOf line) refl k (emptyAt (length line)) (omega (arith, count-few line))))
 
-module _ (line : List ℕ) (few : length (params (bodyOf line)) ≤ paramLimit) where
-  abbrev body : List ℕ
-  body = bodyOf line
-
-  abbrev parts : Message
-  parts = messageIn body (length line)
-
-  prefix-lies : liesIn (length line) (parts .prefix) ≡ true
-  unfolding bodyOf
-  prefix-lies = placed-lies line _ _ (prefix-in-line line (length line - 2))
-
-  command-lies : liesIn (length line) (parts .command) ≡ true
-  unfolding bodyOf
-  command-lies = placed-lies line _ _ (command-in-line line (length line - 2))
-
-  params-lie : all (liesIn (length line)) (map spanOf (params body)) ≡ true
-  unfolding bodyOf
-  params-lie = each-lies line (params body) (params-in-line line (length line - 2))
-
-  parts-lie : lies line parts ≡ true
-  unfolding lies messageIn
-  parts-lie =
-      and-intro _ _ (le-leb (length (params body)) paramLimit few)
-      (and-intro (not (hasPrefix body) || liesIn (length line) (parts .prefix)) _ (rw prefix-lies (or-true (not (hasPrefix body))))
-      (and-intro _ _ command-lies (rw (spans-are line few) params-lie)))
+  -- The parts that the reader finds lie in the line.
+  message-lies : lies line (messageOf line) ≡ true
+  unfolding lies
+  message-lies =
+      let sourced = placed-lies line _ _ (prefix-at line (messageOf line) refl) in
+      and-intro _ _ (le-leb (messageOf line .count) paramLimit (count-few line))
+      (and-intro (not (messageOf line .«has_prefix») || liesIn (length line) (messageOf line .prefix)) _ (rw sourced (or-true (not (messageOf line .«has_prefix»))))
+      (and-intro _ _ (placed-lies line _ _ (command-at line (messageOf line) refl)) spans-lie))
 
 -- ---- a line that is read
 module _ (line : List ℕ) (h : isRead line ≡ true) where
-  -- The parts that the reader finds lie in the line.
-  message-lies : lies line (messageOf line) ≡ true
-  message-lies = rw (read-message line h) (parts-lie line (read-formed line h .few))
-
   content-good : good (contentOf line) ≡ true
   content-good = rw (read-content line h) (formed-good line (read-formed line h))
+
+  message-fit : fit line (messageOf line) ≡ true
+  message-fit =
+      fit-exactly line (messageOf line)
+      ∙ and-intro _ _ (message-lies line) (ap readsBack (message-holds line) ∙ sym (good-exactly (contentOf line)) ∙ content-good)
 
   -- the fixed form is no longer than the line
   pub content-short : length (written (contentOf line)) ≤ length line
@@ -137,7 +106,7 @@ pub read-writes : (line out : List ℕ) → isRead line ≡ true → lineLimit �
 read-writes line out h room =
     let d : Content = contentOf line in
     let short : length (written d) ≤ lineLimit = omega (arith, content-short line h, read-small line h) in (
-      good-writes line (messageOf line) out d (message-lies line h) (message-holds line) (content-good line h) short room,
+      write-accepts line (messageOf line) out room (message-fit line h) (rw (message-holds line) short),
       rw (message-holds line) (good-line d (content-good line h) short .1),
       rw (message-holds line) (content-short line h),
     )

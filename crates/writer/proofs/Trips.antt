@@ -12,6 +12,7 @@ use lib.Dec.{eqb}
 use borrow.Author.Tests.{ne-eqb, leb-true, le-ltb, not-true}
 use Rattle.refusal.specs.Numbers.{accepted}
 use Rattle.refusal.specs.Rules.{firstOf}
+use Rattle.refusal.proofs.Rules.{skip, first-nil}
 use Rattle.octets.specs.Bytes.{space, colon, isPlain, isNonSpace}
 use Rattle.laws.specs.Lists.{all, isNil, sameBy, startsWith}
 use Rattle.laws.proofs.Bools.{and-left, and-right}
@@ -218,8 +219,8 @@ module _ (d : Content) (ok : good d ≡ true) where
 
 -- ---- a good body has no refusal
 pub good-reads : (b : List ℕ) → good (contentIn b) ≡ true → firstOf (bodyRules b) ≡ accepted
-unfolding bodyRules firstOf contentIn goodSource
-good-reads b ok = simp (sourced, good-command (contentIn b) ok, le-ltb paramLimit (length (params b)) few)
+unfolding bodyRules contentIn goodSource
+good-reads b ok = skip _ _ sourced ∙ skip _ _ (rw (good-command (contentIn b) ok)) ∙ skip _ _ (le-ltb paramLimit (length (params b)) few) ∙ first-nil
   where
     few : length (params b) ≤ paramLimit
     few = omega (arith, good-few (contentIn b) ok, length-map (params b) (λ (x : Part). x .bytes))
@@ -242,5 +243,4 @@ module _ (b : List ℕ) where
   line-ends = rw (drop-at b crlf (length (b ++ crlf) - 2) (simp length-append (omega arith)))
 
   pub form-reads : all isPlain b ≡ true → isNil b ≡ false → firstOf (grammarRules (b ++ crlf)) ≡ firstOf (bodyRules b)
-  unfolding firstOf
-  form-reads p h = simp (line-ends, body-back, p, h)
+  form-reads p h = skip _ _ (rw line-ends) ∙ skip _ _ (rw (body-back, p)) ∙ skip _ _ (rw (body-back, h)) ∙ ap (λ (s : List ℕ). firstOf (bodyRules s)) body-back

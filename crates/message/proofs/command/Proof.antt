@@ -1,11 +1,8 @@
 -- `command` meets its contract: the span that `parts` gives lies in the line and has the command's bytes there. Assumes nothing.
 use mathlib.Core.Path.{ap, _∙_}
-use lib.ListN.{length}
 use borrow.Author.Needs.{needs}
-use Rattle.octets.specs.Room.{placeIn}
-use Rattle.message.specs.declared.Message.{Message}
 use Rattle.message.specs.Content.{Content}
-use Rattle.message.specs.Parts.{contentBy, startIn}
+use Rattle.message.specs.Parts.{contentBy}
 use Rattle.message.proofs.Held.{message-holds, command-start}
 use Rattle.message.proofs.command.Statement.{statement}
 use Rattle.message.proofs.command.Tie as tie
@@ -19,9 +16,9 @@ command-in-requires c κs = search needs
 returns : tie.Need-returns
 returns c =
     let a = c .before .before .before .args in
-    let is = c .before .parts .ensures in (
-      c .command-in .ensures .0 ∙ ap (λ (m : Message). contentBy (a .line .now) m .command) is ∙ ap (λ (x : Content). x .command) (message-holds (a .line .now)),
-      c .command-in .ensures .1 ∙ ap (λ (x : Message). placeIn (a .line) (startIn (length (a .line .now)) (x .command))) is ∙ ap (placeIn (a .line)) (command-start (a .line .now)),
+    let m = c .before .parts in (
+      c .command-in .ensures .0 ∙ ap (λ (x : Content). x .command) (ap (contentBy (a .line .now)) (m .ensures) ∙ message-holds (a .line .now)),
+      rw (← command-start (a .line .now) (m .result) (m .ensures)) (c .command-in .ensures .1),
     )
 
 pub command-spec : {M : Type 1} → statement M

@@ -1,12 +1,10 @@
 -- `param` meets its contract: the span that `parts` gives lies in the line and has the parameter's bytes there. Assumes nothing.
 use mathlib.Core.Path.{ap, _∙_}
 use mathlib.Core.List.{[]}
-use lib.ListN.{length, getD}
+use lib.ListN.{getD}
 use borrow.Author.Needs.{needs}
-use Rattle.octets.specs.Room.{placeIn}
-use Rattle.message.specs.declared.Message.{Message}
 use Rattle.message.specs.Content.{Content}
-use Rattle.message.specs.Parts.{contentBy, paramSpan, startIn}
+use Rattle.message.specs.Parts.{contentBy}
 use Rattle.message.proofs.Held.{message-holds, param-start}
 use Rattle.message.proofs.param.Statement.{statement}
 use Rattle.message.proofs.param.Tie as tie
@@ -20,9 +18,9 @@ param-in-requires c κs = search needs
 returns : tie.Need-returns
 returns c =
     let a = c .before .before .before .args in
-    let is = c .before .parts .ensures in (
-      c .param-in .ensures .0 ∙ ap (λ (m : Message). getD (contentBy (a .line .now) m .params) (a .k) []) is ∙ ap (λ (x : Content). getD (x .params) (a .k) []) (message-holds (a .line .now)),
-      c .param-in .ensures .1 ∙ ap (λ (x : Message). placeIn (a .line) (startIn (length (a .line .now)) (paramSpan (length (a .line .now)) x (a .k)))) is ∙ ap (placeIn (a .line)) (param-start (a .line .now) (a .k)),
+    let m = c .before .parts in (
+      c .param-in .ensures .0 ∙ ap (λ (x : Content). getD (x .params) (a .k) []) (ap (contentBy (a .line .now)) (m .ensures) ∙ message-holds (a .line .now)),
+      rw (← param-start (a .line .now) (m .result) (m .ensures) (a .k)) (c .param-in .ensures .1),
     )
 
 pub param-spec : {M : Type 1} → statement M

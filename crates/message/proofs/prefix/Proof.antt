@@ -2,12 +2,9 @@
 use mathlib.Core.Path.{ap, _∙_}
 use mathlib.Core.List.{[]}
 use mathlib.Core.Option.{Option·getD}
-use lib.ListN.{length}
 use borrow.Author.Needs.{needs}
-use Rattle.octets.specs.Room.{placeIn}
-use Rattle.message.specs.declared.Message.{Message}
 use Rattle.message.specs.Content.{Content}
-use Rattle.message.specs.Parts.{contentBy, prefixSpan, startIn}
+use Rattle.message.specs.Parts.{contentBy}
 use Rattle.message.proofs.Held.{message-holds, prefix-start}
 use Rattle.message.proofs.prefix.Statement.{statement}
 use Rattle.message.proofs.prefix.Tie as tie
@@ -21,9 +18,9 @@ prefix-in-requires c κs = search needs
 returns : tie.Need-returns
 returns c =
     let a = c .before .before .before .args in
-    let is = c .before .parts .ensures in (
-      c .prefix-in .ensures .0 ∙ ap (λ (m : Message). Option·getD (contentBy (a .line .now) m .prefix) []) is ∙ ap (λ (x : Content). Option·getD (x .prefix) []) (message-holds (a .line .now)),
-      c .prefix-in .ensures .1 ∙ ap (λ (x : Message). placeIn (a .line) (startIn (length (a .line .now)) (prefixSpan (length (a .line .now)) x))) is ∙ ap (placeIn (a .line)) (prefix-start (a .line .now)),
+    let m = c .before .parts in (
+      c .prefix-in .ensures .0 ∙ ap (λ (x : Content). Option·getD (x .prefix) []) (ap (contentBy (a .line .now)) (m .ensures) ∙ message-holds (a .line .now)),
+      rw (← prefix-start (a .line .now) (m .result) (m .ensures)) (c .prefix-in .ensures .1),
     )
 
 pub prefix-spec : {M : Type 1} → statement M

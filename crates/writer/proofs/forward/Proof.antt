@@ -13,8 +13,9 @@ use Rattle.message.specs.Reading.{isRead, numberFor}
 use Rattle.message.proofs.Readings.{reading-line, reading-refused, number-none, refused-number}
 use Rattle.writer.specs.Writing.{forwardRules, forwarded}
 use Rattle.writer.specs.Fit.{refusedBy}
-use Rattle.writer.proofs.Rounds.{forward-number, read-forwards}
-use Rattle.writer.proofs.Answers.{answers-refused, answers-same, forward-short}
+use Rattle.writer.proofs.Rules.{forward-number, forward-short}
+use Rattle.writer.proofs.Rounds.{read-forwards}
+use Rattle.writer.proofs.Answers.{answers-refused, answers-same}
 use Rattle.writer.proofs.forward.Statement.{statement}
 use Rattle.writer.proofs.forward.Tie as tie
 
@@ -72,7 +73,7 @@ returns-3 : tie.Need-returns-3
 returns-3 c =
     let p = c .before .before .before .before in
     let made = read-forwards (line p) (out p) (p .before .before .parse .result .message) (ap (λ (x : Parsed). x .message) (p .before .before .parse .ensures .0)) (reads p) (room p) in
-    answers-same _ (forwardRules (line p) (out p)) (made .0 ∙ sym (forward-number (line p) (out p) (room p) ∙ number-none (line p) (reads p))) _ (forwarded (line p)) (out p) (made .1) _ _
+    answers-same _ (forwardRules (line p) (out p)) (made .0) (forward-number (line p) (out p) (room p) ∙ number-none (line p) (reads p)) _ (forwarded (line p)) (out p) (made .1) _ _
     (c .before .before .forward-message .ensures)
 
 pub forward-spec : {M : Type 1} → statement M

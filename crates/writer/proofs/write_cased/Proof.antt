@@ -15,7 +15,8 @@ use Rattle.message.specs.Parts.{contentBy}
 use Rattle.writer.specs.Form.{written}
 use Rattle.writer.specs.Writing.{writeRules}
 use Rattle.writer.specs.Fit.{fit, cased}
-use Rattle.writer.proofs.Answers.{answers-refused, answers-written, write-short, write-unfit, write-long, write-accepts, cased-length, fit-count, over-long, ends-at, part-length, copied}
+use Rattle.writer.proofs.Rules.{write-short, write-unfit, write-long, write-accepts}
+use Rattle.writer.proofs.Answers.{answers-refused, answers-written, cased-length, fit-count, over-long, ends-at, part-length, copied}
 use Rattle.writer.proofs.write_cased.Statement.{statement}
 use Rattle.writer.proofs.write_cased.Tie as tie
 
