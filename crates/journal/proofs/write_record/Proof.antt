@@ -1,4 +1,5 @@
 -- `write_record` meets its contract: each refusal is the first rule that applies, and head and line together are the record. Assumes nothing.
+use native.Mathlib.Omega.{arith}
 use borrow.Author.Needs.{needs}
 use Rattle.journal.specs.Journal.{headOf}
 use Rattle.journal.proofs.Records.{logs-no-link, logs-long, logs-no-room, logs}
@@ -11,7 +12,7 @@ refused-requires c κs = search needs
 returns : tie.Need-returns
 returns c =
     let a = c .before .before .before .before .args in
-    logs-no-link (a .link) (a .line .now) (a .log .now) (c .before .if1 .taken) (c .refused .result) (c .refused .ensures)
+    logs-no-link (a .link) (a .line .now) (a .log .now) (omega (arith, c .before .if1 .taken)) (c .refused .result) (c .refused .ensures)
 
 refused-requires-2 : tie.Need-refused-requires-2
 refused-requires-2 c κs = search needs
@@ -19,7 +20,7 @@ refused-requires-2 c κs = search needs
 returns-2 : tie.Need-returns-2
 returns-2 c =
     let a = c .before .before .before .before .before .args in
-    logs-long (a .link) (a .line .now) (a .log .now) (c .before .before .if1 .left) (c .before .if2 .taken) (c .refused2 .result) (c .refused2 .ensures)
+    logs-long (a .link) (a .line .now) (a .log .now) (omega (arith, c .before .before .if1 .left)) (omega (arith, c .before .if2 .taken)) (c .refused2 .result) (c .refused2 .ensures)
 
 add-if3 : tie.Need-add-if3
 add-if3 c = search needs
@@ -30,7 +31,7 @@ refused-requires-3 c κs = search needs
 returns-3 : tie.Need-returns-3
 returns-3 c =
     let a = c .before .before .before .before .before .before .args in
-    logs-no-room (a .link) (a .line .now) (a .log .now) (c .before .before .before .if1 .left) (c .before .before .if2 .left) (c .before .if3 .taken) (c .refused3 .result) (c .refused3 .ensures)
+    logs-no-room (a .link) (a .line .now) (a .log .now) (omega (arith, c .before .before .before .if1 .left)) (omega (arith, c .before .before .if2 .left)) (omega (arith, c .before .if3 .taken)) (c .refused3 .result) (c .refused3 .ensures)
 
 cast-t9 : tie.Need-cast-t9
 cast-t9 c = search needs
@@ -62,7 +63,7 @@ returns-4 c =
     let put = c .before .before .before .before .before .before in
     let test = put .before .before .before in
     let a = test .before .before .before .before .before .args in
-    logs (a .link) (a .line .now) (a .log .now) (test .before .before .if1 .left) (test .before .if2 .left) (test .if3 .left) _ _ (put .put .ensures .1) (c .before .before .put2 .ensures .1)
+    logs (a .link) (a .line .now) (a .log .now) (omega (arith, test .before .before .if1 .left)) (omega (arith, test .before .if2 .left)) (omega (arith, test .if3 .left)) _ _ (put .put .ensures .1) (c .before .before .put2 .ensures .1)
 
 pub write-record-spec : {M : Type 1} → statement M
 write-record-spec =

@@ -75,13 +75,13 @@ returns-3 : tie.Need-returns-3
 returns-3 c =
     let p = c .before .before .before .before .before .before .before .before in
     body-refused (body p) (size p) (c .unread3 .result) tooManyParams
-    (body-many (body p) _ (parts p) (are p) (full (c .before .before .before .before .before .before)) (tested (c .before .before .before) ∙ not-false _ (c .before .before .if2 .left)) (c .before .if3 .taken))
+    (body-many (body p) _ (parts p) (are p) (full (c .before .before .before .before .before .before)) (tested (c .before .before .before) ∙ not-false _ (c .before .before .if2 .left)) (omega (arith, c .before .if3 .taken)))
     (λ q. omega arith) (c .unread3 .ensures)
 
 returns-4 : tie.Need-returns-4
 returns-4 c =
     let p = c .before .before .before .before .before .before .before in
-    body-reads (body p) _ (parts p) (are p) (full (c .before .before .before .before .before)) (tested (c .before .before) ∙ not-false _ (c .before .if2 .left)) (c .if3 .left)
+    body-reads (body p) _ (parts p) (are p) (full (c .before .before .before .before .before)) (tested (c .before .before) ∙ not-false _ (c .before .if2 .left)) (omega (arith, c .if3 .left))
 
 pub parse-body-spec : {M : Type 1} → statement M
 parse-body-spec =
