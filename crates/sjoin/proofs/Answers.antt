@@ -1,17 +1,18 @@
 -- The answer to a line: what `record_of` puts together is the record of its channel, and each answer is the number and the record that the rules give.
 -- Assumes nothing.
-use Prim.Native.Nat.{ℕ, _+_, _≤_}
-use mathlib.Core.Path.{_≡_, refl, sym, ap, _∙_}
+use Prim.Native.Nat.{ℕ, _+_, _-_, _≤_, min}
+use mathlib.Core.Path.{_≡_, sym, ap, _∙_}
 use mathlib.Core.Bool.{true, false}
 use mathlib.Core.List.{List, []}
 use native.Mathlib.Omega.{arith}
-use lib.ListN.{length, take, getD, length-map}
+use lib.ListN.{length, take, drop, getD, length-map, length-take, length-drop}
 use lib.Dec.{leb}
 use borrow.Author.Tests.{ne-eqb, leb-true}
 use Rattle.refusal.specs.Numbers.{accepted}
 use Rattle.refusal.specs.Rules.{firstOf}
 use Rattle.laws.specs.Lists.{padded}
 use Rattle.octets.specs.Decimals.{valueOf}
+use Rattle.octets.specs.Room.{part}
 use Rattle.laws.proofs.Bools.{and-left, and-right}
 use Rattle.laws.proofs.Lists.{take-padded}
 use Rattle.names.specs.Names.{nameLimit}
@@ -22,18 +23,19 @@ use Rattle.channel.specs.Limits.{keyLimit, memberLimit}
 use Rattle.channel.specs.Record.{nobody, encode}
 use Rattle.channel.specs.Members.{roster, ordered}
 use Rattle.message.specs.declared.Message.{Message}
-use Rattle.message.specs.Grammar.{lineLimit}
+use Rattle.message.specs.Grammar.{paramLimit}
 use Rattle.message.specs.Content.{Content}
-use Rattle.message.specs.Parts.{emptyAt}
+use Rattle.message.specs.Parts.{bytesAt, contentBy, paramSpan}
 use Rattle.message.specs.Reading.{numberFor, isRead, contentOf, messageOf}
 use Rattle.message.specs.Words.{wordsOf}
-use Rattle.message.proofs.Places.{placed-length}
-use Rattle.message.proofs.Readings.{refused-number, param-at}
+use Rattle.message.proofs.Readings.{read-small, refused-number}
+use Rattle.message.proofs.Held.{param-held, message-holds}
 use Rattle.sjoin.specs.declared.Told.{Told}
 use Rattle.sjoin.specs.Modes.{keyLetter, limitLetter, modesByte, argumentOf}
 use Rattle.sjoin.specs.Entries.{memberOf, named}
-use Rattle.sjoin.specs.Join.{timeIn, nameIn, modesIn, listIn, argumentsIn, fewest, most, goodCount, joinRules, channelIn, joinNumber, refusedBy, toldBy}
-use Rattle.sjoin.specs.Scan.{Parted}
+use Rattle.sjoin.specs.Join.{timeIn, nameIn, modesIn, listIn, argumentsIn, fewest, most, goodCount, joinRules, channelIn, told, spanRules, toldIn, joinNumber, toldBy}
+use Rattle.sjoin.specs.Scan.{Parted, refusedBy}
+use Rattle.sjoin.proofs.Judged.{span-rules}
 
 -- ---- the count of parameters
 pub bounds : (c : Content) → goodCount c ≡ true → (fewest ≤ length (c .params)) × (length (c .params) ≤ most)
@@ -42,24 +44,24 @@ bounds c h =
     let n = length (c .params) in
     (leb-true fewest n (and-left (leb fewest n) (leb n most) h), leb-true n most (and-right (leb fewest n) (leb n most) h))
 
+pub params-count : (text : List ℕ) (m : Message) → length (m .params) ≡ paramLimit → length (contentBy text m .params) ≡ min (m .count) paramLimit
+unfolding contentBy
+params-count text m e = length-map (take (m .count) (m .params)) (bytesAt text) ∙ length-take (m .count) (m .params) ∙ ap (min (m .count)) e
+
 -- ---- the list
-module _ (line : List ℕ) (last : ℕ) (count : length (contentOf line .params) ≡ last + 1) where
-  pub list-at : getD (contentOf line .params) last [] ≡ listIn (contentOf line)
-  list-at = ap (λ (n : ℕ). getD (contentOf line .params) n []) (omega (arith, count))
+pub list-at : (c : Content) (last : ℕ) → Parted c last → getD (c .params) last [] ≡ listIn c
+list-at c last p = ap (λ (n : ℕ). getD (c .params) n []) (omega (arith, p .count))
 
-  module _ (good : goodCount (contentOf line) ≡ true) where
-    pub parted : (m : Message) → m ≡ messageOf line → Parted line m last
-    parted m e = record {
-      spans = e;
-      behind = omega (arith, bounds (contentOf line) good .0, count);
-      room = omega (arith, bounds (contentOf line) good .1, count);
-      count = count;
-    }
+pub parted : (c : Content) (last : ℕ) → goodCount c ≡ true → length (c .params) ≡ last + 1 → Parted c last
+parted c last good count = record { behind = omega (arith, bounds c good .0, count); count = count }
 
-    pub list-small : length line ≤ lineLimit → length (listIn (contentOf line)) ≤ lineLimit
-    list-small h =
-        let n = placed-length line _ _ (param-at line (messageOf line) refl last (emptyAt (length line)) (parted (messageOf line) refl .room)) in
-        omega (arith, ap (λ (l : List ℕ). length l) list-at, n, h)
+-- a part is no longer than the text
+pub list-small : (text : List ℕ) (m : Message) → length (listIn (contentBy text m)) ≤ length text
+unfolding part
+list-small text m =
+    let k = length (contentBy text m .params) - 1 in
+    let s = paramSpan (length text) m k in
+    omega (arith, ap (λ (l : List ℕ). length l) (param-held text m k), length-take (s .end - s .start) (drop (s .start) text), length-drop (s .start) text)
 
 -- ---- its members in order
 pub ordered-is : (s r : Roster) (list : List ℕ) → s ≡ roster (named list) → length (wordsOf list) ≤ memberLimit → r ≡ roster (ordered (take (s .count) (s .list))) → r ≡ roster (ordered (named list))
@@ -75,24 +77,35 @@ unfolding encode channelIn roster
 made c n held k kept time modes limit r e f g h i j l m = rw (f, e, g, h, j, i, l, m)
 
 -- ---- the answer
+told-none : (k : ℕ) (c : Content) → (k ≡ accepted → ⊥) → refusedBy k ≡ told k c
+told-none k c ne = rw (ne-eqb k accepted ne)
+
+module _ (text : List ℕ) (m : Message) where
+  pub in-refused : (k : ℕ) → k ≡ firstOf (spanRules text m) → (k ≡ accepted → ⊥) → refusedBy k ≡ toldIn text m
+  unfolding toldIn
+  in-refused k e ne = told-none k (contentBy text m) ne ∙ ap (λ (n : ℕ). told n (contentBy text m)) e
+
+  pub in-record : (r : Record) → firstOf (spanRules text m) ≡ accepted → r ≡ encode (channelIn (contentBy text m)) → _≡_ {A = Told} (record { number = accepted; «record» = r }) (toldIn text m)
+  unfolding toldIn
+  in-record r e f = rw (e, f)
+
 module _ (line : List ℕ) where
   pub told-unread : (k : ℕ) → isRead line ≡ false → k ≡ numberFor line → refusedBy k ≡ toldBy line
   unfolding toldBy joinNumber
-  told-unread k h e = rw (h, e, ne-eqb (numberFor line) accepted (refused-number line h))
+  told-unread k h e = rw (h, ← e) (told-none k (contentOf line) (λ z. refused-number line h (sym e ∙ z)))
 
   module _ (h : isRead line ≡ true) where
-    pub told-refused : (k : ℕ) → k ≡ firstOf (joinRules (contentOf line)) → (k ≡ accepted → ⊥) → refusedBy k ≡ toldBy line
-    unfolding toldBy joinNumber
-    told-refused k e ne = rw (h, ← e, ne-eqb k accepted ne)
+    -- what its spans say is what it says
+    pub told-same : toldIn line (messageOf line) ≡ toldBy line
+    unfolding toldIn toldBy joinNumber
+    told-same =
+        let e : firstOf (spanRules line (messageOf line)) ≡ firstOf (joinRules (contentOf line)) = span-rules line (messageOf line) (read-small line h) ∙ ap (λ (c : Content). firstOf (joinRules c)) (message-holds line) in
+        rw (h, e, message-holds line)
 
-    pub told-record : (r : Record) → firstOf (joinRules (contentOf line)) ≡ accepted → r ≡ encode (channelIn (contentOf line)) → _≡_ {A = Told} (record { number = accepted; «record» = r }) (toldBy line)
-    unfolding toldBy joinNumber
-    told-record r e f = rw (h, e, f)
-
-    -- and what it says
     pub told-number : toldBy line .number ≡ firstOf (joinRules (contentOf line))
     unfolding toldBy joinNumber
     told-number = rw h
 
     pub told-says : toldBy line .number ≡ accepted → toldBy line .«record» ≡ encode (channelIn (contentOf line))
-    told-says a = sym (ap (λ (t : Told). t .«record») (told-record _ (sym told-number ∙ a) refl))
+    unfolding toldBy
+    told-says a = rw a

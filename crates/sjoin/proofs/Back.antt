@@ -28,7 +28,7 @@ use Rattle.sjoin.specs.Entries.{goodEntries, named}
 use Rattle.sjoin.specs.Join.{listIn, argumentsIn, isSource, goodCount, goodTime, joinRules, channelIn}
 use Rattle.sjoin.specs.Telling.{modesText, listText, paramsOf}
 use Rattle.sjoin.proofs.Entered.{members-back, list-good}
-use Rattle.sjoin.proofs.Judged.{sourced, listed, telling-decides}
+use Rattle.sjoin.proofs.Judged.{sourced, settled, listed}
 use Rattle.sjoin.proofs.Lettered.{modes-back}
 
 -- ---- key and limit, each there or not
@@ -120,7 +120,9 @@ rules-back c p sid command h =
     let sh = shape a b sid command (digitsOf (c .time)) (c .name) (modesText (c .modes)) (c .key) (digitsOf (c .limit)) (listText (c .members)) in
     let mb = modes-back (c .modes) (p .modes) in
     let d = content sid command (paramsOf c) in
-    listed d (time-back c p .0) (λ e. omega (arith, time-back c p .1, e, p .from)) (p .name)
-    (rw (sh .1, mb .0, mb .2) (fits a b (c .key) (digitsOf (c .limit)) (key-good c p) (limit-good c p)))
-    (ap goodEntries (sh .2) ∙ list-good (c .members) (nil-length (c .members) ∙ ne-eqb (length (c .members)) 0 (λ e. omega (arith, p .some, e))) (p .listed))
-    ∙ sym (telling-decides d (sym (sourced d (sh .0) h)))
+    sym
+    (listed d (sym (sourced d (sh .0) h))
+    (sym
+    (settled d (time-back c p .0) (λ e. omega (arith, time-back c p .1, e, p .from)) (p .name)
+    (rw (sh .1, mb .0, mb .2) (fits a b (c .key) (digitsOf (c .limit)) (key-good c p) (limit-good c p)))))
+    (ap goodEntries (sh .2) ∙ list-good (c .members) (nil-length (c .members) ∙ ne-eqb (length (c .members)) 0 (λ e. omega (arith, p .some, e))) (p .listed)))

@@ -13,16 +13,16 @@ use Rattle.names.specs.Names.{isUserId}
 use Rattle.names.proofs.UserIds.{user-some, user-solid, user-unmarked}
 use Rattle.channel.specs.declared.Member.{Member}
 use Rattle.channel.specs.Modes.{hasMode}
-use Rattle.channel.specs.Channel.{member}
+use Rattle.channel.specs.Channel.{voicePlace, operatorPlace, voice, operator, member}
 use Rattle.channel.specs.WellFormed.{bothStatuses, goodMember}
 use Rattle.channel.proofs.Proper.{member-says}
 use Rattle.sjoin.specs.Modes.{plus}
-use Rattle.sjoin.specs.Entries.{at, voice, operator, past, idOf, statusOf, isEntry, memberOf, goodEntries, named}
+use Rattle.sjoin.specs.Entries.{at, past, idOf, statusOf, isEntry, memberOf, goodEntries, named}
 use Rattle.sjoin.specs.Telling.{entryOf, listText}
 use Rattle.sjoin.proofs.Spaced.{solid, words-back}
 
 -- ---- the marks tell the status
-status-back : (n : ℕ) → n ≤ bothStatuses → cond (hasMode n 1) operator 0 + cond (hasMode n 0) voice 0 ≡ n
+status-back : (n : ℕ) → n ≤ bothStatuses → cond (hasMode n operatorPlace) operator 0 + cond (hasMode n voicePlace) voice 0 ≡ n
 unfolding hasBit
 status-back zero h = refl
 status-back (suc zero) h = refl
@@ -50,7 +50,7 @@ module _ (id : List ℕ) (h : isUserId id ≡ true) where
 pub entry-back : (m : Member) → goodMember m ≡ true → memberOf (entryOf m) ≡ m
 unfolding entryOf
 entry-back m h =
-    marked (m .id) (member-says m h .0) (hasMode (m .status) 1) (hasMode (m .status) 0) ∙ ap (member (m .id)) (status-back (m .status) (member-says m h .1))
+    marked (m .id) (member-says m h .0) (hasMode (m .status) operatorPlace) (hasMode (m .status) voicePlace) ∙ ap (member (m .id)) (status-back (m .status) (member-says m h .1))
 
 -- ---- an entry holds no SPACE
 marked-solid : (id : List ℕ) → isUserId id ≡ true → (o v : Bool) → not (isNil (cond o (at ∷ []) [] ++ cond v (plus ∷ []) [] ++ id)) && all isNonSpace (cond o (at ∷ []) [] ++ cond v (plus ∷ []) [] ++ id) ≡ true
@@ -62,7 +62,7 @@ marked-solid id h false false = rw (user-some id h) (user-solid id h)
 
 entry-solid : (m : Member) → goodMember m ≡ true → solid m ≡ true
 unfolding entryOf
-entry-solid m h = marked-solid (m .id) (member-says m h .0) (hasMode (m .status) 1) (hasMode (m .status) 0)
+entry-solid m h = marked-solid (m .id) (member-says m h .0) (hasMode (m .status) operatorPlace) (hasMode (m .status) voicePlace)
 
 -- ---- so what is told of members reads back as them
 pub members-back : (l : List Member) → all goodMember l ≡ true → named (listText l) ≡ l

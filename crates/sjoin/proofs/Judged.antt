@@ -1,4 +1,4 @@
--- What the rules of SJOIN give, test by test. Assumes nothing.
+-- What the rules of SJOIN give, test by test, of a message and of one whose parts are spans. Assumes nothing.
 use Prim.Native.Nat.{ℕ, _≤_, _<_}
 use mathlib.Core.Path.{_≡_, refl, sym, ap, _∙_}
 use mathlib.Core.Bool.{Bool, true, false, not, _&&_, and-false}
@@ -7,8 +7,8 @@ use mathlib.Core.Option.{Option, some, none, Option·getD}
 use native.Mathlib.Omega.{arith}
 use lib.ListN.{length}
 use lib.Dec.{eqb, leb}
-use borrow.Author.Tests.{eq-eqb, ne-eqb, eqb-true, le-leb, lt-leb, leb-true, not-false}
-use Rattle.refusal.specs.Numbers.{accepted, wrongParamCount, badSource, badTime, zeroTime, badName, badModes, badMembers}
+use borrow.Author.Tests.{eq-eqb, ne-eqb, eqb-true, lt-ltb, le-ltb, le-leb, lt-leb, leb-true, not-false}
+use Rattle.refusal.specs.Numbers.{accepted, lineTooLong, wrongParamCount, badSource, badTime, zeroTime, badName, badModes, badMembers}
 use Rattle.refusal.specs.Rules.{firstOf, ascend, ascendFrom, placeIn}
 use Rattle.refusal.proofs.Rules.{skip, stop, first-nil, first-none, numbered, append-some, append-none}
 use Rattle.laws.specs.Lists.{same}
@@ -20,10 +20,13 @@ use Rattle.octets.proofs.Digits.{digits-one, value-digits, decimal-digits, digi
 use Rattle.names.specs.Names.{isChannel, isServerId}
 use Rattle.names.proofs.UserIds.{no-server-id}
 use Rattle.channel.specs.Limits.{timeLimit}
+use Rattle.message.specs.declared.Message.{Message}
+use Rattle.message.specs.Grammar.{lineLimit}
 use Rattle.message.specs.Content.{Content}
+use Rattle.message.specs.Parts.{contentBy}
 use Rattle.sjoin.specs.Modes.{lettersOf, goodLetters, parametered, goodArguments, goodModes}
 use Rattle.sjoin.specs.Entries.{goodEntries}
-use Rattle.sjoin.specs.Join.{timeIn, nameIn, modesIn, listIn, argumentsIn, isSource, fewest, most, goodCount, goodTime, sourceRules, tellingRules, joinRules}
+use Rattle.sjoin.specs.Join.{timeIn, nameIn, modesIn, listIn, argumentsIn, isSource, fewest, most, goodCount, goodTime, sourceRules, settingRules, tellingRules, joinRules, spanRules}
 
 -- The rules stand in the order of their numbers: the first in it that applies is given.
 pub rules-ascend : (c : Content) → ascend (joinRules c) ≡ true
@@ -104,39 +107,56 @@ module _ (c : Content) where
   pub source-counts : firstOf (sourceRules c) ≡ accepted → goodCount c ≡ true
   source-counts e = not-false _ (first-none _ _ (λ z. omega arith) e .0)
 
--- ---- those of what it tells
+-- ---- those of time, name and modes
 module _ (c : Content) where
-  pub untimed : goodTime c ≡ false → badTime ≡ firstOf (tellingRules c)
+  pub untimed : goodTime c ≡ false → badTime ≡ firstOf (settingRules c)
   untimed e = sym (stop _ _ (ap not e))
 
   module _ (t : goodTime c ≡ true) where
-    pub zero-time : valueOf (timeIn c) ≡ 0 → zeroTime ≡ firstOf (tellingRules c)
+    pub zero-time : valueOf (timeIn c) ≡ 0 → zeroTime ≡ firstOf (settingRules c)
     zero-time e = sym (skip _ _ (ap not t) ∙ stop _ _ (time-zero c t ∙ eq-eqb (valueOf (timeIn c)) 0 e))
 
     module _ (z : valueOf (timeIn c) ≡ 0 → ⊥) where
       later : same (timeIn c) (zeroDigit ∷ []) ≡ false
       later = time-zero c t ∙ ne-eqb (valueOf (timeIn c)) 0 z
 
-      pub unnamed : isChannel (nameIn c) ≡ false → badName ≡ firstOf (tellingRules c)
+      pub unnamed : isChannel (nameIn c) ≡ false → badName ≡ firstOf (settingRules c)
       unnamed e = sym (skip _ _ (ap not t) ∙ skip _ _ later ∙ stop _ _ (ap not e))
 
       module _ (m : isChannel (nameIn c) ≡ true) where
-        pub unfit : goodModes (modesIn c) (argumentsIn c) ≡ false → badModes ≡ firstOf (tellingRules c)
+        pub unfit : goodModes (modesIn c) (argumentsIn c) ≡ false → badModes ≡ firstOf (settingRules c)
         unfit e = sym (skip _ _ (ap not t) ∙ skip _ _ later ∙ skip _ _ (ap not m) ∙ stop _ _ (ap not e))
 
-        module _ (g : goodModes (modesIn c) (argumentsIn c) ≡ true) where
-          pub unlisted : goodEntries (listIn c) ≡ false → badMembers ≡ firstOf (tellingRules c)
-          unlisted e = sym (skip _ _ (ap not t) ∙ skip _ _ later ∙ skip _ _ (ap not m) ∙ skip _ _ (ap not g) ∙ stop _ _ (ap not e))
+        pub settled : goodModes (modesIn c) (argumentsIn c) ≡ true → accepted ≡ firstOf (settingRules c)
+        settled e = sym (skip _ _ (ap not t) ∙ skip _ _ later ∙ skip _ _ (ap not m) ∙ skip _ _ (ap not e) ∙ first-nil)
 
-          pub listed : goodEntries (listIn c) ≡ true → accepted ≡ firstOf (tellingRules c)
-          listed e = sym (skip _ _ (ap not t) ∙ skip _ _ later ∙ skip _ _ (ap not m) ∙ skip _ _ (ap not g) ∙ skip _ _ (ap not e) ∙ first-nil)
-
--- ---- and those of the line, one after the other
+-- ---- and all of them, one after the other
 module _ (c : Content) where
   pub source-decides : (firstOf (sourceRules c) ≡ accepted → ⊥) → firstOf (joinRules c) ≡ firstOf (sourceRules c)
   unfolding joinRules
   source-decides = append-some (tellingRules c) (sourceRules c)
 
-  pub telling-decides : firstOf (sourceRules c) ≡ accepted → firstOf (joinRules c) ≡ firstOf (tellingRules c)
-  unfolding joinRules
-  telling-decides = append-none (tellingRules c) (sourceRules c) refl
+  module _ (s : firstOf (sourceRules c) ≡ accepted) where
+    telling-decides : firstOf (joinRules c) ≡ firstOf (tellingRules c)
+    unfolding joinRules
+    telling-decides = append-none (tellingRules c) (sourceRules c) refl s
+
+    pub setting-decides : (firstOf (settingRules c) ≡ accepted → ⊥) → firstOf (joinRules c) ≡ firstOf (settingRules c)
+    setting-decides ne = telling-decides ∙ append-some _ (settingRules c) ne
+
+    module _ (t : firstOf (settingRules c) ≡ accepted) where
+      pub unlisted : goodEntries (listIn c) ≡ false → firstOf (joinRules c) ≡ badMembers
+      unlisted e = telling-decides ∙ append-none _ (settingRules c) refl t ∙ stop _ _ (ap not e)
+
+      pub listed : goodEntries (listIn c) ≡ true → firstOf (joinRules c) ≡ accepted
+      listed e = telling-decides ∙ append-none _ (settingRules c) refl t ∙ skip _ _ (ap not e) ∙ first-nil
+
+-- ---- of spans
+module _ (text : List ℕ) (m : Message) where
+  pub span-long : lineLimit < length text → lineTooLong ≡ firstOf (spanRules text m)
+  unfolding spanRules
+  span-long h = sym (stop _ _ (lt-ltb lineLimit (length text) h))
+
+  pub span-rules : length text ≤ lineLimit → firstOf (spanRules text m) ≡ firstOf (joinRules (contentBy text m))
+  unfolding spanRules
+  span-rules h = skip _ _ (le-ltb lineLimit (length text) h)

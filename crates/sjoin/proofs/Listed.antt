@@ -1,27 +1,45 @@
--- Laws of a member list: an entry is as long as its id, so a line's list names no more members than a record has room for. Assumes nothing.
-use Prim.Native.Nat.{ℕ, _≤_}
-use mathlib.Core.Path.{_≡_, refl}
-use mathlib.Core.Bool.{Bool, true, false, not}
-use mathlib.Core.List.{List}
+-- Laws of a member list: an entry is as long as its id, so a line's list names no more members than a record has room for; and what is known of a list that is
+-- read word by word. Assumes nothing.
+use Prim.Native.Nat.{ℕ, zero, suc, _+_, _*_, _≤_, _<_}
+use mathlib.Core.Path.{_≡_, refl, sym, ap, _∙_}
+use mathlib.Core.Bool.{Bool, true, false, not, cond, _&&_, and-false}
+use mathlib.Core.List.{List, [], _∷_, _++_, map}
 use native.Mathlib.Omega.{arith}
-use lib.ListN.{length, length-drop}
-use borrow.Author.Tests.{le-leb}
-use Rattle.laws.specs.Lists.{all, isNil, startsWith}
+use lib.ListN.{length, take, drop, set, length-drop, length-map}
+use lib.Seq.{take-all}
+use lib.Dec.{eqb, ltb}
+use borrow.Author.Tests.{eq-eqb, ne-eqb, eqb-true, eqb-false, lt-ltb, le-leb, leb-true}
+use Rattle.laws.specs.Lists.{all, isNil, startsWith, padded}
 use Rattle.laws.proofs.Bools.{and-right}
-use Rattle.laws.proofs.Lists.{all-imp}
+use Rattle.laws.proofs.Lists.{drop-next, take-next, nil-length, all-imp}
+use Rattle.octets.specs.Room.{part}
 use Rattle.names.specs.Names.{userIdLength}
 use Rattle.names.proofs.UserIds.{user-length}
+use Rattle.channel.specs.declared.Member.{Member}
+use Rattle.channel.specs.declared.Roster.{Roster}
 use Rattle.channel.specs.Limits.{memberLimit}
+use Rattle.channel.specs.Record.{nobody}
+use Rattle.channel.specs.Members.{roster}
+use Rattle.channel.proofs.Gathering.{Gathers, gathers-more, gathers-roster}
+use Rattle.message.specs.declared.Span.{Span}
 use Rattle.message.specs.Grammar.{lineLimit}
-use Rattle.message.specs.Words.{wordsOf}
-use Rattle.message.proofs.Sizes.{long, words-few}
+use Rattle.message.specs.Words.{wordsOf, nextWord}
+use Rattle.message.proofs.Sizes.{room, long, words-room, words-few}
+use Rattle.message.proofs.Splits.{wordsFrom, next-none, next-one, next-in}
 use Rattle.sjoin.specs.Modes.{plus}
-use Rattle.sjoin.specs.Entries.{at, past, idOf, isEntry, goodEntries}
+use Rattle.sjoin.specs.Entries.{at, past, idOf, isEntry, memberOf, goodEntries, named}
 
 -- ---- an entry
-pub entry-long : (e : List ℕ) → isEntry e ≡ true → length (idOf e) ≡ userIdLength
+entry-long : (e : List ℕ) → isEntry e ≡ true → length (idOf e) ≡ userIdLength
 unfolding isEntry
 entry-long e h = user-length (idOf e) h
+
+pub entry-none : (e : List ℕ) → (length (idOf e) ≡ userIdLength → ⊥) → isEntry e ≡ false
+entry-none e ne = go (isEntry e) refl
+  where
+    go : (t : Bool) → isEntry e ≡ t → isEntry e ≡ false
+    go true h = absurd (ne (entry-long e h))
+    go false h = h
 
 past-short : (mark : ℕ) (s : List ℕ) → length (past mark s) ≤ length s
 unfolding past
@@ -44,3 +62,101 @@ pub list-room : (list : List ℕ) → goodEntries list ≡ true → length list 
 list-room list h k =
     let n = words-few userIdLength list (all-imp isEntry (long userIdLength) entry-takes (wordsOf list) (list-entries list h)) in
     omega (arith, n)
+
+-- ---- read word by word
+-- the words from a span on, which is that of the next one or stands at the end
+abbrev pub left : List ℕ → Span → List (List ℕ)
+left list w = cond (eqb (w .start) (length list)) [] (part list (w .start) (w .end) ∷ wordsFrom list (w .end))
+
+left-next : (list : List ℕ) (at : ℕ) (w : Span) → at ≤ length list → w ≡ nextWord list at → left list w ≡ wordsFrom list at
+left-next list at w h is = go (eqb (w .start) (length list)) refl
+  where
+    go : (t : Bool) → eqb (w .start) (length list) ≡ t → left list w ≡ wordsFrom list at
+    go true e = rw e (sym (next-none list at w h is (eqb-true (w .start) (length list) e)))
+    go false e = rw e (sym (next-one list at w h is (eqb-false (w .start) (length list) e)))
+
+-- The words before a span are entries, as many as the count, and their members are gathered.
+pub record Before (list : List ℕ) (held : List Member) (count : ℕ) (w : Span) : Type 0 where
+  pub inside : (w .start ≡ length list → ⊥) → w .end ≤ length list
+  pub entries : all isEntry (left list w) ≡ all isEntry (wordsOf list)
+  pub others : map memberOf (left list w) ≡ drop count (named list)
+  pub takes : suc userIdLength * count + room (left list w) ≤ suc (length list)
+  pub gathers : Gathers held count (take count (named list))
+
+-- at the first word nothing is gathered
+pub before-first : (list : List ℕ) (held : List Member) (w : Span) → held ≡ padded memberLimit nobody [] → w ≡ nextWord list 0 → Before list held 0 w
+before-first list held w e is =
+    let l = left-next list 0 w (omega arith) is in
+    record {
+      inside = next-in list 0 w (omega arith) is;
+      entries = ap (all isEntry) l;
+      others = ap (map memberOf) l;
+      takes = omega (arith, ap (λ (ws : List (List ℕ)). room ws) l, words-room list);
+      gathers = record { holds = e; counts = refl };
+    }
+
+module _ (list : List ℕ) (held : List Member) (count : ℕ) (w : Span) (b : Before list held count w) where
+  module _ (some : w .start ≡ length list → ⊥) where
+    abbrev entry : List ℕ
+    entry = part list (w .start) (w .end)
+
+    abbrev behind : List (List ℕ)
+    behind = wordsFrom list (w .end)
+
+    left-some : left list w ≡ entry ∷ behind
+    left-some = rw (ne-eqb (w .start) (length list) some)
+
+    all-left : all isEntry (wordsOf list) ≡ isEntry entry && all isEntry behind
+    unfolding all
+    all-left = sym (b .entries) ∙ ap (all isEntry) left-some
+
+    -- a word that is no entry
+    pub before-odd : isEntry entry ≡ false → goodEntries list ≡ false
+    unfolding goodEntries
+    before-odd e = rw (all-left, e) (and-false (not (isNil (wordsOf list))))
+
+    -- one that is an entry
+    module _ (good : isEntry entry ≡ true) where
+      taken : suc userIdLength * suc count + room behind ≤ suc (length list)
+      taken = omega (arith, b .takes, ap (λ (ws : List (List ℕ)). room ws) left-some, leb-true userIdLength (length entry) (entry-takes entry good))
+
+      pub before-room : length list ≤ lineLimit → count < memberLimit
+      before-room h = omega (arith, taken, h)
+
+      pub before-next : (m : Member) (v : Span) → m ≡ memberOf entry → v ≡ nextWord list (w .end) → Before list (set held count m) (count + 1) v
+      before-next m v e is =
+          let l = left-next list (w .end) v (b .inside some) is in
+          let d : drop count (named list) ≡ memberOf entry ∷ map memberOf behind = sym (b .others) ∙ ap (map memberOf) left-some in
+          let t : take (count + 1) (named list) ≡ take count (named list) ++ (m ∷ []) = take-next (named list) count _ _ d ∙ ap (λ (x : Member). take count (named list) ++ (x ∷ [])) (sym e) in
+          record {
+            inside = next-in list (w .end) v (b .inside some) is;
+            entries = ap (all isEntry) l ∙ sym (all-left ∙ rw good);
+            others = ap (map memberOf) l ∙ sym (drop-next (named list) count _ _ d);
+            takes = omega (arith, taken, ap (λ (ws : List (List ℕ)). room ws) l);
+            gathers = rw t (gathers-more held count (take count (named list)) m (b .gathers));
+          }
+
+      pub before-fewer : (v : Span) → v ≡ nextWord list (w .end) → length (left list v) < length (left list w)
+      before-fewer v is = rw (left-next list (w .end) v (b .inside some) is, left-some) (omega arith)
+
+  -- at the end
+  module _ (none : w .start ≡ length list) where
+    left-none : left list w ≡ []
+    left-none = rw (eq-eqb (w .start) (length list) none)
+
+    every : take count (named list) ≡ named list
+    every = take-all count (named list) (omega (arith, length-drop count (named list), ap (λ (l : List Member). length l) (sym (b .others) ∙ ap (map memberOf) left-none)))
+
+    pub before-members : _≡_ {A = Roster} (record { list = held; count = count }) (roster (named list))
+    before-members = gathers-roster held count (take count (named list)) (b .gathers) ∙ ap roster every
+
+    pub before-good : ltb 0 count ≡ goodEntries list
+    unfolding goodEntries all
+    before-good =
+        let n : count ≡ length (wordsOf list) = b .gathers .counts ∙ ap (λ (l : List Member). length l) every ∙ length-map (wordsOf list) memberOf in
+        let a : all isEntry (wordsOf list) ≡ true = sym (b .entries) ∙ ap (all isEntry) left-none in
+        rw (a, nil-length (wordsOf list), ← n) (go count)
+      where
+        go : (k : ℕ) → ltb 0 k ≡ not (eqb k 0) && true
+        go zero = refl
+        go (suc k) = lt-ltb 0 (suc k) (omega arith) ∙ sym (rw (ne-eqb (suc k) 0 (λ e. omega arith)))

@@ -26,7 +26,7 @@ use Rattle.names.specs.Names.{isChannel}
 use Rattle.channel.specs.declared.Member.{Member}
 use Rattle.channel.specs.Limits.{limitLimit}
 use Rattle.channel.specs.Modes.{letters, modeCount, keyMode, limitMode, hasMode, withMode, placeAmong, modePlace}
-use Rattle.channel.specs.Channel.{Channel, member, byId}
+use Rattle.channel.specs.Channel.{Channel, voicePlace, operatorPlace, voice, operator, member, byId}
 use Rattle.channel.specs.Members.{ordered}
 use Rattle.channel.specs.Merging.{stands, bare, standing}
 use Rattle.channel.specs.WellFormed.{goodMember}
@@ -41,7 +41,7 @@ use Rattle.writer.specs.Form.{written}
 use Rattle.writer.proofs.Words.{middle-clear}
 use Rattle.writer.proofs.Shorter.{written-shorter}
 use Rattle.sjoin.specs.Modes.{plus, keyLetter, limitLetter, lettersOf, parametered, isLimit, goodLetters, goodArgument, goodArguments, argumentOf, goodModes, modesByte}
-use Rattle.sjoin.specs.Entries.{at, voice, operator, past, idOf, statusOf, memberOf, named}
+use Rattle.sjoin.specs.Entries.{at, past, idOf, statusOf, memberOf, named}
 use Rattle.sjoin.specs.Join.{timeIn, nameIn, modesIn, listIn, argumentsIn, goodTime, joinRules, channelIn}
 use Rattle.sjoin.specs.Telling.{lettersFrom, modesText, entryOf, following, listText, paramsOf, sjoin, joinMessage}
 use Rattle.sjoin.proofs.Modes.{bits}
@@ -163,7 +163,7 @@ past-back mark (b ∷ s) = go (eqb b mark) refl
     go true e = rw (eqb-true b mark e)
     go false e = refl
 
-marks-back : (o v : Bool) → (hasMode (cond o operator 0 + cond v voice 0) 1 ≡ o) × (hasMode (cond o operator 0 + cond v voice 0) 0 ≡ v)
+marks-back : (o v : Bool) → (hasMode (cond o operator 0 + cond v voice 0) operatorPlace ≡ o) × (hasMode (cond o operator 0 + cond v voice 0) voicePlace ≡ v)
 unfolding hasBit
 marks-back true true = (refl, refl)
 marks-back true false = (refl, refl)
@@ -184,9 +184,9 @@ takes m = suc (length (entryOf m))
 marks : Bool → ℕ
 marks t = cond t 1 0
 
-entry-length : (m : Member) → length (entryOf m) ≡ marks (hasMode (m .status) 1) + marks (hasMode (m .status) 0) + length (m .id)
+entry-length : (m : Member) → length (entryOf m) ≡ marks (hasMode (m .status) operatorPlace) + marks (hasMode (m .status) voicePlace) + length (m .id)
 unfolding entryOf marks
-entry-length m = go (hasMode (m .status) 1) (hasMode (m .status) 0)
+entry-length m = go (hasMode (m .status) operatorPlace) (hasMode (m .status) voicePlace)
   where
     go : (o v : Bool) → length (cond o (at ∷ []) [] ++ cond v (plus ∷ []) [] ++ m .id) ≡ marks o + marks v + length (m .id)
     go true true = omega arith
@@ -200,7 +200,7 @@ marks-few true = omega arith
 marks-few false = omega arith
 
 pub entry-few : (m : Member) → length (entryOf m) ≤ 2 + length (m .id)
-entry-few m = omega (arith, entry-length m, marks-few (hasMode (m .status) 1), marks-few (hasMode (m .status) 0))
+entry-few m = omega (arith, entry-length m, marks-few (hasMode (m .status) operatorPlace), marks-few (hasMode (m .status) voicePlace))
 
 marks-either : (t u : Bool) → marks (t || u) ≤ marks t + marks u
 unfolding marks

@@ -1,6 +1,6 @@
 -- The record of a line that no rule refuses is well formed. Assumes nothing.
 use Prim.Native.Nat.{ℕ, _+_, _^_, _-_, _≤_, _<_}
-use mathlib.Core.Path.{_≡_, refl, sym, ap₂, _∙_}
+use mathlib.Core.Path.{_≡_, refl, sym, ap, ap₂, _∙_}
 use mathlib.Core.Bool.{Bool, true, false, not, cond, _||_}
 use mathlib.Core.Logic.{inl, inr}
 use mathlib.Core.List.{List, [], _∷_, map}
@@ -19,7 +19,7 @@ use Rattle.ascending.proofs.Ascends.{unite-some, unite-few, all-unite, ascendin
 use Rattle.channel.specs.Limits.{timeLimit, limitLimit}
 use Rattle.channel.specs.Modes.{modeCount, hasMode, withMode, placeAmong, modePlace}
 use Rattle.channel.specs.Key.{isKey}
-use Rattle.channel.specs.Channel.{byId}
+use Rattle.channel.specs.Channel.{voice, operator, byId}
 use Rattle.channel.specs.Record.{encode}
 use Rattle.channel.specs.WellFormed.{bothStatuses, goodMember, wellFormed}
 use Rattle.channel.proofs.Keys.{key-some}
@@ -28,14 +28,15 @@ use Rattle.channel.proofs.Sides.{stays-byId}
 use Rattle.channel.proofs.Proper.{Proper, member-passes, both-statuses, encode-well}
 use Rattle.message.specs.Grammar.{lineLimit}
 use Rattle.message.specs.Content.{Content}
-use Rattle.message.specs.Reading.{isRead, contentOf}
+use Rattle.message.specs.Reading.{isRead, contentOf, messageOf}
 use Rattle.message.proofs.Readings.{read-small, refused-number}
+use Rattle.message.proofs.Held.{message-holds}
 use Rattle.message.specs.Words.{wordsOf}
 use Rattle.sjoin.specs.Modes.{plus, keyLetter, limitLetter, lettersOf, isMode, lacks, goodLetters, goodArgument, goodModes, modesByte}
-use Rattle.sjoin.specs.Entries.{at, voice, operator, past, statusOf, isEntry, memberOf, goodEntries, named}
+use Rattle.sjoin.specs.Entries.{at, past, statusOf, isEntry, memberOf, goodEntries, named}
 use Rattle.sjoin.specs.Join.{timeIn, modesIn, listIn, argumentsIn, goodTime, joinRules, channelIn, joinNumber, toldBy}
 use Rattle.sjoin.proofs.Modes.{bits, same-place}
-use Rattle.sjoin.proofs.Answers.{bounds, list-small}
+use Rattle.sjoin.proofs.Answers.{list-small}
 use Rattle.sjoin.proofs.Limits.{limit-bounds}
 use Rattle.sjoin.proofs.Listed.{list-entries, list-room}
 use Rattle.sjoin.proofs.Judged.{time-zero}
@@ -129,10 +130,7 @@ module _ (c : Content) (none : firstOf (joinRules c) ≡ accepted) (small : leng
 -- ---- of a line
 pub read-proper : (line : List ℕ) → isRead line ≡ true → firstOf (joinRules (contentOf line)) ≡ accepted → Proper (channelIn (contentOf line))
 read-proper line h none =
-    let n = length (contentOf line .params) in
-    let good = passes (contentOf line) none .count in
-    let e : n ≡ n - 1 + 1 = omega (arith, bounds (contentOf line) good .0) in
-    told-proper (contentOf line) none (list-small line (n - 1) e good (read-small line h))
+    told-proper (contentOf line) none (omega (arith, list-small line (messageOf line), ap (λ (c : Content). length (listIn c)) (message-holds line), read-small line h))
 
 pub read-well : (line : List ℕ) → isRead line ≡ true → firstOf (joinRules (contentOf line)) ≡ accepted → wellFormed (encode (channelIn (contentOf line))) ≡ true
 read-well line h none = encode-well (channelIn (contentOf line)) (read-proper line h none)

@@ -4,8 +4,8 @@ use mathlib.Core.Bool.{Bool, false, not, cond, _&&_}
 use mathlib.Core.List.{List, [], _∷_, _++_}
 use mathlib.Core.Option.{Option, some, none}
 use lib.ListN.{length, take, drop, getD}
-use lib.Dec.{eqb, leb}
-use Rattle.refusal.specs.Numbers.{accepted, wrongParamCount, badSource, badTime, zeroTime, badName, badModes, badMembers}
+use lib.Dec.{eqb, leb, ltb}
+use Rattle.refusal.specs.Numbers.{accepted, lineTooLong, wrongParamCount, badSource, badTime, zeroTime, badName, badModes, badMembers}
 use Rattle.refusal.specs.Rules.{Rule, _when_, firstOf}
 use Rattle.laws.specs.Lists.{same}
 use Rattle.octets.specs.Decimals.{zeroDigit, isDecimal, valueOf}
@@ -14,7 +14,10 @@ use Rattle.channel.specs.Limits.{timeLimit}
 use Rattle.channel.specs.Channel.{Channel}
 use Rattle.channel.specs.Members.{ordered}
 use Rattle.channel.specs.Record.{encode, emptyRecord}
+use Rattle.message.specs.declared.Message.{Message}
+use Rattle.message.specs.Grammar.{lineLimit}
 use Rattle.message.specs.Content.{Content}
+use Rattle.message.specs.Parts.{contentBy}
 use Rattle.message.specs.Reading.{numberFor, isRead, contentOf}
 use Rattle.sjoin.specs.declared.Told.{Told}
 use Rattle.sjoin.specs.Modes.{keyLetter, limitLetter, goodModes, modesByte, argumentOf}
@@ -64,15 +67,18 @@ sourceRules c =
     ∷ badSource when not (isSource (c .prefix))
     ∷ []
 
--- of what it tells
-abbrev pub tellingRules : Content → List Rule
-tellingRules c =
+-- of time, name and modes
+abbrev pub settingRules : Content → List Rule
+settingRules c =
     badTime when not (goodTime c)
     ∷ zeroTime when same (timeIn c) (zeroDigit ∷ [])
     ∷ badName when not (isChannel (nameIn c))
     ∷ badModes when not (goodModes (modesIn c) (argumentsIn c))
-    ∷ badMembers when not (goodEntries (listIn c))
     ∷ []
+
+-- of all that it tells
+abbrev pub tellingRules : Content → List Rule
+tellingRules c = settingRules c ++ (badMembers when not (goodEntries (listIn c)) ∷ [])
 
 unfoldable pub joinRules : Content → List Rule
 joinRules c = sourceRules c ++ tellingRules c
@@ -89,17 +95,24 @@ channelIn c = record {
 }
 
 -- ---- the answer
--- the reader's own number, or the first of the rules that applies
+-- a number, and the record of the channel, or the empty one
+abbrev pub told : ℕ → Content → Told
+told k c = record {
+  number = k;
+  «record» = cond (eqb k accepted) (encode (channelIn c)) emptyRecord;
+}
+
+-- Of a message whose parts are spans of a text: number 4, since a list has room in a record where the text is no longer than a line, or the first of the
+-- rules that applies.
+unfoldable pub spanRules : List ℕ → Message → List Rule
+spanRules text m = lineTooLong when ltb lineLimit (length text) ∷ joinRules (contentBy text m)
+
+unfoldable pub toldIn : List ℕ → Message → Told
+toldIn text m = told (firstOf (spanRules text m)) (contentBy text m)
+
+-- Of a line: the reader's own number, or the first of the rules that applies.
 unfoldable pub joinNumber : List ℕ → ℕ
 joinNumber line = cond (isRead line) (firstOf (joinRules (contentOf line))) (numberFor line)
 
--- and the record of the channel, or the empty one
 unfoldable pub toldBy : List ℕ → Told
-toldBy line = record {
-  number = joinNumber line;
-  «record» = cond (eqb (joinNumber line) accepted) (encode (channelIn (contentOf line))) emptyRecord;
-}
-
--- the answer of a refusal, for a private contract
-abbrev pub refusedBy : ℕ → Told
-refusedBy k = record { number = k; «record» = emptyRecord }
+toldBy line = told (joinNumber line) (contentOf line)

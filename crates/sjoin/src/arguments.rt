@@ -1,14 +1,14 @@
 // The parameters of k and l: they stand between the modes and the list, in the order of the letters.
 ghost use mathlib.Core.Path.{_≡_};
-ghost use Rattle.message.specs.Reading.{contentOf};
+ghost use Rattle.message.specs.Parts.{contentBy};
 ghost use Rattle.channel.specs.Modes.{placeAmong};
 ghost use Rattle.sjoin.specs.Modes.{lettersOf, parametered, goodArguments, argumentOf};
 ghost use Rattle.sjoin.specs.Join.{modesIn, argumentsIn};
 ghost use Rattle.sjoin.specs.Scan.{Parted};
 use crate::letters::good_argument;
 use crate::letters::has_parameter;
-use crate::spans::param_at;
 use message::Message;
+use message::spans::param_in;
 use octets::part;
 
 // The place of the modes among the parameters.
@@ -17,10 +17,10 @@ pub(crate) const MODES_AT: usize = 2;
 // The place of the first parameter behind the modes.
 const ARGUMENTS_AT: usize = 3;
 
-// Whether the line has as many parameters between modes and list as letters that have one, each good for its letter. The list is at `last`.
-pub(crate) fn good_arguments(line: &[u8], m: Message, modes: &[u8], last: usize) -> bool
-    requires { ⌜ Parted (now line) m last ⌝ }
-    ensures { λ r. ⌜ r ≡ goodArguments (parametered (lettersOf (now (modes .entry)))) (argumentsIn (contentOf (now (line .entry)))) ⌝ }
+// Whether there are as many parameters between modes and list as letters that have one, each good for its letter. The list is at `last`.
+pub(crate) fn good_arguments(text: &[u8], m: Message, modes: &[u8], last: usize) -> bool
+    requires { ⌜ Parted (contentBy (now text) m) last ⌝ }
+    ensures { λ r. ⌜ r ≡ goodArguments (parametered (lettersOf (now (modes .entry)))) (argumentsIn (contentBy (now (text .entry)) m)) ⌝ }
 {
     let mut at = ARGUMENTS_AT;
     let mut i = 1;
@@ -33,7 +33,7 @@ pub(crate) fn good_arguments(line: &[u8], m: Message, modes: &[u8], last: usize)
         if at == last {
             return false;
         }
-        if !good_argument(letter, param_at(line, m, at)) {
+        if !good_argument(letter, param_in(text, m, at)) {
             return false;
         }
         at += 1;
@@ -62,13 +62,13 @@ fn argument_place(modes: &[u8], letter: u8) -> usize
 }
 
 // The letter's parameter, empty where it has none. The list is at `last`.
-pub(crate) fn argument(line: &[u8], m: Message, letter: u8, last: usize) -> &[u8]
-    requires { ⌜ Parted (now line) m last ⌝ }
-    ensures { λ r. ⌜ now r ≡ argumentOf letter (modesIn (contentOf (now (line .entry)))) (argumentsIn (contentOf (now (line .entry)))) ⌝ }
+pub(crate) fn argument(text: &[u8], m: Message, letter: u8, last: usize) -> &[u8]
+    requires { ⌜ Parted (contentBy (now text) m) last ⌝ }
+    ensures { λ r. ⌜ now r ≡ argumentOf letter (modesIn (contentBy (now (text .entry)) m)) (argumentsIn (contentBy (now (text .entry)) m)) ⌝ }
 {
-    let place = argument_place(param_at(line, m, MODES_AT), letter);
+    let place = argument_place(param_in(text, m, MODES_AT), letter);
     if last - ARGUMENTS_AT <= place {
-        return part(line, 0, 0);
+        return part(text, 0, 0);
     }
-    param_at(line, m, ARGUMENTS_AT + place)
+    param_in(text, m, ARGUMENTS_AT + place)
 }

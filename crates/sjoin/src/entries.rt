@@ -3,25 +3,30 @@ ghost use mathlib.Core.Path.{_≡_};
 ghost use mathlib.Core.Bool.{true};
 ghost use Prim.Native.Nat.{_≤_};
 ghost use lib.ListN.{length};
-ghost use Rattle.laws.specs.Lists.{all};
-ghost use Rattle.channel.specs.Limits.{memberLimit};
 ghost use Rattle.channel.specs.Members.{roster};
-ghost use Rattle.message.specs.Words.{wordsOf};
-ghost use Rattle.sjoin.specs.Entries.{past as pastOf, idOf, statusOf, isEntry, memberOf, goodEntries, named as namedOf};
+ghost use Rattle.message.specs.Grammar.{lineLimit};
+ghost use Rattle.sjoin.specs.Entries.{past as pastOf, idOf, statusOf, isEntry, memberOf, goodEntries, named};
 use crate::letters::starts_with;
 use channel::Member;
 use channel::Roster;
 use channel::members::vacant;
 use message::next_word;
-use names::is_user_id;
+use names::USER_ID;
+use names::ids::is_id;
 use names::user_id;
 use octets::part;
 
-// The bit of voice in a status.
-const VOICE: u8 = 1;
+// A word of the list: whether it is an entry, and the member that it names then.
+struct Entry {
+    good: bool,
+    member: Member,
+}
 
-// The bit of an operator in a status.
-const OPERATOR: u8 = 2;
+// What a list says: whether it is good, and the members that it names then.
+pub(crate) struct Entries {
+    pub(crate) good: bool,
+    pub(crate) members: Roster,
+}
 
 // What follows the mark, or all where it doesn't stand first.
 fn past(s: &[u8], mark: u8) -> &[u8]
@@ -47,84 +52,64 @@ pub(crate) fn status_of(entry: &[u8]) -> u8
     let voiced = starts_with(past(entry, b'@'), b'+');
     if starts_with(entry, b'@') {
         if voiced {
-            return OPERATOR + VOICE;
+            return Member::OPERATOR + Member::VOICE;
         }
-        return OPERATOR;
+        return Member::OPERATOR;
     }
     if voiced {
-        return VOICE;
+        return Member::VOICE;
     }
     0
 }
 
-// Whether the bytes are an entry: a user id follows '@' and '+'.
-fn is_entry(entry: &[u8]) -> bool
-    ensures { λ r. ⌜ r ≡ isEntry (now (entry .entry)) ⌝ }
+// The member that an entry names, and whether it is one: a user id follows '@' and '+'.
+fn entry_of(entry: &[u8]) -> Entry
+    ensures good { λ r. ⌜ r .good ≡ isEntry (now (entry .entry)) ⌝ }
+    ensures member { λ r. ⌜ (isEntry (now (entry .entry)) ≡ true → r .member ≡ memberOf (now (entry .entry))) ⌝ }
 {
-    is_user_id(id_of(entry))
-}
-
-// Whether every word of the list is an entry.
-fn all_entries(list: &[u8]) -> bool
-    ensures { λ r. ⌜ r ≡ all isEntry (wordsOf (now (list .entry))) ⌝ }
-{
-    let mut at = 0;
-    while at < list.len() {
-        let word = next_word(list, at);
-        if word.start == list.len() {
-            return true;
-        }
-        if !is_entry(part(list, word.start, word.end)) {
-            return false;
-        }
-        at = word.end;
-    }
-    true
-}
-
-// A list of one entry or more.
-pub(crate) fn good_entries(list: &[u8]) -> bool
-    ensures { λ r. ⌜ r ≡ goodEntries (now (list .entry)) ⌝ }
-{
-    let first = next_word(list, 0);
-    if first.start == list.len() {
-        return false;
-    }
-    all_entries(list)
-}
-
-// The member that an entry names.
-fn member_of(entry: &[u8]) -> Member
-    requires { ⌜ isEntry (now entry) ≡ true ⌝ }
-    ensures { λ r. ⌜ r ≡ memberOf (now (entry .entry)) ⌝ }
-{
-    let id = user_id(id_of(entry));
+    let bytes = id_of(entry);
+    let id = user_id(bytes);
     let status = status_of(entry);
-    Member { id, status }
+    let member = Member { id, status };
+    if bytes.len() != USER_ID {
+        return Entry {
+            good: false,
+            member,
+        };
+    }
+    Entry {
+        good: is_id(id),
+        member,
+    }
 }
 
-// The members that the list names, in its order, an id perhaps more than once.
-pub(crate) fn named(list: &[u8]) -> Roster
-    requires { ⌜ (all isEntry (wordsOf (now list)) ≡ true) × (length (wordsOf (now list)) ≤ memberLimit) ⌝ }
-    ensures { λ r. ⌜ r ≡ roster (namedOf (now (list .entry))) ⌝ }
+// The members that a list names, in its order, an id perhaps more than once, and whether the list is good: one entry or more, and nothing else. Each word
+// is looked at once, and none behind one that is no entry.
+pub(crate) fn entries_of(list: &[u8]) -> Entries
+    requires { ⌜ length (now list) ≤ lineLimit ⌝ }
+    ensures good { λ r. ⌜ r .good ≡ goodEntries (now (list .entry)) ⌝ }
+    ensures members { λ r. ⌜ (goodEntries (now (list .entry)) ≡ true → r .members ≡ roster (named (now (list .entry)))) ⌝ }
 {
-    let mut members = vacant();
+    let mut held = vacant();
     let mut count = 0;
-    let mut at = 0;
-    while at < list.len() {
-        let word = next_word(list, at);
-        if word.start == list.len() {
-            return Roster {
-                list: members,
-                count,
+    let mut word = next_word(list, 0);
+    while word.start != list.len() {
+        let entry = entry_of(part(list, word.start, word.end));
+        if !entry.good {
+            let members = Roster { list: held, count };
+            return Entries {
+                good: false,
+                members,
             };
         }
-        members[count] = member_of(part(list, word.start, word.end));
+        let member = entry.member;
+        held[count] = member;
         count += 1;
-        at = word.end;
+        word = next_word(list, word.end);
     }
-    Roster {
-        list: members,
-        count,
+    let members = Roster { list: held, count };
+    Entries {
+        good: 0 < count,
+        members,
     }
 }

@@ -3,14 +3,12 @@
 mod arguments;
 mod entries;
 mod letters;
-mod spans;
 mod telling;
 
 ghost use mathlib.Core.Path.{_≡_};
 ghost use mathlib.Core.Bool.{true};
 ghost use Prim.Native.Nat.{_≤_};
 ghost use lib.ListN.{length};
-ghost use Rattle.refusal.specs.Numbers.{accepted};
 ghost use Rattle.refusal.specs.Rules.{firstOf, emitted};
 ghost use Rattle.laws.specs.Lists.{padded};
 ghost use Rattle.octets.specs.Room.{front};
@@ -18,28 +16,28 @@ ghost use Rattle.octets.specs.Decimals.{valueOf};
 ghost use Rattle.names.specs.Names.{nameLimit};
 ghost use Rattle.channel.specs.Limits.{keyLimit};
 ghost use Rattle.channel.specs.Record.{encode, decode};
-ghost use Rattle.message.specs.Grammar.{lineLimit};
-ghost use Rattle.message.specs.Reading.{contentOf, messageOf};
+ghost use Rattle.message.specs.Parts.{contentBy};
 ghost use Rattle.writer.specs.Form.{written};
 ghost use Rattle.writer.specs.Writing.{answerFor};
-ghost use Rattle.sjoin.specs.Join.{timeIn, goodTime, sourceRules, tellingRules, joinRules, channelIn, refusedBy, toldBy};
+ghost use Rattle.sjoin.specs.Join.{timeIn, goodTime, sourceRules, settingRules, channelIn, toldIn, toldBy};
 ghost use Rattle.sjoin.specs.Telling.{described, descriptionLimit, describedIn, joinMessage, tellRules};
-ghost use Rattle.sjoin.specs.Scan.{Parted};
+ghost use Rattle.sjoin.specs.Scan.{Parted, Tells, refusedBy};
 use arguments::MODES_AT;
 use arguments::argument;
 use arguments::good_arguments;
 use channel::Record;
+use channel::Roster;
 use channel::members::ordered;
-use entries::good_entries;
-use entries::named;
+use entries::entries_of;
 use letters::good_letters;
 use letters::limit_in;
 use letters::modes_byte;
 use message::LINE_LIMIT;
 use message::Message;
 use message::Reading;
-use message::parts;
-use message::read;
+use message::parse;
+use message::spans::param_in;
+use message::spans::prefix_in;
 use names::is_channel;
 use names::is_server_id;
 use octets::Decimal;
@@ -52,12 +50,11 @@ use refusal::BAD_MODES;
 use refusal::BAD_NAME;
 use refusal::BAD_SOURCE;
 use refusal::BAD_TIME;
+use refusal::LINE_TOO_LONG;
 use refusal::NO_ROOM;
 use refusal::OUTPUT_TOO_SHORT;
 use refusal::WRONG_PARAM_COUNT;
 use refusal::ZERO_TIME;
-use spans::param_at;
-use spans::prefix_at;
 use telling::put_description;
 use telling::put_join;
 use writer::Written;
@@ -86,60 +83,44 @@ pub struct Told {
     pub record: Record,
 }
 
-// Number 12 or 13, of a line that is read, with its parts and its count of parameters, or ACCEPTED.
-fn source_number(line: &[u8], m: Message, count: usize) -> u8
-    requires { ⌜ (m ≡ messageOf (now line)) × (count ≡ length (contentOf (now line) .params)) ⌝ }
-    ensures { λ r. ⌜ r ≡ firstOf (sourceRules (contentOf (now (line .entry)))) ⌝ }
+// Number 12 or 13, or ACCEPTED.
+fn source_number(text: &[u8], m: Message) -> u8
+    ensures { λ r. ⌜ r ≡ firstOf (sourceRules (contentBy (now (text .entry)) m)) ⌝ }
 {
-    if count < FEWEST {
+    if m.count < FEWEST {
         return WRONG_PARAM_COUNT;
     }
-    if MOST < count {
+    if MOST < m.count {
         return WRONG_PARAM_COUNT;
     }
-    if !is_server_id(prefix_at(line, m)) {
+    if !is_server_id(prefix_in(text, m)) {
         return BAD_SOURCE;
     }
     ACCEPTED
 }
 
-// The first of the numbers 14 to 18 that applies, or ACCEPTED. The list is at `last`.
-fn telling_number(line: &[u8], m: Message, last: usize) -> u8
-    requires { ⌜ Parted (now line) m last ⌝ }
-    ensures { λ r. ⌜ r ≡ firstOf (tellingRules (contentOf (now (line .entry)))) ⌝ }
+// The first of the numbers 14 to 17 that applies, or ACCEPTED. The list is at `last`.
+fn setting_number(text: &[u8], m: Message, last: usize) -> u8
+    requires { ⌜ Parted (contentBy (now text) m) last ⌝ }
+    ensures { λ r. ⌜ r ≡ firstOf (settingRules (contentBy (now (text .entry)) m)) ⌝ }
 {
-    let Decimal::Value(time) = decimal(param_at(line, m, TIME_AT), Record::TIME) else {
+    let Decimal::Value(time) = decimal(param_in(text, m, TIME_AT), Record::TIME) else {
         return BAD_TIME;
     };
     if time == 0 {
         return ZERO_TIME;
     }
-    if !is_channel(param_at(line, m, NAME_AT)) {
+    if !is_channel(param_in(text, m, NAME_AT)) {
         return BAD_NAME;
     }
-    let modes = param_at(line, m, MODES_AT);
+    let modes = param_in(text, m, MODES_AT);
     if !good_letters(modes) {
         return BAD_MODES;
     }
-    if !good_arguments(line, m, modes, last) {
+    if !good_arguments(text, m, modes, last) {
         return BAD_MODES;
     }
-    if !good_entries(param_at(line, m, last)) {
-        return BAD_MEMBERS;
-    }
     ACCEPTED
-}
-
-// The first of the numbers 12 to 18 that applies to a line that is read, with its parts and its count of parameters, or ACCEPTED.
-fn join_number(line: &[u8], m: Message, count: usize) -> u8
-    requires { ⌜ (m ≡ messageOf (now line)) × (count ≡ length (contentOf (now line) .params)) ⌝ }
-    ensures { λ r. ⌜ r ≡ firstOf (joinRules (contentOf (now (line .entry)))) ⌝ }
-{
-    let number = source_number(line, m, count);
-    if number != ACCEPTED {
-        return number;
-    }
-    telling_number(line, m, count - 1)
 }
 
 // A name in its room, the rest of it zero.
@@ -162,32 +143,31 @@ fn key_room(key: &[u8]) -> [u8; Record::KEY]
     room
 }
 
-// The time of a line whose time is good.
-fn time_of(line: &[u8], m: Message) -> u32
-    requires { ⌜ (m ≡ messageOf (now line)) × (goodTime (contentOf (now line)) ≡ true) ⌝ }
-    ensures { λ r. ⌜ r ≡ valueOf (timeIn (contentOf (now (line .entry)))) ⌝ }
+// A time that is good.
+fn time_of(text: &[u8], m: Message) -> u32
+    requires { ⌜ goodTime (contentBy (now text) m) ≡ true ⌝ }
+    ensures { λ r. ⌜ r ≡ valueOf (timeIn (contentBy (now (text .entry)) m)) ⌝ }
 {
-    match decimal(param_at(line, m, TIME_AT), Record::TIME) {
+    match decimal(param_in(text, m, TIME_AT), Record::TIME) {
         Decimal::Value(time) => time,
         Decimal::Malformed => 0,
     }
 }
 
-// The record of the channel that a line tells of that no rule refuses. The list is at `last`.
-fn record_of(line: &[u8], m: Message, last: usize) -> Record
-    requires { ⌜ Parted (now line) m last × (firstOf (joinRules (contentOf (now line))) ≡ accepted) × (length (now line) ≤ lineLimit) ⌝ }
-    ensures { λ r. ⌜ r ≡ encode (channelIn (contentOf (now (line .entry)))) ⌝ }
+// The record of the channel that is told of where no rule refuses it. The list is at `last` and names these members.
+fn record_of(text: &[u8], m: Message, last: usize, entries: Roster) -> Record
+    requires { ⌜ Tells (contentBy (now text) m) last entries ⌝ }
+    ensures { λ r. ⌜ r ≡ encode (channelIn (contentBy (now (text .entry)) m)) ⌝ }
 {
-    let name = param_at(line, m, NAME_AT);
+    let name = param_in(text, m, NAME_AT);
     let name_held = name_room(name);
-    let time = time_of(line, m);
-    let modes = modes_byte(param_at(line, m, MODES_AT));
-    let key = argument(line, m, b'k', last);
+    let time = time_of(text, m);
+    let modes = modes_byte(param_in(text, m, MODES_AT));
+    let key = argument(text, m, b'k', last);
     let key_held = key_room(key);
-    let limit = limit_in(argument(line, m, b'l', last));
-    let list = named(param_at(line, m, last));
-    let entries = list.list;
-    let all = ordered(entries, list.count);
+    let limit = limit_in(argument(text, m, b'l', last));
+    let named = entries.list;
+    let all = ordered(named, entries.count);
     let members = all.list;
     Record {
         name: name_held,
@@ -210,24 +190,44 @@ fn refused(number: u8) -> Told
     Told { number, record }
 }
 
-// What the line says: the reader's own number, or the first of the numbers 12 to 18 that applies, or the record of the channel that it tells of.
-pub fn read_join(line: &[u8]) -> Told
-    ensures { λ r. ⌜ r ≡ toldBy (now (line .entry)) ⌝ }
+// What a message says whose parts are spans of the text: number 4 of a text that is longer than a line, or the first of the numbers 12 to 18 that applies, or
+// the record of the channel that it tells of.
+pub fn read_message(text: &[u8], m: Message) -> Told
+    ensures { λ r. ⌜ r ≡ toldIn (now (text .entry)) m ⌝ }
 {
-    let reading = read(line);
-    let Reading::Line(count) = reading else {
-        return refused(reading.number());
-    };
-    let m = parts(line);
-    let number = join_number(line, m, count);
-    if number != ACCEPTED {
-        return refused(number);
+    if LINE_LIMIT < text.len() {
+        return refused(LINE_TOO_LONG);
     }
-    let record = record_of(line, m, count - 1);
+    let source = source_number(text, m);
+    if source != ACCEPTED {
+        return refused(source);
+    }
+    let last = m.count - 1;
+    let setting = setting_number(text, m, last);
+    if setting != ACCEPTED {
+        return refused(setting);
+    }
+    let list = entries_of(param_in(text, m, last));
+    if !list.good {
+        return refused(BAD_MEMBERS);
+    }
+    let record = record_of(text, m, last, list.members);
     Told {
         number: ACCEPTED,
         record,
     }
+}
+
+// What the line says: the reader's own number, or the first of the numbers 12 to 18 that applies, or the record of the channel that it tells of.
+pub fn read_join(line: &[u8]) -> Told
+    ensures { λ r. ⌜ r ≡ toldBy (now (line .entry)) ⌝ }
+{
+    let parsed = parse(line);
+    let reading = parsed.reading;
+    let Reading::Line(_) = reading else {
+        return refused(reading.number());
+    };
+    read_message(line, parsed.message)
 }
 
 // Writes the SJOIN by which a server tells of a record, to the front of the output.

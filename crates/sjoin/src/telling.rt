@@ -26,12 +26,6 @@ use octets::part;
 use octets::put;
 use writer::form::takes_colon;
 
-// The place of voice's bit in a status.
-const VOICE_PLACE: u32 = 0;
-
-// The place of an operator's bit in a status.
-const OPERATOR_PLACE: u32 = 1;
-
 // The parameters that always come before the list: time, name and modes.
 const SETTINGS: usize = 3;
 
@@ -125,8 +119,8 @@ fn put_entry(line: &mut [u8], at: usize, m: Member) -> usize
     ensures { λ n. ⌜ Adds (now (line .entry)) at (now (line .exit)) n (entryOf m) ⌝ }
 {
     let id = m.id;
-    let marked = put_if(line, at, has_mode(m.status, OPERATOR_PLACE), b"@");
-    let next = put_if(line, marked, has_mode(m.status, VOICE_PLACE), b"+");
+    let marked = put_if(line, at, has_mode(m.status, Member::OPERATOR_PLACE), b"@");
+    let next = put_if(line, marked, has_mode(m.status, Member::VOICE_PLACE), b"+");
     put(line, next, &id)
 }
 

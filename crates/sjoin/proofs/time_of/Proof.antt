@@ -4,13 +4,13 @@ use mathlib.Core.Bool.{true≢false}
 use borrow.Author.Needs.{needs}
 use Rattle.octets.specs.Decimals.{decimalUpTo}
 use Rattle.channel.specs.Limits.{timeLimit}
-use Rattle.message.specs.Reading.{contentOf}
+use Rattle.message.specs.Parts.{contentBy}
 use Rattle.sjoin.proofs.Judged.{time-value, time-none}
 use Rattle.sjoin.proofs.time_of.Statement.{statement}
 use Rattle.sjoin.proofs.time_of.Tie as tie
 
-param-at-requires : tie.Need-param-at-requires
-param-at-requires c κs = search needs
+param-in-requires : tie.Need-param-in-requires
+param-in-requires c κs = search needs
 
 decimal-requires : tie.Need-decimal-requires
 decimal-requires c κs = search needs
@@ -22,13 +22,13 @@ enum-told : tie.Need-enum-told
 enum-told c = search needs
 
 returns : tie.Need-returns
-returns c = sym (time-value (contentOf (c .before .before .before .before .before .before .args .line .now)) (c .before .time .given .0 .0) (sym (ap (decimalUpTo timeLimit) (c .before .before .before .before .param-at .ensures)) ∙ sym (c .before .before .before .decimal .ensures .0) ∙ c .before .time .given .1) .1)
+returns c = sym (time-value (contentBy (c .before .before .before .before .before .before .args .text .now) (c .before .before .before .before .before .before .args .m)) (c .before .time .given .0 .0) (sym (ap (decimalUpTo timeLimit) (c .before .before .before .before .param-in .ensures .0)) ∙ sym (c .before .before .before .decimal .ensures .0) ∙ c .before .time .given .1) .1)
 
 returns-2 : tie.Need-returns-2
 returns-2 c =
-    absurd (true≢false (sym (c .before .before .before .before .before .pre .1) ∙ time-none (contentOf (c .before .before .before .before .before .args .line .now)) (sym (ap (decimalUpTo timeLimit) (c .before .before .before .param-at .ensures)) ∙ sym (c .before .before .decimal .ensures .0) ∙ c .enum-told .given .1)))
+    absurd (true≢false (sym (c .before .before .before .before .before .pre) ∙ time-none (contentBy (c .before .before .before .before .before .args .text .now) (c .before .before .before .before .before .args .m)) (sym (ap (decimalUpTo timeLimit) (c .before .before .before .param-in .ensures .0)) ∙ sym (c .before .before .decimal .ensures .0) ∙ c .enum-told .given .1)))
 
 pub time-of-spec : {M : Type 1} → statement M
 time-of-spec =
     tie.close
-    (tie.spec param-at-requires decimal-requires enum-known-time enum-told returns returns-2)
+    (tie.spec param-in-requires decimal-requires enum-known-time enum-told returns returns-2)

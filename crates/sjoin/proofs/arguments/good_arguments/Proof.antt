@@ -7,26 +7,27 @@ use native.Mathlib.Omega.{arith}
 use lib.ListN.{length, getD}
 use borrow.Author.Needs.{needs}
 use borrow.Author.Tests.{not-true, not-false}
-use Rattle.message.specs.Reading.{contentOf}
+use Rattle.message.specs.declared.Message.{Message}
+use Rattle.message.specs.Parts.{contentBy}
 use Rattle.sjoin.specs.Modes.{lettersOf, parametered, goodArgument, goodArguments}
 use Rattle.sjoin.specs.Join.{argumentsIn}
 use Rattle.sjoin.proofs.Parameters.{arguments-are, Good, good-end, good-skip, good-missing, good-one}
 use Rattle.sjoin.proofs.arguments.good_arguments.Statement.{statement}
 use Rattle.sjoin.proofs.arguments.good_arguments.Tie as tie
 
-abbrev params : List ℕ → List (List ℕ)
-params line = contentOf line .params
+abbrev params : List ℕ → Message → List (List ℕ)
+params text m = contentBy text m .params
 
 abbrev Inv-loop : tie.InvT-loop
-Inv-loop line m modes last at₀ i₀ at i = (at ≤ last) × (Good modes (params line) last at i i at ≡ goodArguments (parametered (lettersOf modes)) (argumentsIn (contentOf line)))
+Inv-loop text m modes last at₀ i₀ at i = (at ≤ last) × (Good modes (params text m) last at i i at ≡ goodArguments (parametered (lettersOf modes)) (argumentsIn (contentBy text m)))
 
 abbrev μ-loop : tie.MeasureT-loop
-μ-loop line m modes last at₀ i₀ at i = length modes - i
+μ-loop text m modes last at₀ i₀ at i = length modes - i
 
 loop-holds : tie.Need-loop-holds Inv-loop μ-loop
 loop-holds c =
     let a = c .before .before .args in
-    (c .before .before .pre .behind, ap (goodArguments (parametered (lettersOf (a .modes .now)))) (sym (arguments-are (contentOf (a .line .now)) (a .last) (c .before .before .pre .count))))
+    (c .before .before .pre .behind, ap (goodArguments (parametered (lettersOf (a .modes .now)))) (sym (arguments-are (contentBy (a .text .now) (a .m)) (a .last) (c .before .before .pre .count))))
 
 shared-slice-read-letter : tie.Need-shared-slice-read-letter Inv-loop μ-loop
 shared-slice-read-letter c = search needs
@@ -44,29 +45,29 @@ loop-again : tie.Need-loop-again Inv-loop μ-loop
 loop-again c =
     let a = c .before .before .before .before .before .before .before .args in
     let l = c .before .before .before .before .loop in
-    (l .inv .0, good-skip (a .modes .now) (params (a .line .now)) (a .last) (l .at) (l .i) (c .before .before .before .loop-test .taken) (sym (c .before .has-parameter .ensures) ∙ not-true _ (c .if1 .taken)) ∙ l .inv .1)
+    (l .inv .0, good-skip (a .modes .now) (params (a .text .now) (a .m)) (a .last) (l .at) (l .i) (c .before .before .before .loop-test .taken) (sym (c .before .has-parameter .ensures) ∙ not-true _ (c .if1 .taken)) ∙ l .inv .1)
 
 returns : tie.Need-returns Inv-loop μ-loop
 returns c =
     let a = c .before .before .before .before .before .before .before .before .args in
     let l = c .before .before .before .before .before .loop in
-    sym (good-missing (a .modes .now) (params (a .line .now)) (a .last) (l .at) (l .i) (c .before .before .before .before .loop-test .taken) (sym (c .before .before .has-parameter .ensures) ∙ not-false _ (c .before .if1 .left)) (c .if2 .taken)) ∙ l .inv .1
+    sym (good-missing (a .modes .now) (params (a .text .now) (a .m)) (a .last) (l .at) (l .i) (c .before .before .before .before .loop-test .taken) (sym (c .before .before .has-parameter .ensures) ∙ not-false _ (c .before .if1 .left)) (c .if2 .taken)) ∙ l .inv .1
 
-param-at-requires : tie.Need-param-at-requires Inv-loop μ-loop
-param-at-requires c κs = search needs
+param-in-requires : tie.Need-param-in-requires Inv-loop μ-loop
+param-in-requires c κs = search needs
 
 good-argument-requires : tie.Need-good-argument-requires Inv-loop μ-loop
 good-argument-requires c κs = search needs
 
 -- the parameter at hand, and those behind it
-here : (c : tie.After-good-argument Inv-loop μ-loop) (t : Bool) → c .good-argument .result ≡ t → t && Good (c .before .before .before .before .before .before .before .before .before .before .args .modes .now) (params (c .before .before .before .before .before .before .before .before .before .before .args .line .now)) (c .before .before .before .before .before .before .before .before .before .before .args .last) (c .before .before .before .before .before .before .before .loop .at) (c .before .before .before .before .before .before .before .loop .i) (c .before .before .before .before .before .before .before .loop .i + 1) (c .before .before .before .before .before .before .before .loop .at + 1) ≡ goodArguments (parametered (lettersOf (c .before .before .before .before .before .before .before .before .before .before .args .modes .now))) (argumentsIn (contentOf (c .before .before .before .before .before .before .before .before .before .before .args .line .now)))
+here : (c : tie.After-good-argument Inv-loop μ-loop) (t : Bool) → c .good-argument .result ≡ t → t && Good (c .before .before .before .before .before .before .before .before .before .before .args .modes .now) (params (c .before .before .before .before .before .before .before .before .before .before .args .text .now) (c .before .before .before .before .before .before .before .before .before .before .args .m)) (c .before .before .before .before .before .before .before .before .before .before .args .last) (c .before .before .before .before .before .before .before .loop .at) (c .before .before .before .before .before .before .before .loop .i) (c .before .before .before .before .before .before .before .loop .i + 1) (c .before .before .before .before .before .before .before .loop .at + 1) ≡ goodArguments (parametered (lettersOf (c .before .before .before .before .before .before .before .before .before .before .args .modes .now))) (argumentsIn (contentBy (c .before .before .before .before .before .before .before .before .before .before .args .text .now) (c .before .before .before .before .before .before .before .before .before .before .args .m)))
 here c t e =
     let a = c .before .before .before .before .before .before .before .before .before .before .args in
     let l = c .before .before .before .before .before .before .before .loop in
-    let k : a .last < length (params (a .line .now)) = omega (arith, c .before .before .before .before .before .before .before .before .before .before .pre .count) in
-    let rest = Good (a .modes .now) (params (a .line .now)) (a .last) (l .at) (l .i) (l .i + 1) (l .at + 1) in
-    ap (λ (u : Bool). u && rest) (sym e ∙ c .good-argument .ensures ∙ ap (goodArgument (getD (a .modes .now) (l .i) 0)) (c .before .param-at .ensures))
-    ∙ sym (good-one (a .modes .now) (params (a .line .now)) (a .last) (l .at) (l .i) (c .before .before .before .before .before .before .loop-test .taken) (sym (c .before .before .before .before .has-parameter .ensures) ∙ not-false _ (c .before .before .before .if1 .left)) (l .inv .0) (c .before .before .if2 .left) k)
+    let k : a .last < length (params (a .text .now) (a .m)) = omega (arith, c .before .before .before .before .before .before .before .before .before .before .pre .count) in
+    let rest = Good (a .modes .now) (params (a .text .now) (a .m)) (a .last) (l .at) (l .i) (l .i + 1) (l .at + 1) in
+    ap (λ (u : Bool). u && rest) (sym e ∙ c .good-argument .ensures ∙ ap (goodArgument (getD (a .modes .now) (l .i) 0)) (c .before .param-in .ensures .0))
+    ∙ sym (good-one (a .modes .now) (params (a .text .now) (a .m)) (a .last) (l .at) (l .i) (c .before .before .before .before .before .before .loop-test .taken) (sym (c .before .before .before .before .has-parameter .ensures) ∙ not-false _ (c .before .before .before .if1 .left)) (l .inv .0) (c .before .before .if2 .left) k)
     ∙ l .inv .1
 
 returns-2 : tie.Need-returns-2 Inv-loop μ-loop
@@ -88,8 +89,8 @@ returns-3 : tie.Need-returns-3 Inv-loop μ-loop
 returns-3 c =
     let a = c .before .before .before .before .args in
     let l = c .before .loop in
-    let k : a .last < length (params (a .line .now)) = omega (arith, c .before .before .before .before .pre .count) in
-    sym (good-end (a .modes .now) (params (a .line .now)) (a .last) (l .at) (l .i) (l .inv .0) k (c .loop-test .left)) ∙ l .inv .1
+    let k : a .last < length (params (a .text .now) (a .m)) = omega (arith, c .before .before .before .before .pre .count) in
+    sym (good-end (a .modes .now) (params (a .text .now) (a .m)) (a .last) (l .at) (l .i) (l .inv .0) k (c .loop-test .left)) ∙ l .inv .1
 
 pub good-arguments-spec : {M : Type 1} → statement M
 good-arguments-spec =
@@ -104,7 +105,7 @@ good-arguments-spec =
     loop-less
     loop-again
     returns
-    param-at-requires
+    param-in-requires
     good-argument-requires
     returns-2
     add-at

@@ -5,8 +5,9 @@ use mathlib.Core.List.{List}
 use Prim.Native.Nat.{ℕ, _+_}
 use borrow.Author.Needs.{needs}
 use Rattle.laws.specs.Lists.{startsWith}
+use Rattle.channel.specs.Channel.{voice, operator}
 use Rattle.sjoin.specs.Modes.{plus}
-use Rattle.sjoin.specs.Entries.{at, voice, operator, past, statusOf}
+use Rattle.sjoin.specs.Entries.{at, past, statusOf}
 use Rattle.sjoin.proofs.entries.status_of.Statement.{statement}
 use Rattle.sjoin.proofs.entries.status_of.Tie as tie
 
