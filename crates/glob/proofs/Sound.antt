@@ -1,7 +1,5 @@
--- Every step of a match keeps what its state means, and raises its rank; the step that ends it answers rightly. Where a star is passed,
--- the one before is forgotten: between the two the mask takes one byte for each of its own, so the first place where that part matches
--- leaves the most to match. So too where the text is used up and the mask's next byte is no star: a longer run leaves no more.
--- Assumes nothing.
+-- Every step of a match keeps what its state means, and raises its rank; the step that ends it answers rightly. A star that is passed makes the one before
+-- forgotten: the first place where the mask between the two matches leaves the most to match. Assumes nothing.
 use mathlib.Core.Path.{_≡_, refl, sym, ap, _∙_}
 use mathlib.Core.Bool.{Bool, true, false, true≢false, cond}
 use mathlib.Core.List.{List, [], _∷_}
@@ -104,7 +102,7 @@ module _ (mask text : List ℕ) (s : State) (ok : Sound mask text s) where
     abbrev after : List ℕ → Bool
     after = matches (drop (s .mask + 1) mask)
 
-    -- the star before is forgotten
+    -- the star before is forgotten: between the two the mask takes one byte for each of its own
     forgotten : afterRun (since mask s) (drop (s .run) text) ≡ afterRun after (drop (s .text) text)
     forgotten =
         both-ways _ _ (later after (λ t h. sym (matches-star mask (s .mask) lt is t) ∙ h))
@@ -131,7 +129,7 @@ module _ (mask text : List ℕ) (s : State) (ok : Sound mask text s) where
       omega (arith, mul-le-mul-right (length mask + 1) run-in),
     )
 
-  -- ---- the end of the text alone, with a byte to match
+  -- ---- the end of the text alone, with a byte to match: a longer run leaves no more
   used-up : s .mask < length mask → (getD mask (s .mask) 0 ≡ star → ⊥) → s .text ≡ length text → matches mask text ≡ false
   used-up lt ne e = go (eqb (s .star) 0) refl
     where

@@ -1,6 +1,4 @@
--- What reading and writing make of each other (document 01, 'Reading one line'). Reading what was written gives the message back. What was
--- read can always be written, holds the same message then, and is never longer than the line read. Writing a second time changes nothing.
--- The same holds of a line passed on with its command in capitals. True since the tests for number 24 are exactly what the grammar asks
+-- What reading and writing make of each other (document 01, 'Reading one line'). True since the tests for number 24 are exactly what the grammar asks
 -- (`Fitting`), and no line that holds a message is shorter than the fixed form (`Lengths`). Assumes nothing.
 use mathlib.Core.Path.{_≡_, refl, sym, ap, _∙_}
 use mathlib.Core.Bool.{Bool, true, not, _&&_, _||_, or-true}
