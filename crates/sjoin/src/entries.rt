@@ -68,15 +68,19 @@ fn entry_of(entry: &[u8]) -> Entry
     ensures member { λ r. ⌜ (isEntry (now (entry .entry)) ≡ true → r .member ≡ memberOf (now (entry .entry))) ⌝ }
 {
     let bytes = id_of(entry);
-    let id = user_id(bytes);
-    let status = status_of(entry);
-    let member = Member { id, status };
     if bytes.len() != USER_ID {
+        let member = Member {
+            id: [0u8; USER_ID],
+            status: 0,
+        };
         return Entry {
             good: false,
             member,
         };
     }
+    let id = user_id(bytes);
+    let status = status_of(entry);
+    let member = Member { id, status };
     Entry {
         good: is_id(id),
         member,

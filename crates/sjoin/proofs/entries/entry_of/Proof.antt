@@ -15,17 +15,17 @@ use Rattle.sjoin.proofs.entries.entry_of.Tie as tie
 id-of-requires : tie.Need-id-of-requires
 id-of-requires c κs = search needs
 
+returns : tie.Need-returns
+returns c =
+    let e = c .before .before .before .args .entry .now in
+    let n = entry-none e (λ l. c .if1 .taken (ap (λ (s : List ℕ). length s) (c .before .id-of .ensures) ∙ l)) in
+    (sym n, λ t. absurd (true≢false (sym t ∙ n)))
+
 user-id-requires : tie.Need-user-id-requires
 user-id-requires c κs = search needs
 
 status-of-requires : tie.Need-status-of-requires
 status-of-requires c κs = search needs
-
-returns : tie.Need-returns
-returns c =
-    let e = c .before .before .before .before .before .args .entry .now in
-    let n = entry-none e (λ l. c .if1 .taken (ap (λ (s : List ℕ). length s) (c .before .before .before .id-of .ensures) ∙ l)) in
-    (sym n, λ t. absurd (true≢false (sym t ∙ n)))
 
 is-id-requires : tie.Need-is-id-requires
 is-id-requires c κs = search needs
@@ -34,11 +34,11 @@ returns-2 : tie.Need-returns-2
 unfolding isEntry memberOf
 returns-2 c =
     let b = c .before .before .before .before in
-    let long : length (b .id-of .result .now) ≡ userIdLength = c .before .if1 .left in
-    let id = c .before .before .before .user-id .ensures ∙ padded-whole 0 userIdLength (b .id-of .result .now) long ∙ b .id-of .ensures in
-    (c .is-id .ensures ∙ ap isUserId id, λ t. rw (id, c .before .before .status-of .ensures))
+    let long : length (b .id-of .result .now) ≡ userIdLength = c .before .before .before .if1 .left in
+    let id = c .before .before .user-id .ensures ∙ padded-whole 0 userIdLength (b .id-of .result .now) long ∙ b .id-of .ensures in
+    (c .is-id .ensures ∙ ap isUserId id, λ t. rw (id, c .before .status-of .ensures))
 
 pub entry-of-spec : {M : Type 1} → statement M
 entry-of-spec =
     tie.close
-    (tie.spec id-of-requires user-id-requires status-of-requires returns is-id-requires returns-2)
+    (tie.spec id-of-requires returns user-id-requires status-of-requires is-id-requires returns-2)
