@@ -1,5 +1,5 @@
 -- Document 01's whole case, the line: what it says, as computed from the definitions. Instances that meet the premises of this crate's laws, of a line that
--- no rule refuses and of a channel that is told. Assumes nothing.
+-- is read, of one that no rule refuses and of a channel that is told. Assumes nothing.
 use Prim.Native.Nat.{ℕ}
 use mathlib.Core.Path.{_≡_, refl}
 use mathlib.Core.Bool.{true}
@@ -19,11 +19,12 @@ use Rattle.channel.proofs.Witnesses.{second, second-in, proper}
 use Rattle.message.specs.Grammar.{word, spaces, prefix, prefixEnd, commandStart, command, commandEnd, isCommand, rest, params}
 use Rattle.message.specs.Content.{contentIn}
 use Rattle.message.specs.Words.{wordsAt}
-use Rattle.message.specs.Reading.{crlf, endsLine, bodyOf, bodyRules, lineRules, numberFor, isRead, contentOf}
+use Rattle.message.specs.Reading.{crlf, endsLine, bodyOf, bodyRules, lineRules, numberFor, isRead, contentOf, messageOf}
 use Rattle.sjoin.specs.Modes.{once, goodLetters, modesByte, parametered, goodArguments, argumentOf, goodModes}
 use Rattle.sjoin.specs.Entries.{past, idOf, statusOf, isEntry, memberOf, goodEntries}
-use Rattle.sjoin.specs.Join.{argumentsIn, isSource, goodCount, goodTime, joinRules, channelIn, joinNumber, toldBy}
+use Rattle.sjoin.specs.Join.{argumentsIn, isSource, goodCount, goodTime, joinRules, channelIn, toldIn, joinNumber, toldBy}
 use Rattle.sjoin.specs.Telling.{sjoin, joinMessage}
+use Rattle.sjoin.proofs.Answers.{told-same}
 use Rattle.sjoin.proofs.Wellformed.{line-well}
 use Rattle.sjoin.proofs.Back.{channel-back, rules-back}
 
@@ -39,6 +40,14 @@ line-taken = refl
 pub line-tells : channelIn (contentOf line) ≡ incoming
 unfolding line incoming 1ab channelIn argumentsIn argumentOf parametered modesByte withMode placeAmong valueFrom memberOf idOf statusOf past wordsAt insert put unite compare contentOf contentIn isRead numberFor lineRules bodyRules firstOf endsLine sameBy bodyOf all isPlain startsWith prefix word prefixEnd commandStart spaces command isCommand isLetter within commandEnd rest params
 line-tells = refl
+
+-- ---- the law of a line that is read: its spans say what it says
+line-read : isRead line ≡ true
+unfolding line isRead numberFor lineRules bodyRules firstOf endsLine sameBy bodyOf all isPlain startsWith prefix word prefixEnd commandStart spaces command isCommand isLetter within commandEnd rest params
+line-read = refl
+
+line-spans : toldIn line (messageOf line) ≡ toldBy line
+line-spans = told-same line line-read
 
 -- ---- the law of a line that no rule refuses
 line-holds : wellFormed (toldBy line .«record») ≡ true

@@ -153,6 +153,10 @@ module _ (c : Content) where
 
 -- ---- of spans
 module _ (text : List ℕ) (m : Message) where
+  pub span-rules-ascend : ascend (spanRules text m) ≡ true
+  unfolding ascendFrom spanRules joinRules placeIn
+  span-rules-ascend = refl
+
   pub span-long : lineLimit < length text → lineTooLong ≡ firstOf (spanRules text m)
   unfolding spanRules
   span-long h = sym (stop _ _ (lt-ltb lineLimit (length text) h))

@@ -60,14 +60,14 @@ goodCount c = leb fewest (length (c .params)) && leb (length (c .params)) most
 unfoldable pub goodTime : Content → Bool
 goodTime c = isDecimal (timeIn c) && leb (valueOf (timeIn c)) timeLimit
 
--- of the count and the source
+-- of count and source: 12 and 13
 abbrev pub sourceRules : Content → List Rule
 sourceRules c =
     wrongParamCount when not (goodCount c)
     ∷ badSource when not (isSource (c .prefix))
     ∷ []
 
--- of time, name and modes
+-- of time, name and modes: 14 to 17
 abbrev pub settingRules : Content → List Rule
 settingRules c =
     badTime when not (goodTime c)
@@ -76,7 +76,7 @@ settingRules c =
     ∷ badModes when not (goodModes (modesIn c) (argumentsIn c))
     ∷ []
 
--- of all that it tells
+-- of all that is told: 14 to 18
 abbrev pub tellingRules : Content → List Rule
 tellingRules c = settingRules c ++ (badMembers when not (goodEntries (listIn c)) ∷ [])
 

@@ -39,14 +39,14 @@ fn past(s: &[u8], mark: u8) -> &[u8]
 }
 
 // The entry's id: what follows '@' and '+', in that order.
-pub(crate) fn id_of(entry: &[u8]) -> &[u8]
+fn id_of(entry: &[u8]) -> &[u8]
     ensures { λ r. ⌜ now r ≡ idOf (now (entry .entry)) ⌝ }
 {
     past(past(entry, b'@'), b'+')
 }
 
 // The entry's status: operator with '@', voice with '+'.
-pub(crate) fn status_of(entry: &[u8]) -> u8
+fn status_of(entry: &[u8]) -> u8
     ensures { λ r. ⌜ r ≡ statusOf (now (entry .entry)) ⌝ }
 {
     let voiced = starts_with(past(entry, b'@'), b'+');

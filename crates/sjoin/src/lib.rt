@@ -83,7 +83,7 @@ pub struct Told {
     pub record: Record,
 }
 
-// Number 12 or 13, or ACCEPTED.
+// Number 12 or 13, whichever applies first, or ACCEPTED.
 fn source_number(text: &[u8], m: Message) -> u8
     ensures { λ r. ⌜ r ≡ firstOf (sourceRules (contentBy (now (text .entry)) m)) ⌝ }
 {
@@ -143,7 +143,7 @@ fn key_room(key: &[u8]) -> [u8; Record::KEY]
     room
 }
 
-// A time that is good.
+// The time, where it is good.
 fn time_of(text: &[u8], m: Message) -> u32
     requires { ⌜ goodTime (contentBy (now text) m) ≡ true ⌝ }
     ensures { λ r. ⌜ r ≡ valueOf (timeIn (contentBy (now (text .entry)) m)) ⌝ }
