@@ -7,12 +7,12 @@ use native.Mathlib.Omega.{arith}
 use lib.ListN.{length}
 use borrow.Author.Tests.{ne-eqb, not-false, ltb-false}
 use Rattle.refusal.specs.Numbers.{accepted}
-use Rattle.refusal.specs.Rules.{firstOf, emitted}
+use Rattle.refusal.specs.Rules.{firstOf}
 use Rattle.refusal.proofs.Rules.{first-none, emitted-none, emitted-all}
 use Rattle.laws.specs.Bits.{hasBit}
 use Rattle.laws.proofs.Bools.{and-left}
 use Rattle.message.specs.Grammar.{lineLimit}
-use Rattle.message.specs.Reading.{contentOf}
+use Rattle.message.specs.Reading.{contentOf, messageOf}
 use Rattle.message.proofs.Readings.{read-small}
 use Rattle.links.specs.Links.{isLink, relaySet, linksIn}
 use Rattle.table.specs.declared.Table.{Table}
@@ -21,10 +21,10 @@ use Rattle.table.proofs.WellFormed.{slots-good}
 use Rattle.relay.specs.declared.Change.{Change}
 use Rattle.relay.specs.declared.Taken.{Taken}
 use Rattle.relay.specs.Relay.{commandIn, takenRules, processRules, relayed, withSlots, refused, taken, processAnswer, sent}
-use Rattle.relay.specs.Private.{slotsWith, sendRules, sendLine}
+use Rattle.relay.specs.Private.{slotsWith, sending}
 use Rattle.relay.proofs.Judgements.{Changes}
 use Rattle.relay.proofs.Relayed.{rules-none}
-use Rattle.relay.proofs.Enacted.{enacted-slots, enacted-line, enacted-rules}
+use Rattle.relay.proofs.Enacted.{enacted-slots, enacted-line}
 
 module _ (t : Table) (link : ℕ) (line : List ℕ) (n : ℕ) where
   -- ---- a rule refuses it
@@ -71,7 +71,5 @@ module _ (t : Table) (link : ℕ) (line : List ℕ) (n : ℕ) where
           rw (none, a, b ∙ ap (withSlots t) (enacted-slots (t .slots) line (slots-good t (passed .0)) (passed .2) j q), d, c, e)
 
       -- the line that is written is the one that goes out
-      pub written-line : (out : List ℕ) → length out ≡ n → emitted (sendRules (j .command) j line out) (sendLine (j .command) j line) ≡ relayed (t .slots) line
-      written-line out h =
-          emitted-all (sendRules (j .command) j line out) _ (enacted-rules (t .slots) line (slots-good t (passed .0)) (passed .2) j out (omega (arith, h, passed .1)) q)
-          ∙ enacted-line (t .slots) line (slots-good t (passed .0)) (passed .2) j q
+      pub written-line : (out : List ℕ) → length out ≡ n → sending (j .command) j line (messageOf line) out ≡ relayed (t .slots) line
+      written-line out h = enacted-line (t .slots) line (slots-good t (passed .0)) (passed .2) j out (omega (arith, h, passed .1)) q

@@ -7,7 +7,7 @@ use native.Mathlib.Omega.{arith}
 use borrow.Author.Tests.{lt-ltb, le-ltb, ltb-false, not-false}
 use Rattle.refusal.specs.Numbers.{accepted, notWellFormed, outputTooShort, badLink}
 use Rattle.refusal.specs.Rules.{_when_, firstOf}
-use Rattle.refusal.proofs.Rules.{skip, stop, first-none, append-some, append-none}
+use Rattle.refusal.proofs.Rules.{skip, stop, first-nil, first-none, append-some, append-none}
 use Rattle.laws.specs.Bits.{hasBit}
 use Rattle.laws.proofs.Bitwise.{bit-past}
 use Rattle.message.specs.Grammar.{lineLimit}
@@ -17,12 +17,9 @@ use Rattle.links.specs.Links.{linkCount, isLink}
 use Rattle.channel.specs.declared.Record.{Record}
 use Rattle.table.specs.declared.Table.{Table}
 use Rattle.table.specs.Table.{goodTable}
-use Rattle.relay.specs.declared.Command.{Command}
-use Rattle.relay.specs.declared.Request.{Request}
 use Rattle.relay.specs.declared.Change.{Change}
 use Rattle.relay.specs.Relay.{commandRules, commandIn, takenRules, entryRules, processRules}
-use Rattle.relay.specs.Private.{Requested}
-use Rattle.relay.proofs.Judgements.{Judged, no-rules}
+use Rattle.relay.proofs.Judgements.{Judged}
 
 -- ---- table, output and link
 -- a set of 32 bits has no link above 31
@@ -50,7 +47,7 @@ module _ (good : Bool) (set link n : ℕ) where
       entry-unlinked l = entry-link ∙ stop _ _ (ap not l)
 
       pub entry-passes : hasBit set link ≡ true → firstOf (entryRules good n set link) ≡ accepted
-      entry-passes l = entry-link ∙ skip _ _ (ap not l) ∙ no-rules
+      entry-passes l = entry-link ∙ skip _ _ (ap not l) ∙ first-nil
 
   pub entry-good : firstOf (entryRules good n set link) ≡ accepted → good ≡ true
   entry-good e = not-false _ (first-none _ _ (λ z. omega arith) e .0)
@@ -78,14 +75,6 @@ module _ (line : List ℕ) where
     pub command-decides : (slots : List Record) → firstOf (takenRules slots line) ≡ firstOf (commandRules (commandIn line) slots (contentOf line))
     unfolding takenRules numberFor
     command-decides slots = append-none (commandRules (commandIn line) slots (contentOf line)) (lineRules line) (rules-numbered line) (number-none line r)
-
-    -- what a command asks for is what the line does
-    pub command-asks : (k : Command) → commandIn line ≡ k → (q : Request) → Requested (λ slots. commandRules k slots (contentOf line)) k line q
-        → Requested (λ slots. takenRules slots line) (commandIn line) line q
-    command-asks k is q a = record {
-      refused = λ ne slots. command-decides slots ∙ ap (λ (c : Command). firstOf (commandRules c slots (contentOf line))) is ∙ a .refused ne slots;
-      asks = λ e. rw is (a .asks e);
-    }
 
 -- a command's judgement is that of the line
 pub enters-judged : (t : Table) (link : ℕ) (line : List ℕ) (n : ℕ) → firstOf (entryRules (goodTable t) n (t .links .set) link) ≡ accepted → isRead line ≡ true → (j : Change)

@@ -11,7 +11,7 @@ use lib.Dec.{ltb}
 use borrow.Author.Tests.{eq-eqb, le-ltb}
 use Rattle.refusal.specs.Numbers.{accepted, outputTooShort, badLink}
 use Rattle.refusal.specs.Rules.{Rule, _when_, firstOf}
-use Rattle.refusal.proofs.Rules.{skip, first-none, numbered, append-some, append-none, both-none}
+use Rattle.refusal.proofs.Rules.{skip, first-nil, first-none, numbered, append-some, append-none, both-none}
 use Rattle.laws.specs.Bits.{hasBit}
 use Rattle.octets.specs.Bytes.{capital}
 use Rattle.octets.proofs.Bytes.{same-refl}
@@ -36,7 +36,6 @@ use Rattle.sjoin.proofs.Wellformed.{read-proper}
 use Rattle.relay.specs.declared.Command.the-variants.{Sjoin}
 use Rattle.relay.specs.Commands.{commandOf}
 use Rattle.relay.specs.Relay.{resulting, joinedRules, joined, commandRules, commandIn, takenRules, processRules, slotsBy}
-use Rattle.relay.proofs.Judgements.{no-rules}
 
 -- ---- the rules
 -- a line that reads as SJOIN, or isn't read
@@ -135,4 +134,4 @@ module _ (slots : List Record) (c : Channel) (k : ℕ) where
 
     pub merge-room : length (merge (decode (getD slots k emptyRecord)) c .members) ≤ memberLimit → firstOf (joinedRules slots c) ≡ accepted
     unfolding joinedRules resulting
-    merge-room h = rw e (skip _ _ refl ∙ skip _ _ (le-ltb memberLimit (length (merge (decode (getD slots k emptyRecord)) c .members)) h) ∙ no-rules)
+    merge-room h = rw e (skip _ _ refl ∙ skip _ _ (le-ltb memberLimit (length (merge (decode (getD slots k emptyRecord)) c .members)) h) ∙ first-nil)

@@ -1,22 +1,23 @@
 -- The judgements of PART and QUIT: each refusal by its rule, after those that passed. Assumes nothing.
 use mathlib.Core.Path.{_≡_, refl, sym, ap, _∙_}
-use mathlib.Core.Bool.{Bool, true, false, not, cond}
+use mathlib.Core.Bool.{Bool, true, false, not}
 use mathlib.Core.List.{List, [], _∷_}
 use mathlib.Core.Option.{Option, some, none, Option·getD}
 use Prim.Native.Nat.{ℕ, _≤_, _<_}
 use native.Mathlib.Omega.{arith}
 use lib.ListN.{length, getD}
-use borrow.Author.Tests.{le-leb, lt-leb, not-false}
+use borrow.Author.Tests.{le-leb, lt-leb}
 use Rattle.refusal.specs.Numbers.{accepted, wrongParamCount, badSource, badName, noSuchChannel, notOnChannel}
 use Rattle.refusal.specs.Rules.{_when_, firstOf}
-use Rattle.refusal.proofs.Rules.{skip, stop, first-none, numbered, append-none}
+use Rattle.refusal.proofs.Rules.{skip, stop, first-nil, numbered, append-none}
 use Rattle.laws.specs.Lists.{padded}
 use Rattle.laws.proofs.Lists.{padded-whole}
 use Rattle.names.specs.Names.{userIdLength, isChannel, isUserId}
 use Rattle.names.proofs.UserIds.{no-user-id, user-length}
 use Rattle.message.specs.Content.{Content}
 use Rattle.channel.specs.declared.Record.{Record}
-use Rattle.channel.specs.Members.{hasMember}
+use Rattle.channel.specs.Limits.{slotCount}
+use Rattle.channel.specs.Members.{hasMember, without}
 use Rattle.channel.specs.Record.{decode, emptyRecord}
 use Rattle.table.specs.declared.Slot.the-variants.{Held}
 use Rattle.table.specs.Slots.{slotFor, isHeld}
@@ -24,8 +25,8 @@ use Rattle.relay.specs.declared.Command.the-variants.{Part}
 use Rattle.relay.specs.declared.Change.{Change}
 use Rattle.relay.specs.Commands.{isUser, sourceIn, partedIn}
 use Rattle.relay.specs.Relay.{partRules, partedRules, quitRules, commandRules}
-use Rattle.relay.specs.Private.{PartsHeld}
-use Rattle.relay.proofs.Judgements.{Judged, no-rules}
+use Rattle.relay.specs.Private.{noUser, change, partsHeld}
+use Rattle.relay.proofs.Judgements.{Judged, refused-judged, settles}
 
 -- ---- the source
 -- a missing prefix is the empty one, which is no user id
@@ -57,7 +58,7 @@ module _ (c : Content) where
     quit-unsourced u = quit-counted ∙ stop _ _ (ap not u)
 
     pub quit-passes : isUser (c .prefix) ≡ true → firstOf (quitRules c) ≡ accepted
-    quit-passes u = quit-counted ∙ skip _ _ (ap not u) ∙ no-rules
+    quit-passes u = quit-counted ∙ skip _ _ (ap not u) ∙ first-nil
 
 -- ---- PART, by itself
 module _ (c : Content) where
@@ -87,7 +88,7 @@ module _ (c : Content) where
         part-unnamed n = part-counted ∙ skip _ _ (ap not u) ∙ stop _ _ (ap not n)
 
         pub part-passes : isChannel (partedIn c) ≡ true → firstOf (partRules c) ≡ accepted
-        part-passes n = part-counted ∙ skip _ _ (ap not u) ∙ skip _ _ (ap not n) ∙ no-rules
+        part-passes n = part-counted ∙ skip _ _ (ap not u) ∙ skip _ _ (ap not n) ∙ first-nil
 
 -- ---- PART, in its slot
 module _ (slots : List Record) (c : Content) (passes : firstOf (partRules c) ≡ accepted) where
@@ -106,15 +107,13 @@ module _ (slots : List Record) (c : Content) (passes : firstOf (partRules c) ≡
     unfolding partedRules
     part-held = slot-decides ∙ rw e (skip _ _ refl)
 
-    part-number : (t : Bool) → firstOf (notOnChannel when not t ∷ []) ≡ cond t accepted notOnChannel
-    part-number true = skip _ _ refl ∙ no-rules
-    part-number false = stop _ _ refl
+    pub part-judged : k < slotCount → (j : Change) → j ≡ partsHeld k (getD slots k emptyRecord) (sourceIn c) → Judged (commandRules Part slots c) Part slots c j
+    unfolding partsHeld
+    part-judged i j f = go there refl
+      where
+        x : Change
+        x = change accepted Part k (without (sourceIn c) (getD slots k emptyRecord)) emptyRecord noUser
 
-    pub part-judged : (id : List ℕ) → id ≡ sourceIn c → (j : Change) → PartsHeld k (getD slots k emptyRecord) id j → Judged (commandRules Part slots c) Part slots c j
-    part-judged id g j q =
-        let is : PartsHeld k (getD slots k emptyRecord) (sourceIn c) j = rw (sym g) q in
-        record {
-          number = is .number ∙ sym (part-held ∙ part-number there);
-          inside = is .inside;
-          changes = λ z. rw e (is .change (not-false there (first-none _ _ (λ n. omega arith) (sym part-held ∙ z) .0)));
-        }
+        go : (t : Bool) → there ≡ t → Judged (commandRules Part slots c) Part slots c j
+        go true h = settles _ Part slots c accepted (part-held ∙ skip _ _ (ap not h) ∙ first-nil) j x refl i (λ _. rw e (record { command = refl; place = refl; holds = refl })) (f ∙ rw h)
+        go false h = refused-judged _ Part slots c notOnChannel (part-held ∙ stop _ _ (ap not h)) j (λ z. omega (arith, z)) (f ∙ rw h)

@@ -2,6 +2,7 @@
 pub mod Words
 pub mod Judgements
 pub mod Entering
+pub mod Asking
 pub mod Used
 pub mod Leaving
 pub mod Settling

@@ -1,71 +1,74 @@
--- What private functions ask and promise: what a line asks for, what that comes to in its slot, and what is made of it. No public contract cites this
--- file: nobody needs to believe it.
-use Prim.Native.Nat.{ℕ, _<_}
-use mathlib.Core.Path.{_≡_}
+-- What private functions promise: what a line asks for, what that comes to in its slot, and what is made of it. No public contract cites this file: noUser
+-- needs to believe it.
+use Prim.Native.Nat.{ℕ}
 use mathlib.Core.Bool.{Bool, true, false, cond}
-use mathlib.Core.List.{List, map}
-use lib.ListN.{set, replicate}
+use mathlib.Core.List.{List, [], _∷_, map}
+use lib.ListN.{getD, set, replicate}
+use lib.Dec.{eqb}
 use Rattle.refusal.specs.Numbers.{accepted, unknownCommand, noSuchChannel, notOnChannel, noFreeSlot}
-use Rattle.refusal.specs.Rules.{Rule, firstOf}
+use Rattle.refusal.specs.Rules.{Rule, _when_, firstOf, emitted}
 use Rattle.names.specs.Names.{userIdLength}
+use Rattle.message.specs.declared.Span.{Span}
+use Rattle.message.specs.declared.Message.{Message}
 use Rattle.message.specs.Content.{Content}
-use Rattle.message.specs.Reading.{contentOf}
-use Rattle.writer.specs.Form.{written}
-use Rattle.writer.specs.Writing.{forwardRules, forwarded}
+use Rattle.message.specs.Parts.{span, bytesAt, contentBy}
+use Rattle.message.specs.Reading.{numberFor, isRead, contentOf, messageOf}
+use Rattle.writer.specs.Form.{written, inCapitals}
+use Rattle.writer.specs.Writing.{writeRules}
 use Rattle.channel.specs.declared.Record.{Record}
-use Rattle.channel.specs.Limits.{slotCount}
-use Rattle.channel.specs.Channel.{Channel}
-use Rattle.channel.specs.Record.{decode, emptyRecord}
 use Rattle.channel.specs.declared.Merged.{Merged}
+use Rattle.channel.specs.Limits.{keyLimit}
+use Rattle.channel.specs.Record.{encode, decode, emptyRecord}
 use Rattle.channel.specs.Members.{hasMember, without}
-use Rattle.channel.specs.Merging.{mergeAnswer}
+use Rattle.channel.specs.Merging.{bare, combined}
 use Rattle.table.specs.declared.Found.{Found}
 use Rattle.table.specs.declared.Slot.{Slot}
 use Rattle.table.specs.declared.Slot.the-variants.{Held, Free, Full}
 use Rattle.table.specs.Slots.{foundFor}
-use Rattle.sjoin.specs.Join.{toldBy}
+use Rattle.sjoin.specs.Join.{joinRules, channelIn}
 use Rattle.sjoin.specs.Telling.{joinMessage, tellRules}
 use Rattle.relay.specs.declared.Command.{Command}
 use Rattle.relay.specs.declared.Command.the-variants.{Sjoin, Part, Quit, Unknown}
 use Rattle.relay.specs.declared.Request.{Request}
+use Rattle.relay.specs.declared.Asked.{Asked}
 use Rattle.relay.specs.declared.Change.{Change}
-use Rattle.relay.specs.Commands.{sourceIn, partedIn}
-use Rattle.relay.specs.Relay.{outgoing, partRules, quitRules}
+use Rattle.relay.specs.Commands.{sourceIn}
+use Rattle.relay.specs.Relay.{partRules, quitRules, commandIn}
+
+abbrev pub noUser : List ℕ
+noUser = replicate userIdLength 0
+
+abbrev pub nowhere : Span
+nowhere = span 0 0
 
 -- ---- what a line asks for
-abbrev pub nothing : ℕ → Request
-nothing number = record { «record» = emptyRecord; user = replicate userIdLength 0; command = Unknown; number = number }
+abbrev pub asking : Span → List ℕ → Command → ℕ → Record → Asked
+asking name user command number incoming = record { request = record { name = name; user = user; command = command; number = number }; incoming = incoming }
 
--- The record that an SJOIN tells of.
-pub record AsksJoin (line : List ℕ) (q : Request) : Type 0 where
-  pub command : q .command ≡ Sjoin
-  pub tells : record { number = accepted; «record» = q .«record» } ≡ toldBy line
+abbrev pub nothing : ℕ → Asked
+nothing number = asking nowhere noUser Unknown number emptyRecord
 
--- The channel's name, and the user who leaves it.
-pub record AsksPart (c : Content) (q : Request) : Type 0 where
-  pub command : q .command ≡ Part
-  pub names : decode (q .«record») .name ≡ partedIn c
-  pub leaves : q .user ≡ sourceIn c
-  pub passes : firstOf (partRules c) ≡ accepted
+-- the rules of a message by itself
+abbrev pub ownRules : Command → Content → List Rule
+ownRules Sjoin c = joinRules c
+ownRules Part c = partRules c
+ownRules Quit c = quitRules c
+ownRules Unknown c = unknownCommand when true ∷ []
 
--- The user who leaves every channel.
-pub record AsksQuit (c : Content) (q : Request) : Type 0 where
-  pub command : q .command ≡ Quit
-  pub leaves : q .user ≡ sourceIn c
-  pub passes : firstOf (quitRules c) ≡ accepted
+-- what it asks for where none of them applies (to an unknown command one does): the name is one of its parameters
+abbrev pub asks : Command → Message → Content → Asked
+asks Sjoin m c = asking (getD (m .params) 1 nowhere) noUser Sjoin accepted (encode (channelIn c))
+asks Part m c = asking (getD (m .params) 0 nowhere) (sourceIn c) Part accepted emptyRecord
+asks Quit m c = asking nowhere (sourceIn c) Quit accepted emptyRecord
+asks Unknown m c = nothing accepted
 
-abbrev pub Asks : Command → List ℕ → Request → Type 0
-Asks Sjoin line q = AsksJoin line q
-Asks Part line q = AsksPart (contentOf line) q
-Asks Quit line q = AsksQuit (contentOf line) q
-Asks Unknown line q = ⊥
+unfoldable pub askedBy : Command → Message → Content → Asked
+askedBy k m c = let number : ℕ = firstOf (ownRules k c) in cond (eqb number accepted) (asks k m c) (nothing number)
 
--- The number is that of the first rule that applies, whatever the slots are; where it is none, the line asks for what its message says.
-pub record Requested (rules : List Record → List Rule) (command : Command) (line : List ℕ) (q : Request) : Type 0 where
-  pub refused : (q .number ≡ accepted → ⊥) → (slots : List Record) → firstOf (rules slots) ≡ q .number
-  pub asks : q .number ≡ accepted → Asks command line q
+unfoldable pub askedOf : List ℕ → Asked
+askedOf line = cond (isRead line) (askedBy (commandIn line) (messageOf line) (contentOf line)) (nothing (numberFor line))
 
--- ---- what it comes to
+-- ---- the slot that its channel uses
 -- A QUIT names no channel, and none is looked for.
 abbrev pub isQuit : Command → Bool
 isQuit Sjoin = false
@@ -73,66 +76,64 @@ isQuit Part = false
 isQuit Quit = true
 isQuit Unknown = false
 
--- the slot that a request's channel uses
-abbrev pub lookedUp : Request → List Record → Found
-lookedUp q slots = cond (isQuit (q .command)) (record { «record» = emptyRecord; slot = Full }) (foundFor slots (decode (q .«record») .name))
+abbrev pub lookedUp : Request → List ℕ → List Record → Found
+lookedUp q line slots = cond (isQuit (q .command)) (record { «record» = emptyRecord; slot = Full }) (foundFor slots (bytesAt line (q .name)))
+
+-- ---- what it comes to there
+abbrev pub change : ℕ → Command → ℕ → Record → Record → List ℕ → Change
+change number command slot r told user = record { number = number; command = command; slot = slot; «record» = r; told = told; user = user }
 
 abbrev pub unchanged : ℕ → Change
-unchanged number = record { number = number; command = Unknown; slot = 0; «record» = emptyRecord; told = emptyRecord; user = replicate userIdLength 0 }
+unchanged number = change number Unknown 0 emptyRecord emptyRecord noUser
 
--- Slot k is to hold the record that results, and of the channel c goes out what stands of it.
-pub record Joins (k : ℕ) (result : Record) (c : Channel) (j : Change) : Type 0 where
-  pub command : j .command ≡ Sjoin
-  pub place : j .slot ≡ k
-  pub holds : j .«record» ≡ result
-  pub tells : decode (j .told) ≡ outgoing (decode result) c
+-- what goes out of an incoming record, by the one that results
+unfoldable pub toldOf : Record → Record → Record
+toldOf result incoming =
+    let counts : Bool = eqb (incoming .time) (result .time) in
+    record {
+      name = result .name;
+      «name_len» = result .«name_len»;
+      time = result .time;
+      modes = cond counts (incoming .modes) 0;
+      key = cond counts (incoming .key) (replicate keyLimit 0);
+      «key_len» = cond counts (incoming .«key_len») 0;
+      limit = cond counts (incoming .limit) 0;
+      members = cond counts (incoming .members) (bare (incoming .members));
+      count = incoming .count;
+    }
 
--- Slot k is to hold the record that is left.
-pub record Parts (k : ℕ) (result : Record) (j : Change) : Type 0 where
-  pub command : j .command ≡ Part
-  pub place : j .slot ≡ k
-  pub holds : j .«record» ≡ result
+-- slot k is to hold the record that results, and what stands of the incoming one goes out
+abbrev pub joins : ℕ → Record → Record → Change
+joins k result incoming = change accepted Sjoin k result (toldOf result incoming) noUser
 
--- The user is to leave every channel.
-pub record Quits (user : List ℕ) (j : Change) : Type 0 where
-  pub command : j .command ≡ Quit
-  pub leaves : j .user ≡ user
-
--- Slot k is to hold what a merge answers, unless it is refused.
-pub record JoinsHeld (k : ℕ) (answer : Merged) (c : Channel) (j : Change) : Type 0 where
-  pub number : j .number ≡ answer .number
-  pub inside : j .slot < slotCount
-  pub change : answer .number ≡ accepted → Joins k (answer .result) c j
-
--- Slot k is to hold the record that is left, unless the user isn't there.
-pub record PartsHeld (k : ℕ) (held : Record) (user : List ℕ) (j : Change) : Type 0 where
-  pub number : j .number ≡ cond (hasMember user (decode held .members)) accepted notOnChannel
-  pub inside : j .slot < slotCount
-  pub change : hasMember user (decode held .members) ≡ true → Parts k (without user held) j
-
--- the slot, where there is one, is one of the table's
-abbrev pub Inside : Slot → Type 0
-Inside (Held k) = k < slotCount
-Inside (Free k) = k < slotCount
-Inside Full = Unit {0}
+-- the result is what the records merge to, unless that is refused
+unfoldable pub joinsHeld : ℕ → Record → Record → Change
+joinsHeld k held incoming = let m : Merged = combined held incoming in cond (eqb (m .number) accepted) (joins k (m .result) incoming) (unchanged (m .number))
 
 -- by the slot that the name uses, and the record that has it
-abbrev pub JoinsFound : Slot → Record → Record → Change → Type 0
-JoinsFound (Held k) held incoming j = JoinsHeld k (mergeAnswer held incoming) (decode incoming) j
-JoinsFound (Free k) held incoming j = (j .number ≡ accepted) × Joins k incoming (decode incoming) j
-JoinsFound Full held incoming j = j ≡ unchanged noFreeSlot
+abbrev pub joinsFound : Slot → Record → Record → Change
+joinsFound (Held k) held incoming = joinsHeld k held incoming
+joinsFound (Free k) held incoming = joins k incoming incoming
+joinsFound Full held incoming = unchanged noFreeSlot
 
-abbrev pub PartsFound : Slot → Record → List ℕ → Change → Type 0
-PartsFound (Held k) held user j = PartsHeld k held user j
-PartsFound (Free k) held user j = j ≡ unchanged noSuchChannel
-PartsFound Full held user j = j ≡ unchanged noSuchChannel
+-- slot k is to hold the record that is left, unless the user isn't there
+unfoldable pub partsHeld : ℕ → Record → List ℕ → Change
+partsHeld k held user = cond (hasMember user (decode held .members)) (change accepted Part k (without user held) emptyRecord noUser) (unchanged notOnChannel)
 
--- what a request comes to, by its command
-abbrev pub Settled : Command → Request → Found → Change → Type 0
-Settled Sjoin q f j = JoinsFound (f .slot) (f .«record») (q .«record») j
-Settled Part q f j = PartsFound (f .slot) (f .«record») (q .user) j
-Settled Quit q f j = (j .number ≡ accepted) × (j .slot < slotCount) × Quits (q .user) j
-Settled Unknown q f j = j ≡ unchanged unknownCommand
+abbrev pub partsFound : Slot → Record → List ℕ → Change
+partsFound (Held k) held user = partsHeld k held user
+partsFound (Free k) held user = unchanged noSuchChannel
+partsFound Full held user = unchanged noSuchChannel
+
+-- the user is to leave every channel
+abbrev pub quits : List ℕ → Change
+quits user = change accepted Quit 0 emptyRecord emptyRecord user
+
+abbrev pub settledBy : Command → Request → Record → Found → Change
+settledBy Sjoin q incoming f = joinsFound (f .slot) (f .«record») incoming
+settledBy Part q incoming f = partsFound (f .slot) (f .«record») (q .user)
+settledBy Quit q incoming f = quits (q .user)
+settledBy Unknown q incoming f = unchanged unknownCommand
 
 -- ---- what is made of it
 abbrev pub slotsWith : Command → Change → List Record → List Record
@@ -141,15 +142,17 @@ slotsWith Part j slots = set slots (j .slot) (j .«record»)
 slotsWith Quit j slots = map (without (j .user)) slots
 slotsWith Unknown j slots = slots
 
--- the rules of what is written, and the line
-abbrev pub sendRules : Command → Change → List ℕ → List ℕ → List Rule
-sendRules Sjoin j line out = tellRules (sourceIn (contentOf line)) (decode (j .told)) out
-sendRules Part j line out = forwardRules line out
-sendRules Quit j line out = forwardRules line out
-sendRules Unknown j line out = forwardRules line out
+-- what is written: an SJOIN that tells of a record, or the message as read
+abbrev pub toldAnew : List ℕ → Message → Record → List ℕ → List ℕ
+toldAnew line m told out =
+    let sid : List ℕ = sourceIn (contentBy line m) in
+    emitted (tellRules sid (decode told) out) (written (joinMessage sid (decode told)))
 
-abbrev pub sendLine : Command → Change → List ℕ → List ℕ
-sendLine Sjoin j line = written (joinMessage (sourceIn (contentOf line)) (decode (j .told)))
-sendLine Part j line = forwarded line
-sendLine Quit j line = forwarded line
-sendLine Unknown j line = forwarded line
+abbrev pub passedOn : List ℕ → Message → List ℕ → List ℕ
+passedOn line m out = emitted (writeRules line m out) (written (inCapitals (contentBy line m)))
+
+abbrev pub sending : Command → Change → List ℕ → Message → List ℕ → List ℕ
+sending Sjoin j line m out = toldAnew line m (j .told) out
+sending Part j line m out = passedOn line m out
+sending Quit j line m out = passedOn line m out
+sending Unknown j line m out = passedOn line m out

@@ -3,27 +3,21 @@ ghost use mathlib.Core.Path.{_≡_};
 ghost use mathlib.Core.List.{map};
 ghost use Prim.Native.Nat.{_<_};
 ghost use lib.ListN.{length, set};
-ghost use Rattle.refusal.specs.Rules.{emitted};
 ghost use Rattle.octets.specs.Room.{front};
-ghost use Rattle.message.specs.Reading.{contentOf};
-ghost use Rattle.writer.specs.Form.{written};
-ghost use Rattle.writer.specs.Writing.{forwardRules, forwarded};
 ghost use Rattle.channel.specs.Limits.{slotCount};
-ghost use Rattle.channel.specs.Record.{decode};
 ghost use Rattle.channel.specs.Members.{without as withoutOf};
-ghost use Rattle.sjoin.specs.Telling.{joinMessage, tellRules};
-ghost use Rattle.relay.specs.Commands.{sourceIn};
 ghost use Rattle.relay.specs.Relay.{withSlots};
-ghost use Rattle.relay.specs.Private.{slotsWith, sendRules, sendLine};
+ghost use Rattle.relay.specs.Private.{slotsWith, toldAnew, passedOn, sending};
 use crate::Change;
 use crate::Command;
 use channel::Record;
 use channel::members::without;
-use message::prefix;
+use message::Message;
+use message::spans::prefix_in;
 use names::USER_ID;
 use sjoin::write_join;
 use table::Table;
-use writer::forward;
+use writer::forward_message;
 
 // The table with another record in slot k.
 fn with_record(t: Table, k: usize, r: Record) -> Table
@@ -67,33 +61,33 @@ pub(crate) fn changed(t: Table, change: Change) -> Table
 }
 
 // Writes the SJOIN that goes out, and answers its length.
-fn tell(line: &[u8], told: Record, out: &mut [u8]) -> usize
-    ensures answer { λ r. ⌜ r ≡ length (emitted (tellRules (sourceIn (contentOf (now (line .entry)))) (decode told) (now (out .entry))) (written (joinMessage (sourceIn (contentOf (now (line .entry)))) (decode told)))) ⌝ }
-    ensures output { λ _. ⌜ now (out .exit) ≡ front (emitted (tellRules (sourceIn (contentOf (now (line .entry)))) (decode told) (now (out .entry))) (written (joinMessage (sourceIn (contentOf (now (line .entry)))) (decode told)))) (now (out .entry)) ⌝ }
+fn tell(line: &[u8], m: Message, told: Record, out: &mut [u8]) -> usize
+    ensures answer { λ r. ⌜ r ≡ length (toldAnew (now (line .entry)) m told (now (out .entry))) ⌝ }
+    ensures output { λ _. ⌜ now (out .exit) ≡ front (toldAnew (now (line .entry)) m told (now (out .entry))) (now (out .entry)) ⌝ }
 {
-    let w = write_join(prefix(line), told, out);
+    let w = write_join(prefix_in(line, m), told, out);
     w.len
 }
 
 // Writes the line as it was read, and answers its length.
-fn pass_on(line: &[u8], out: &mut [u8]) -> usize
-    ensures answer { λ r. ⌜ r ≡ length (emitted (forwardRules (now (line .entry)) (now (out .entry))) (forwarded (now (line .entry)))) ⌝ }
-    ensures output { λ _. ⌜ now (out .exit) ≡ front (emitted (forwardRules (now (line .entry)) (now (out .entry))) (forwarded (now (line .entry)))) (now (out .entry)) ⌝ }
+fn pass_on(line: &[u8], m: Message, out: &mut [u8]) -> usize
+    ensures answer { λ r. ⌜ r ≡ length (passedOn (now (line .entry)) m (now (out .entry))) ⌝ }
+    ensures output { λ _. ⌜ now (out .exit) ≡ front (passedOn (now (line .entry)) m (now (out .entry))) (now (out .entry)) ⌝ }
 {
-    let w = forward(line, out);
+    let w = forward_message(line, m, out);
     w.len
 }
 
 // Writes the line that goes out to the front of the output, and answers its length: SJOIN anew, PART and QUIT as read.
-pub(crate) fn send(line: &[u8], change: Change, out: &mut [u8]) -> usize
-    ensures answer { λ r. ⌜ r ≡ length (emitted (sendRules (change .command) change (now (line .entry)) (now (out .entry))) (sendLine (change .command) change (now (line .entry)))) ⌝ }
-    ensures output { λ _. ⌜ now (out .exit) ≡ front (emitted (sendRules (change .command) change (now (line .entry)) (now (out .entry))) (sendLine (change .command) change (now (line .entry)))) (now (out .entry)) ⌝ }
+pub(crate) fn send(line: &[u8], m: Message, change: Change, out: &mut [u8]) -> usize
+    ensures answer { λ r. ⌜ r ≡ length (sending (change .command) change (now (line .entry)) m (now (out .entry))) ⌝ }
+    ensures output { λ _. ⌜ now (out .exit) ≡ front (sending (change .command) change (now (line .entry)) m (now (out .entry))) (now (out .entry)) ⌝ }
 {
     let command = change.command;
     match command {
-        Command::Sjoin => tell(line, change.told, out),
-        Command::Part => pass_on(line, out),
-        Command::Quit => pass_on(line, out),
-        Command::Unknown => pass_on(line, out),
+        Command::Sjoin => tell(line, m, change.told, out),
+        Command::Part => pass_on(line, m, out),
+        Command::Quit => pass_on(line, m, out),
+        Command::Unknown => pass_on(line, m, out),
     }
 }

@@ -1,14 +1,10 @@
 // The judgement: table, output and link first; and, of what a line asks for, what it comes to in the slot that its channel's name uses. Nothing is
 // written.
 ghost use mathlib.Core.Path.{_≡_};
-ghost use Prim.Native.Nat.{_<_};
-ghost use Rattle.refusal.specs.Numbers.{accepted};
 ghost use Rattle.refusal.specs.Rules.{firstOf};
-ghost use Rattle.channel.specs.Limits.{slotCount};
-ghost use Rattle.channel.specs.Record.{decode};
-ghost use Rattle.channel.specs.Merging.{bare as bareOf, mergeAnswer};
-ghost use Rattle.relay.specs.Relay.{outgoing as outgoingOf, entryRules};
-ghost use Rattle.relay.specs.Private.{unchanged, isQuit, lookedUp, Inside, Joins, JoinsHeld, JoinsFound, PartsHeld, PartsFound, Quits, Settled};
+ghost use Rattle.channel.specs.Merging.{bare as bareOf};
+ghost use Rattle.relay.specs.Relay.{entryRules};
+ghost use Rattle.relay.specs.Private.{isQuit, lookedUp, unchanged, toldOf, joins as joinsOf, joinsHeld, joinsFound, partsHeld, partsFound, quits as quitsOf, settledBy};
 use crate::Change;
 use crate::Command;
 use crate::Request;
@@ -16,7 +12,7 @@ use channel::Member;
 use channel::Record;
 use channel::members::has_member;
 use channel::members::without;
-use channel::merge;
+use channel::merging::combine;
 use links::Links;
 use links::has_link;
 use message::LINE_LIMIT;
@@ -65,9 +61,8 @@ fn is_quit(command: Command) -> bool
 }
 
 // The slot that the name of a request's channel uses. A QUIT names no channel, and none is looked for.
-pub(crate) fn slot_of(t: Table, request: Request) -> Found
-    ensures found { λ r. ⌜ r ≡ lookedUp request (t .slots) ⌝ }
-    ensures inside { λ r. ⌜ Inside (r .slot) ⌝ }
+pub(crate) fn slot_of(t: Table, line: &[u8], request: Request) -> Found
+    ensures { λ r. ⌜ r ≡ lookedUp request (now (line .entry)) (t .slots) ⌝ }
 {
     let command = request.command;
     if is_quit(command) {
@@ -75,9 +70,8 @@ pub(crate) fn slot_of(t: Table, request: Request) -> Found
         let slot = Slot::Full;
         return Found { record, slot };
     }
-    let channel = request.record;
-    let name = channel.name;
-    find(t, part(&name, 0, channel.name_len))
+    let name = request.name;
+    find(t, part(line, name.start, name.end))
 }
 
 // Nothing is to change.
@@ -110,7 +104,7 @@ fn bare(members: [Member; Record::MEMBERS]) -> [Member; Record::MEMBERS]
 
 // What goes out of an incoming record, by the one that results: for a later incoming time no modes and bare ids.
 fn outgoing(result: Record, incoming: Record) -> Record
-    ensures { λ r. ⌜ decode r ≡ outgoingOf (decode result) (decode incoming) ⌝ }
+    ensures { λ r. ⌜ r ≡ toldOf result incoming ⌝ }
 {
     let name = result.name;
     if incoming.time == result.time {
@@ -136,8 +130,7 @@ fn outgoing(result: Record, incoming: Record) -> Record
 
 // An incoming record is to change what slot k holds into the record that results.
 fn joins(k: usize, result: Record, incoming: Record) -> Change
-    ensures number { λ r. ⌜ r .number ≡ accepted ⌝ }
-    ensures change { λ r. ⌜ Joins k result (decode incoming) r ⌝ }
+    ensures { λ r. ⌜ r ≡ joinsOf k result incoming ⌝ }
 {
     let told = outgoing(result, incoming);
     Change {
@@ -150,12 +143,11 @@ fn joins(k: usize, result: Record, incoming: Record) -> Change
     }
 }
 
-// An incoming record is to be merged into the one that slot k holds.
+// An incoming record is to be merged into the one that slot k holds. Both are well formed, and of one channel: neither is tested again.
 fn joins_held(k: usize, held: Record, incoming: Record) -> Change
-    requires { ⌜ k < slotCount ⌝ }
-    ensures { λ r. ⌜ JoinsHeld k (mergeAnswer held incoming) (decode incoming) r ⌝ }
+    ensures { λ r. ⌜ r ≡ joinsHeld k held incoming ⌝ }
 {
-    let merged = merge(held, incoming);
+    let merged = combine(held, incoming);
     let number = merged.number;
     if number != ACCEPTED {
         return refusal(number);
@@ -165,8 +157,7 @@ fn joins_held(k: usize, held: Record, incoming: Record) -> Change
 
 // An incoming record is to be merged into the one that has its name, or opens the lowest free slot.
 fn joins_found(slot: Slot, held: Record, incoming: Record) -> Change
-    requires { ⌜ Inside slot ⌝ }
-    ensures { λ r. ⌜ JoinsFound slot held incoming r ⌝ }
+    ensures { λ r. ⌜ r ≡ joinsFound slot held incoming ⌝ }
 {
     match slot {
         Slot::Held(k) => joins_held(k, held, incoming),
@@ -177,8 +168,7 @@ fn joins_found(slot: Slot, held: Record, incoming: Record) -> Change
 
 // The user is to leave what slot k holds, if it is there.
 fn parts_held(k: usize, held: Record, user: [u8; USER_ID]) -> Change
-    requires { ⌜ k < slotCount ⌝ }
-    ensures { λ r. ⌜ PartsHeld k held user r ⌝ }
+    ensures { λ r. ⌜ r ≡ partsHeld k held user ⌝ }
 {
     if !has_member(held, user) {
         return refusal(NOT_ON_CHANNEL);
@@ -190,14 +180,13 @@ fn parts_held(k: usize, held: Record, user: [u8; USER_ID]) -> Change
         slot: k,
         record,
         told: Record::empty(),
-        user,
+        user: [0u8; USER_ID],
     }
 }
 
 // The user is to leave the channel that has the name, if there is one.
 fn parts_found(slot: Slot, held: Record, user: [u8; USER_ID]) -> Change
-    requires { ⌜ Inside slot ⌝ }
-    ensures { λ r. ⌜ PartsFound slot held user r ⌝ }
+    ensures { λ r. ⌜ r ≡ partsFound slot held user ⌝ }
 {
     match slot {
         Slot::Held(k) => parts_held(k, held, user),
@@ -208,7 +197,7 @@ fn parts_found(slot: Slot, held: Record, user: [u8; USER_ID]) -> Change
 
 // The user is to leave every channel.
 fn quits(user: [u8; USER_ID]) -> Change
-    ensures { λ r. ⌜ (r .number ≡ accepted) × (r .slot < slotCount) × Quits user r ⌝ }
+    ensures { λ r. ⌜ r ≡ quitsOf user ⌝ }
 {
     let none = Record::empty();
     Change {
@@ -221,17 +210,16 @@ fn quits(user: [u8; USER_ID]) -> Change
     }
 }
 
-// What a request comes to in the slot that its channel's name uses: one of the numbers 19 to 22, or what is to change. An unknown command makes no
-// request; its number is the one that it got before.
-pub(crate) fn settled(request: Request, found: Found) -> Change
-    requires { ⌜ Inside (found .slot) ⌝ }
-    ensures { λ r. ⌜ Settled (request .command) request found r ⌝ }
+// What a request comes to in the slot that its channel's name uses, with the record that an SJOIN tells of: one of the numbers 19 to 22, or what is to
+// change. An unknown command makes no request; its number is the one that it got before.
+pub(crate) fn settled(request: Request, incoming: Record, found: Found) -> Change
+    ensures { λ r. ⌜ r ≡ settledBy (request .command) request incoming found ⌝ }
 {
     let command = request.command;
     let slot = found.slot;
     let user = request.user;
     match command {
-        Command::Sjoin => joins_found(slot, found.record, request.record),
+        Command::Sjoin => joins_found(slot, found.record, incoming),
         Command::Part => parts_found(slot, found.record, user),
         Command::Quit => quits(user),
         Command::Unknown => refusal(UNKNOWN_COMMAND),

@@ -3,7 +3,6 @@
 mod acting;
 mod judging;
 mod requests;
-mod spans;
 
 ghost use mathlib.Core.Path.{_≡_};
 ghost use lib.ListN.{length};
@@ -17,6 +16,8 @@ use judging::settled;
 use judging::slot_of;
 use links::count;
 use links::relay_set;
+use message::Span;
+use message::parse;
 use names::USER_ID;
 use refusal::ACCEPTED;
 use requests::requested;
@@ -31,17 +32,23 @@ enum Command {
     Unknown,
 }
 
-// What a line asks for by itself: the number of its refusal, or ACCEPTED, its command and what that is about. SJOIN has the record that it tells of, PART
-// a record with the channel's name alone and the user, QUIT the user. What doesn't belong to the command is zero.
+// What a message asks for by itself: the number of its refusal, or ACCEPTED, its command, the name of the channel that it is about, as a part of the
+// line, and the user who leaves. An SJOIN has a name, a PART both, a QUIT a user. What doesn't belong to the command is zero.
 struct Request {
-    record: Record,
+    name: Span,
     user: [u8; USER_ID],
     command: Command,
     number: u8,
 }
 
+// A request, and the record that an SJOIN tells of; beside any other it is empty.
+struct Asked {
+    request: Request,
+    incoming: Record,
+}
+
 // What a request comes to: the number of its refusal, or ACCEPTED and what is to change. With SJOIN and PART one slot then holds another record,
-// and of an SJOIN the record `told` goes out; with QUIT the user leaves every channel. What a command doesn't use is not looked at.
+// and of an SJOIN the record `told` goes out; with QUIT the user leaves every channel. What doesn't belong to the command is zero.
 struct Change {
     number: u8,
     command: Command,
@@ -75,9 +82,9 @@ fn refused(t: Table, number: u8) -> Taken
     }
 }
 
-// Takes a line that came from a link: table, output and link are tested, then the line by itself, then what it comes to in the slot that its channel's
-// name uses; unless a number refuses it, the table changes, and the line that goes out is written to the front of the output. The table is handed to few
-// functions, since each copies it.
+// Takes a line that came from a link: table, output and link are tested, then the line by itself, which is read once, then what it comes to in the slot
+// that its channel's name uses; unless a number refuses it, the table changes, and the line that goes out is written to the front of the output. The table
+// is handed to few functions, since each copies it.
 pub fn process(t: Table, link: u32, line: &[u8], out: &mut [u8]) -> Taken
     ensures answer { λ r. ⌜ r ≡ processAnswer t link (now (line .entry)) (length (now (out .entry))) ⌝ }
     ensures output { λ _. ⌜ now (out .exit) ≡ front (sent t link (now (line .entry)) (length (now (out .entry)))) (now (out .entry)) ⌝ }
@@ -86,17 +93,19 @@ pub fn process(t: Table, link: u32, line: &[u8], out: &mut [u8]) -> Taken
     if entry != ACCEPTED {
         return refused(t, entry);
     }
-    let request = requested(line);
-    let asked = request.number;
-    if asked != ACCEPTED {
-        return refused(t, asked);
+    let parsed = parse(line);
+    let asked = requested(line, parsed);
+    let request = asked.request;
+    let asks = request.number;
+    if asks != ACCEPTED {
+        return refused(t, asks);
     }
-    let change = settled(request, slot_of(t, request));
+    let change = settled(request, asked.incoming, slot_of(t, line, request));
     let number = change.number;
     if number != ACCEPTED {
         return refused(t, number);
     }
-    let len = send(line, change, out);
+    let len = send(line, parsed.message, change, out);
     let set = relay_set(t.links, link);
     let n = count(set);
     let table = changed(t, change);

@@ -1,42 +1,39 @@
 // What a line asks for by itself: its command, and the channel and the user that it is about, or the number of its refusal. No table is looked at, and
 // nothing is written.
 ghost use mathlib.Core.Path.{_≡_};
-ghost use mathlib.Core.Bool.{true};
 ghost use mathlib.Core.List.{map};
-ghost use lib.ListN.{length};
 ghost use Prim.Native.Nat.{_≤_};
-ghost use Rattle.refusal.specs.Numbers.{accepted};
+ghost use lib.ListN.{length};
 ghost use Rattle.octets.specs.Bytes.{capital as capitalOf};
 ghost use Rattle.laws.specs.Lists.{same};
-ghost use Rattle.names.specs.Names.{nameLimit};
-ghost use Rattle.message.specs.Reading.{isRead, contentOf, messageOf};
-ghost use Rattle.channel.specs.Record.{decode};
+ghost use Rattle.message.specs.Grammar.{lineLimit};
+ghost use Rattle.message.specs.Parts.{contentBy};
+ghost use Rattle.message.specs.Reading.{parsedOf};
 ghost use Rattle.relay.specs.declared.Command.the-variants.{Sjoin, Part, Quit};
 ghost use Rattle.relay.specs.Commands.{commandOf};
-ghost use Rattle.relay.specs.Relay.{commandRules, commandIn, takenRules};
-ghost use Rattle.relay.specs.Private.{nothing as nothingOf, Requested};
+ghost use Rattle.relay.specs.Private.{nothing as nothingOf, askedBy, askedOf};
+use crate::Asked;
 use crate::Command;
 use crate::Request;
-use crate::spans::command_at;
-use crate::spans::name_at;
-use crate::spans::prefix_at;
 use channel::Record;
 use message::Message;
+use message::Parsed;
 use message::Reading;
-use message::parts;
-use message::read;
+use message::Span;
+use message::spans::command_in;
+use message::spans::param_in;
+use message::spans::prefix_in;
 use names::USER_ID;
 use names::is_channel;
 use names::is_user_id;
 use names::user_id;
 use octets::capital;
-use octets::put;
 use refusal::ACCEPTED;
 use refusal::BAD_NAME;
 use refusal::BAD_SOURCE;
 use refusal::UNKNOWN_COMMAND;
 use refusal::WRONG_PARAM_COUNT;
-use sjoin::read_join;
+use sjoin::read_message;
 
 // Whether a word is the name in capitals, letters compared without case.
 fn is_word(word: &[u8], name: &[u8]) -> bool
@@ -72,110 +69,111 @@ fn command_of(word: &[u8]) -> Command
 }
 
 // Nothing is asked for.
-fn nothing(number: u8) -> Request
+fn nothing(number: u8) -> Asked
     ensures { λ r. ⌜ r ≡ nothingOf number ⌝ }
 {
-    Request {
-        record: Record::empty(),
+    let request = Request {
+        name: Span { start: 0, end: 0 },
         user: [0u8; USER_ID],
         command: Command::Unknown,
         number,
+    };
+    Asked {
+        request,
+        incoming: Record::empty(),
     }
 }
 
-// SJOIN: the record that the line tells of.
-fn join_request(line: &[u8]) -> Request
-    requires { ⌜ isRead (now line) ≡ true ⌝ }
-    ensures { λ r. ⌜ Requested (λ slots. commandRules Sjoin slots (contentOf (now (line .entry)))) Sjoin (now (line .entry)) r ⌝ }
+// SJOIN: the name, and the record that the line tells of.
+fn join_request(line: &[u8], m: Message) -> Asked
+    requires { ⌜ length (now line) ≤ lineLimit ⌝ }
+    ensures { λ r. ⌜ r ≡ askedBy Sjoin m (contentBy (now (line .entry)) m) ⌝ }
 {
-    let told = read_join(line);
+    let told = read_message(line, m);
     let number = told.number;
     if number != ACCEPTED {
         return nothing(number);
     }
-    let record = told.record;
-    Request {
-        record,
+    let name = m.params[1];
+    let request = Request {
+        name,
         user: [0u8; USER_ID],
         command: Command::Sjoin,
         number,
-    }
+    };
+    let incoming = told.record;
+    Asked { request, incoming }
 }
 
-// A record that has a name and nothing else.
-fn named(name: &[u8]) -> Record
-    requires { ⌜ length (now name) ≤ nameLimit ⌝ }
-    ensures { λ r. ⌜ decode r .name ≡ now (name .entry) ⌝ }
+// PART: the channel's name, and the user who leaves it.
+fn part_request(line: &[u8], m: Message) -> Asked
+    ensures { λ r. ⌜ r ≡ askedBy Part m (contentBy (now (line .entry)) m) ⌝ }
 {
-    let mut room = [0u8; Record::NAME];
-    put(&mut room, 0, name);
-    let mut r = Record::empty();
-    r.name = room;
-    r.name_len = name.len();
-    r
-}
-
-// PART, with its parts and its count of parameters: the channel's name, and the user who leaves it.
-fn part_request(line: &[u8], m: Message, count: usize) -> Request
-    requires { ⌜ (m ≡ messageOf (now line)) × (count ≡ length (contentOf (now line) .params)) ⌝ }
-    ensures { λ r. ⌜ Requested (λ slots. commandRules Part slots (contentOf (now (line .entry)))) Part (now (line .entry)) r ⌝ }
-{
+    let count = m.count;
     if count < 1 {
         return nothing(WRONG_PARAM_COUNT);
     }
     if 2 < count {
         return nothing(WRONG_PARAM_COUNT);
     }
-    let source = prefix_at(line, m);
+    let source = prefix_in(line, m);
     if !is_user_id(source) {
         return nothing(BAD_SOURCE);
     }
-    let name = name_at(line, m);
-    if !is_channel(name) {
+    if !is_channel(param_in(line, m, 0)) {
         return nothing(BAD_NAME);
     }
-    Request {
-        record: named(name),
+    let name = m.params[0];
+    let request = Request {
+        name,
         user: user_id(source),
         command: Command::Part,
         number: ACCEPTED,
+    };
+    Asked {
+        request,
+        incoming: Record::empty(),
     }
 }
 
-// QUIT, with its parts and its count of parameters: the user who leaves every channel.
-fn quit_request(line: &[u8], m: Message, count: usize) -> Request
-    requires { ⌜ (m ≡ messageOf (now line)) × (count ≡ length (contentOf (now line) .params)) ⌝ }
-    ensures { λ r. ⌜ Requested (λ slots. commandRules Quit slots (contentOf (now (line .entry)))) Quit (now (line .entry)) r ⌝ }
+// QUIT: the user who leaves every channel.
+fn quit_request(line: &[u8], m: Message) -> Asked
+    ensures { λ r. ⌜ r ≡ askedBy Quit m (contentBy (now (line .entry)) m) ⌝ }
 {
+    let count = m.count;
     if 1 < count {
         return nothing(WRONG_PARAM_COUNT);
     }
-    let source = prefix_at(line, m);
+    let source = prefix_in(line, m);
     if !is_user_id(source) {
         return nothing(BAD_SOURCE);
     }
-    Request {
-        record: Record::empty(),
+    let request = Request {
+        name: Span { start: 0, end: 0 },
         user: user_id(source),
         command: Command::Quit,
         number: ACCEPTED,
+    };
+    Asked {
+        request,
+        incoming: Record::empty(),
     }
 }
 
-// What a line asks for: the reader's own number, or the first of the numbers 11 to 18 that applies, or the request.
-pub(crate) fn requested(line: &[u8]) -> Request
-    ensures request { λ r. ⌜ Requested (λ slots. takenRules slots (now (line .entry))) (commandIn (now (line .entry))) (now (line .entry)) r ⌝ }
-    ensures read { λ r. ⌜ (r .number ≡ accepted → isRead (now (line .entry)) ≡ true) ⌝ }
+// What a line asks for, with what it reads as: the reader's own number, or the first of the numbers 11 to 18 that applies, or the request.
+pub(crate) fn requested(line: &[u8], parsed: Parsed) -> Asked
+    requires { ⌜ parsed ≡ parsedOf (now line) ⌝ }
+    ensures { λ r. ⌜ r ≡ askedOf (now (line .entry)) ⌝ }
 {
-    let reading = read(line);
-    let Reading::Line(count) = reading else {
+    let reading = parsed.reading;
+    let Reading::Line(_) = reading else {
         return nothing(reading.number());
     };
-    let m = parts(line);
-    match command_of(command_at(line, m)) {
-        Command::Sjoin => join_request(line),
-        Command::Part => part_request(line, m, count),
-        Command::Quit => quit_request(line, m, count),
+    let m = parsed.message;
+    match command_of(command_in(line, m)) {
+        Command::Sjoin => join_request(line, m),
+        Command::Part => part_request(line, m),
+        Command::Quit => quit_request(line, m),
         Command::Unknown => nothing(UNKNOWN_COMMAND),
     }
 }

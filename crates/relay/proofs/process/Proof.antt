@@ -9,14 +9,18 @@ use Rattle.refusal.specs.Numbers.{accepted}
 use Rattle.refusal.specs.Rules.{firstOf}
 use Rattle.octets.specs.Room.{front}
 use Rattle.laws.proofs.Lists.{unmapped}
-use Rattle.message.specs.Reading.{contentOf}
+use Rattle.message.specs.declared.Message.{Message}
+use Rattle.message.specs.declared.Parsed.{Parsed}
+use Rattle.message.specs.Reading.{contentOf, messageOf}
 use Rattle.channel.specs.Limits.{slotCount}
 use Rattle.table.specs.declared.Table.{Table}
 use Rattle.table.specs.Table.{goodTable}
 use Rattle.table.proofs.WellFormed.{slots-good}
 use Rattle.relay.specs.declared.Taken.{Taken}
 use Rattle.relay.specs.Relay.{commandIn, entryRules, processRules, refused, processAnswer, sent}
+use Rattle.relay.specs.Private.{sending}
 use Rattle.relay.proofs.Judgements.{Judged}
+use Rattle.relay.proofs.Asking.{request-refuses, request-passes}
 use Rattle.relay.proofs.Entering.{entry-good, entry-refuses, enters, enters-judged}
 use Rattle.relay.proofs.Settling.{settled-judged}
 use Rattle.relay.proofs.Answering.{answer-refused, sent-nothing, sent-line, answer-taken, written-line}
@@ -49,14 +53,15 @@ sixteen c = search (needs, unmapped)
 passes : (c : tie.Else1) → firstOf (entryRules (goodTable (table (c .before))) (room (c .before)) (table (c .before) .links .set) (link (c .before))) ≡ accepted
 passes c = entry-is (c .before) ∙ c .if1 .left
 
-judged : (c : tie.After-settled) → Judged (processRules (table (c .before .before .before .before .before)) (link (c .before .before .before .before .before)) (line (c .before .before .before .before .before)) (room (c .before .before .before .before .before))) (commandIn (line (c .before .before .before .before .before))) (table (c .before .before .before .before .before) .slots) (contentOf (line (c .before .before .before .before .before))) (c .settled .result)
+judged : (c : tie.After-settled) → Judged (processRules (table (c .before .before .before .before .before .before .before)) (link (c .before .before .before .before .before .before .before)) (line (c .before .before .before .before .before .before .before)) (room (c .before .before .before .before .before .before .before))) (commandIn (line (c .before .before .before .before .before .before .before))) (table (c .before .before .before .before .before .before .before) .slots) (contentOf (line (c .before .before .before .before .before .before .before))) (c .settled .result)
 judged c =
-    let e = c .before .before .before .before .before in
-    let r = c .before .before .before .requested in
-    let none = c .before .before .if2 .left in
-    let p = passes (c .before .before .before .before) in
-    enters-judged (table e) (link e) (line e) (room e) p (r .ensures .1 none) (c .settled .result)
-    (settled-judged (table e .slots) (line e) (r .result) (c .settled .result) (r .ensures .1 none) (sixteen (e .before .before .before .before)) (slots-good (table e) (entry-good (goodTable (table e)) (table e .links .set) (link e) (room e) p)) (c .before .slot-of .result) (c .before .slot-of .ensures .0) (commandIn (line e)) (r .ensures .0 .asks none) (c .settled .ensures))
+    let e = c .before .before .before .before .before .before .before in
+    let r = c .before .before .before .before .requested in
+    let q = request-passes (line e) (r .result) (r .ensures) (c .before .before .if2 .left) in
+    let p = passes (c .before .before .before .before .before .before) in
+    enters-judged (table e) (link e) (line e) (room e) p (q .0) (c .settled .result)
+    (settled-judged (table e .slots) (line e) (sixteen (e .before .before .before .before)) (c .settled .result) (q .0) (slots-good (table e) (entry-good (goodTable (table e)) (table e .links .set) (link e) (room e) p)) (commandIn (line e)) (q .1)
+    (rw (c .before .slot-of .ensures, q .2) at (c .settled .ensures)))
 
 -- ---- a refusal
 refuses : (c : Entered) (k : ℕ) → firstOf (processRules (table c) (link c) (line c) (room c)) ≡ k → (k ≡ accepted → ⊥) → (r : Taken) → r ≡ refused (table c) k
@@ -79,29 +84,33 @@ returns c =
     let ne = c .before .if1 .taken in
     refuses e _ (entry-refuses (table e) (link e) (line e) (room e) (λ z. ne (sym (entry-is e) ∙ z)) ∙ entry-is e) ne (c .refused .result) (c .refused .ensures)
 
+parse-requires : tie.Need-parse-requires
+parse-requires c κs = search needs
+
 requested-requires : tie.Need-requested-requires
-requested-requires c κs = search needs
+requested-requires c κs = c .parse .ensures .0
 
 refused-requires-2 : tie.Need-refused-requires-2
 refused-requires-2 c κs = search needs
 
 returns-2 : tie.Need-returns-2
 returns-2 c =
-    let e = c .before .before .before .before in
+    let e = c .before .before .before .before .before .before in
     let ne = c .before .if2 .taken in
-    refuses e _ (enters (table e) (link e) (line e) (room e) (passes (c .before .before .before)) ∙ c .before .before .requested .ensures .0 .refused ne (table e .slots)) ne (c .refused2 .result) (c .refused2 .ensures)
+    let r = c .before .before .before .requested in
+    refuses e _ (enters (table e) (link e) (line e) (room e) (passes (c .before .before .before .before .before)) ∙ request-refuses (line e) (r .result) (r .ensures) ne (table e .slots)) ne (c .refused2 .result) (c .refused2 .ensures)
 
 slot-of-requires : tie.Need-slot-of-requires
 slot-of-requires c κs = search needs
 
 settled-requires : tie.Need-settled-requires
-settled-requires c κs = c .slot-of .ensures .1
+settled-requires c κs = search needs
 
 refused-requires-3 : tie.Need-refused-requires-3
 refused-requires-3 c κs = search needs
 
 returns-3 : tie.Need-returns-3
-returns-3 c = refuses (c .before .before .before .before .before .before .before) _ (sym (judged (c .before .before) .number)) (c .before .if3 .taken) (c .refused3 .result) (c .refused3 .ensures)
+returns-3 c = refuses (c .before .before .before .before .before .before .before .before .before) _ (sym (judged (c .before .before) .number)) (c .before .if3 .taken) (c .refused3 .result) (c .refused3 .ensures)
 
 send-requires : tie.Need-send-requires
 send-requires c κs = search needs
@@ -121,13 +130,16 @@ same-length c = search needs
 returns-4 : tie.Need-returns-4
 returns-4 c =
     let j = c .before .before .before .before .before .before .before .before in
-    let e = j .before .before .before .before .before in
-    let none : firstOf (processRules (table e) (link e) (line e) (room e)) ≡ accepted = sym (judged j .number) ∙ c .before .before .before .before .before .before .before .if3 .left in
+    let e = j .before .before .before .before .before .before .before in
+    let left = c .before .before .before .before .before .before .before .if3 .left in
+    let none : firstOf (processRules (table e) (link e) (line e) (room e)) ≡ accepted = sym (judged j .number) ∙ left in
     let q = judged j .changes none in
-    let w = written-line (table e) (link e) (line e) (room e) none (j .settled .result) q (e .before .before .before .before .args .out .now) refl in
+    let out = e .before .before .before .before .args .out .now in
+    let m : j .before .before .before .before .before .parse .result .message ≡ messageOf (line e) = ap (λ (x : Parsed). x .message) (j .before .before .before .before .before .parse .ensures .0) in
+    let w = ap (λ (x : Message). sending (j .settled .result .command) (j .settled .result) (line e) x out) m ∙ written-line (table e) (link e) (line e) (room e) none (j .settled .result) q out refl in
     let s = c .before .before .before .before .before .send .ensures in (
-      answer-taken (table e) (link e) (line e) (room e) none (j .settled .result) q _ _ _ _ _ (c .before .before .before .before .before .before .before .if3 .left) (c .changed .ensures) (c .before .before .relay-set .ensures) (c .before .count .ensures) (s .0 ∙ ap (λ (l : List ℕ). length l) w),
-      s .1 ∙ ap (λ (l : List ℕ). front l (e .before .before .before .before .args .out .now)) (w ∙ sym (sent-line (table e) (link e) (line e) (room e) none)),
+      answer-taken (table e) (link e) (line e) (room e) none (j .settled .result) q _ _ _ _ _ left (c .changed .ensures) (c .before .before .relay-set .ensures) (c .before .count .ensures) (s .0 ∙ ap (λ (l : List ℕ). length l) w),
+      s .1 ∙ ap (λ (l : List ℕ). front l out) (w ∙ sym (sent-line (table e) (link e) (line e) (room e) none)),
     )
 
 pub process-spec : {M : Type 1} → statement M
@@ -138,6 +150,7 @@ process-spec =
     entry-number-requires
     refused-requires
     returns
+    parse-requires
     requested-requires
     refused-requires-2
     returns-2

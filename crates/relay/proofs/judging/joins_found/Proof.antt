@@ -1,6 +1,5 @@
 -- `joins_found` meets its contract: each slot has its own judgement. Assumes nothing.
 use borrow.Author.Needs.{needs}
-use Rattle.relay.specs.Private.{Inside}
 use Rattle.relay.proofs.judging.joins_found.Statement.{statement}
 use Rattle.relay.proofs.judging.joins_found.Tie as tie
 
@@ -8,7 +7,7 @@ enum-known-slot : tie.Need-enum-known-slot
 enum-known-slot c = search needs
 
 joins-held-requires : tie.Need-joins-held-requires
-joins-held-requires c κs = let h : Inside (c .before .before .before .args .slot) = c .before .before .before .pre in rw (c .before .slot .given .1) at h
+joins-held-requires c κs = search needs
 
 enum-known-slot-2 : tie.Need-enum-known-slot-2
 enum-known-slot-2 c = search needs

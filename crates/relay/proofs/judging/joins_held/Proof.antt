@@ -1,41 +1,29 @@
--- `joins_held` meets its contract: the change is what the merge answers. Assumes nothing.
-use mathlib.Core.Path.{sym, ap, _∙_}
-use native.Mathlib.Omega.{arith}
+-- `joins_held` meets its contract: the change is what the records merge to. Assumes nothing.
+use mathlib.Core.Path.{sym}
+use borrow.Author.Tests.{ne-eqb}
 use borrow.Author.Needs.{needs}
-use Rattle.channel.specs.declared.Merged.{Merged}
-use Rattle.relay.specs.declared.Change.{Change}
+use Rattle.refusal.specs.Numbers.{accepted}
+use Rattle.relay.specs.Private.{joinsHeld}
 use Rattle.relay.proofs.judging.joins_held.Statement.{statement}
 use Rattle.relay.proofs.judging.joins_held.Tie as tie
 
-merge-requires : tie.Need-merge-requires
-merge-requires c κs = search needs
+combine-requires : tie.Need-combine-requires
+combine-requires c κs = search needs
 
 refusal-requires : tie.Need-refusal-requires
 refusal-requires c κs = search needs
 
 returns : tie.Need-returns
-returns c =
-    let n = ap (λ (m : Merged). m .number) (c .before .before .merge .ensures) in
-    record {
-      number = ap (λ (j : Change). j .number) (c .refusal .ensures) ∙ n;
-      inside = let q = ap (λ (j : Change). j .slot) (c .refusal .ensures) in omega (arith, q);
-      change = λ a. absurd (c .before .if1 .taken (n ∙ a));
-    }
+unfolding joinsHeld
+returns c = rw (sym (c .before .before .combine .ensures), ne-eqb _ accepted (c .before .if1 .taken)) (c .refusal .ensures)
 
 joins-requires : tie.Need-joins-requires
 joins-requires c κs = search needs
 
 returns-2 : tie.Need-returns-2
-returns-2 c =
-    let a = c .before .before .before .args in
-    let e = c .before .before .merge .ensures in
-    let q = c .joins .ensures .1 in
-    record {
-      number = c .joins .ensures .0 ∙ sym (c .before .if1 .left) ∙ ap (λ (m : Merged). m .number) e;
-      inside = omega (arith, q .place, c .before .before .before .pre);
-      change = λ _. rw (sym (ap (λ (m : Merged). m .result) e)) q;
-    }
+unfolding joinsHeld
+returns-2 c = rw (sym (c .before .before .combine .ensures), c .before .if1 .left) (c .joins .ensures)
 
 pub joins-held-spec : {M : Type 1} → statement M
 joins-held-spec =
-    tie.close (tie.spec merge-requires refusal-requires returns joins-requires returns-2)
+    tie.close (tie.spec combine-requires refusal-requires returns joins-requires returns-2)

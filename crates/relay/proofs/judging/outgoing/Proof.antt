@@ -1,24 +1,21 @@
 -- `outgoing` meets its contract: by whether the incoming time is the resulting one. Assumes nothing.
 use mathlib.Core.Path.{refl}
-use borrow.Author.Needs.{needs}
 use borrow.Author.Tests.{eq-eqb, ne-eqb}
-use Rattle.laws.proofs.Lists.{take-map}
-use Rattle.channel.specs.Record.{decode}
-use Rattle.channel.specs.Merging.{stands, standing, bare}
-use Rattle.relay.specs.Relay.{outgoing}
+use borrow.Author.Needs.{needs}
+use Rattle.relay.specs.Private.{toldOf}
 use Rattle.relay.proofs.judging.outgoing.Statement.{statement}
 use Rattle.relay.proofs.judging.outgoing.Tie as tie
 
 returns : tie.Need-returns
-unfolding decode outgoing stands standing
+unfolding toldOf
 returns c = rw (c .if1 .taken, eq-eqb (c .before .before .before .before .args .result .time) _ refl)
 
 bare-requires : tie.Need-bare-requires
 bare-requires c κs = search needs
 
 returns-2 : tie.Need-returns-2
-unfolding decode outgoing stands standing bare
-returns-2 c = rw (ne-eqb _ _ (c .before .before .if1 .left), c .bare .ensures, take-map _ (c .before .before .before .before .before .before .args .incoming .count) (c .before .before .before .before .before .before .args .incoming .members))
+unfolding toldOf
+returns-2 c = rw (ne-eqb _ _ (c .before .before .if1 .left), c .bare .ensures)
 
 pub outgoing-spec : {M : Type 1} → statement M
 outgoing-spec = tie.close (tie.spec returns bare-requires returns-2)
