@@ -3,8 +3,8 @@
 use mathlib.Core.Path.{_≡_, refl, sym, ap, _∙_}
 use mathlib.Core.Bool.{Bool, true, false}
 use mathlib.Core.List.{List, []}
-use Prim.Native.Nat.{ℕ, _<_, min}
-use lib.ListN.{length, take, getD, length-map, length-take}
+use Prim.Native.Nat.{ℕ, _<_}
+use lib.ListN.{getD}
 use lib.Dec.{eqb}
 use borrow.Author.Tests.{ne-eqb, eqb-true}
 use Rattle.refusal.specs.Numbers.{accepted}
@@ -28,11 +28,6 @@ use Rattle.relay.specs.Private.{nowhere, nothing, ownRules, asks, askedB
 use Rattle.relay.proofs.Entering.{reader-refuses, command-decides}
 
 -- ---- a message
--- it has as many parameters as it counts, if there are spans for them
-pub counted : (text : List ℕ) (m : Message) → length (m .params) ≡ paramLimit → length (contentBy text m .params) ≡ min (m .count) paramLimit
-unfolding contentBy
-counted text m e = length-map (take (m .count) (m .params)) (bytesAt text) ∙ length-take (m .count) (m .params) ∙ ap (min (m .count)) e
-
 module _ (k : Command) (m : Message) (c : Content) where
   pub asked-refused : (n : ℕ) → firstOf (ownRules k c) ≡ n → (n ≡ accepted → ⊥) → nothing n ≡ askedBy k m c
   unfolding askedBy

@@ -13,12 +13,13 @@ use Rattle.names.specs.Names.{isChannel}
 use Rattle.message.specs.Grammar.{paramLimit}
 use Rattle.message.specs.Content.{Content}
 use Rattle.message.specs.Parts.{contentBy}
+use Rattle.sjoin.proofs.Answers.{params-count}
 use Rattle.relay.specs.declared.Asked.{Asked}
 use Rattle.relay.specs.declared.Command.the-variants.{Part}
 use Rattle.relay.specs.Commands.{isUser, partedIn}
 use Rattle.relay.specs.Relay.{partRules}
 use Rattle.relay.specs.Private.{nothing, askedBy}
-use Rattle.relay.proofs.Asking.{counted, asked-refused, asked-passes}
+use Rattle.relay.proofs.Asking.{asked-refused, asked-passes}
 use Rattle.relay.proofs.Leaving.{user-told, user-held, part-few, part-many, part-unsourced, part-unnamed, part-passes}
 use Rattle.relay.proofs.requests.part_request.Statement.{statement}
 use Rattle.relay.proofs.requests.part_request.Tie as tie
@@ -28,7 +29,7 @@ content c = contentBy (c .args .line .now) (c .args .t2)
 
 -- ---- what is known after each test
 count : (c : tie.Start) → length (content c .params) ≡ min (c .args .t2 .count) paramLimit
-count c = counted (c .args .line .now) (c .args .t2) (search (needs, unmapped))
+count c = params-count (c .args .line .now) (c .args .t2) (search (needs, unmapped))
 
 some : (c : tie.Else1) → 1 ≤ length (content (c .before .before) .params)
 some c = omega (arith, c .if1 .left, count (c .before .before))

@@ -12,12 +12,13 @@ use Rattle.laws.proofs.Lists.{unmapped}
 use Rattle.message.specs.Grammar.{paramLimit}
 use Rattle.message.specs.Content.{Content}
 use Rattle.message.specs.Parts.{contentBy}
+use Rattle.sjoin.proofs.Answers.{params-count}
 use Rattle.relay.specs.declared.Asked.{Asked}
 use Rattle.relay.specs.declared.Command.the-variants.{Quit}
 use Rattle.relay.specs.Commands.{isUser}
 use Rattle.relay.specs.Relay.{quitRules}
 use Rattle.relay.specs.Private.{nothing, askedBy}
-use Rattle.relay.proofs.Asking.{counted, asked-refused, asked-passes}
+use Rattle.relay.proofs.Asking.{asked-refused, asked-passes}
 use Rattle.relay.proofs.Leaving.{user-told, user-held, quit-many, quit-unsourced, quit-passes}
 use Rattle.relay.proofs.requests.quit_request.Statement.{statement}
 use Rattle.relay.proofs.requests.quit_request.Tie as tie
@@ -27,7 +28,7 @@ content c = contentBy (c .args .line .now) (c .args .m)
 
 -- ---- what is known after each test
 count : (c : tie.Start) → length (content c .params) ≡ min (c .args .m .count) paramLimit
-count c = counted (c .args .line .now) (c .args .m) (search (needs, unmapped))
+count c = params-count (c .args .line .now) (c .args .m) (search (needs, unmapped))
 
 few : (c : tie.Else1) → length (content (c .before .before) .params) ≤ 1
 few c = omega (arith, c .if1 .left, count (c .before .before))
