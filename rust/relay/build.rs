@@ -14,11 +14,17 @@ fn main() {
     let folder = variable("RELAY_LIB_DIR").map_or_else(default_folder, PathBuf::from);
     let library = folder.join("libcapi.a");
     assert!(library.exists(), "{} isn't there: run `rt staticlib capi`", library.display());
-    link(&folder, "capi", &library);
-    let prefix = variable("RELAY_EARLIER_LIB").map_or("", |earlier| {
-        link_renamed(Path::new(&earlier));
-        PREFIX
-    });
+    let prefix = match variable("RELAY_EARLIER_LIB") {
+        None => {
+            link(&library, &folder, "capi");
+            ""
+        }
+        Some(earlier) => {
+            link_aligned(&library, "capi", "");
+            link_aligned(Path::new(&earlier), "earlier_capi", PREFIX);
+            PREFIX
+        }
+    };
     println!("cargo::rustc-env=RELAY_EARLIER_PREFIX={prefix}");
 }
 
@@ -33,22 +39,26 @@ fn default_folder() -> PathBuf {
     PathBuf::from(here).join("../../target/staticlib")
 }
 
-/// Links a library of some folder, and has this run again where the file has changed.
-fn link(folder: &Path, name: &str, file: &Path) {
-    println!("cargo::rerun-if-changed={}", file.display());
+/// Links a library that stands in a folder under some name, and has this run again where the file
+/// that it is made from has changed.
+fn link(from: &Path, folder: &Path, name: &str) {
+    println!("cargo::rerun-if-changed={}", from.display());
     println!("cargo::rustc-link-search=native={}", folder.display());
     println!("cargo::rustc-link-lib=static={name}");
 }
 
-/// Links a copy of a library in which the prefix stands before the names that `src/ffi.rs` declares.
-fn link_renamed(library: &Path) {
+/// Links a copy of a library in which each function begins a line of the cache, so that the same code
+/// takes the same time in both libraries, and the prefix stands before the names that `src/ffi.rs`
+/// declares.
+fn link_aligned(library: &Path, name: &str, prefix: &str) {
     let folder = PathBuf::from(env::var_os("OUT_DIR").expect("cargo sets it"));
     let names = include_str!("src/ffi.rs").split('"').filter(|word| word.starts_with("relay_"));
     let status = Command::new("objcopy")
-        .args(names.map(|name| format!("--redefine-sym={name}={PREFIX}{name}")))
-        .args([library, &folder.join("libearlier_capi.a")])
+        .arg("--set-section-alignment=.text.*=64")
+        .args(names.map(|name| format!("--redefine-sym={name}={prefix}{name}")))
+        .args([library, &folder.join(format!("lib{name}.a"))])
         .status()
         .expect("objcopy, of the binutils, can be run");
     assert!(status.success(), "objcopy failed on {}", library.display());
-    link(&folder, "earlier_capi", library);
+    link(library, &folder, name);
 }

@@ -37,10 +37,10 @@ fn main() {
 
 /// Takes a case's line.
 fn take(clock: &Clock, case: &Case) -> Times {
-    let (mut table, mut out) = (case.table, [0; 512]);
+    let (mut table, mut out) = (Page::of(case.table), Page::of([0; 512]));
     let model = || {
-        table.clone_from(black_box(&case.table));
-        number_of(&model::relay::take(&mut table, LINK, &case.line, &mut out))
+        table.0.clone_from(black_box(&case.table));
+        number_of(&model::relay::take(&mut table.0, LINK, &case.line, &mut out.0))
     };
     clock.time(by_library(case, relay::take), by_library(case, earlier::take), model)
 }
@@ -50,11 +50,22 @@ fn by_library<'a>(
     case: &'a Case,
     take: impl Fn(&mut Table, u32, &[u8], &mut [u8]) -> Answer + 'a,
 ) -> impl FnMut() -> u8 + 'a {
-    let start = core_table(&case.table);
-    let (mut table, mut out) = (start, [0; 512]);
+    let start = Page::of(core_table(&case.table));
+    let (mut table, mut out) = (Page::of(start.0), Page::of([0; 512]));
     move || {
-        table.clone_from(black_box(&start));
-        take(&mut table, LINK, &case.line, &mut out).number
+        table.0.clone_from(black_box(&start.0));
+        take(&mut table.0, LINK, &case.line, &mut out.0).number
+    }
+}
+
+/// Something that begins a page of memory: where it lies makes no difference between those that are
+/// timed.
+#[repr(align(4096))]
+struct Page<T>(T);
+
+impl<T> Page<T> {
+    fn of(value: T) -> Box<Page<T>> {
+        Box::new(Page(value))
     }
 }
 
@@ -127,11 +138,12 @@ fn others(clock: &Clock) {
     );
     row("reading a line of 47 members", times);
 
-    let (mut core_log, mut earlier_log, mut log) = ([0; 517], [0; 517], [0; 517]);
+    let log = || Page::of([0; 517]);
+    let (mut core_log, mut earlier_log, mut model_log) = (log(), log(), log());
     let times = clock.time(
-        || relay::log(LINK, &line, &mut core_log).number,
-        || earlier::log(LINK, &line, &mut earlier_log).number,
-        || number_of(&model::journal::write_record(LINK, &line, &mut log)),
+        || relay::log(LINK, &line, &mut core_log.0).number,
+        || earlier::log(LINK, &line, &mut earlier_log.0).number,
+        || number_of(&model::journal::write_record(LINK, &line, &mut model_log.0)),
     );
     row("its day-log record", times);
 }
