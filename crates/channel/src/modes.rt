@@ -2,7 +2,7 @@
 ghost use mathlib.Core.Path.{_≡_};
 ghost use Rattle.channel.specs.Modes.{modePlace, hasMode, withMode};
 
-// The letters of the eight modes: i m n p s t k l.
+// How many modes there are: i m n p s t k l.
 pub const MODES: u32 = 8;
 
 // The place of k.

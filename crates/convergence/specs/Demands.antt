@@ -96,7 +96,8 @@ pub record Accepts (t : Table) (link : ℕ) (line out : List ℕ) (answer : Take
 
 -- "Lines are read by RFC 1459's grammar and written back in one fixed form that reads as the same message. Channel joins, parts and quits change the table as
 -- TS6 and the plan say, and go to every registered link except the source." Every line by the rules is accepted. That any line is read by the grammar and any
--- message written in the fixed form, which reads back, are the contracts of `message::read` and `writer::write`. `Witnesses` of proofs/ has lines that are accepted.
+-- message written in the fixed form are the contracts of `message::parse` and `writer::write`; that it reads back are the laws `written-reads` and `read-writes`
+-- (writer/proofs/Rounds.antt). `Witnesses` of proofs/ has lines that are accepted.
 abbrev pub Demand2 : Taking → Type 0
 Demand2 taking =
     (t : Table) (link : ℕ) (line out : List ℕ) → ruled t link line out ≡ accepted → Accepts t link line out (taking t link line out .0) (taking t link line out .1)

@@ -88,6 +88,16 @@ pub emitted-all : (rules : List Rule) (w : List ℕ) → firstOf rules ≡ accep
 unfolding emitted
 emitted-all rules w e = rw e
 
+-- ---- the order
+-- each number is above the one before it, and all are above n
+abbrev increasing : ℕ → List ℕ → Bool
+increasing n [] = true
+increasing n (m ∷ l) = ltb n m && increasing m l
+
+-- In document 01 the order is that of the numbers themselves: the first that applies is "the lowest".
+order-increases : increasing accepted order ≡ true
+order-increases = refl
+
 -- ---- rules in the order of their numbers
 -- what the check says of the first rule, and of the others
 pub record Leads (k : ℕ) (r : Rule) (rs : List Rule) : Type 0 where

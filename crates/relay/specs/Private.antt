@@ -1,4 +1,4 @@
--- What private functions promise: what a line asks for, what that comes to in its slot, and what is made of it. No public contract cites this file: noUser
+-- What private functions promise: what a line asks for, what that comes to in its slot, and what is made of it. No public contract cites this file: nobody
 -- needs to believe it.
 use Prim.Native.Nat.{ℕ}
 use mathlib.Core.Bool.{Bool, true, false, cond}

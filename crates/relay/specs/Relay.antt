@@ -7,7 +7,6 @@ use lib.ListN.{length, set}
 use lib.Dec.{eqb, leb, ltb}
 use Rattle.refusal.specs.Numbers.{accepted, notWellFormed, outputTooShort, badLink, unknownCommand, wrongParamCount, badSource, badName, noSuchChannel, notOnChannel, noFreeSlot, tooManyMembers}
 use Rattle.refusal.specs.Rules.{Rule, _when_, firstOf, emitted}
-use Rattle.laws.specs.Bits.{hasBit}
 use Rattle.names.specs.Names.{isChannel}
 use Rattle.message.specs.Grammar.{lineLimit}
 use Rattle.message.specs.Content.{Content}
@@ -19,7 +18,7 @@ use Rattle.channel.specs.Channel.{Channel}
 use Rattle.channel.specs.Record.{encode, decode}
 use Rattle.channel.specs.Members.{hasMember, without}
 use Rattle.channel.specs.Merging.{given, standing, merge}
-use Rattle.links.specs.Links.{isLink, relaySet, linksIn}
+use Rattle.links.specs.Links.{hasLink, relaySet, linksIn}
 use Rattle.table.specs.declared.Table.{Table}
 use Rattle.table.specs.declared.Slot.{Slot}
 use Rattle.table.specs.declared.Slot.the-variants.{Held, Free, Full}
@@ -125,7 +124,7 @@ abbrev pub entryRules : Bool → ℕ → ℕ → ℕ → List Rule
 entryRules good n set link =
     notWellFormed when not good
     ∷ outputTooShort when ltb n lineLimit
-    ∷ badLink when not (isLink link && hasBit set link)
+    ∷ badLink when not (hasLink set link)
     ∷ []
 
 -- all rules

@@ -10,6 +10,7 @@ use lib.Dec.{leb}
 use borrow.Author.Tests.{ne-eqb, leb-true}
 use Rattle.refusal.specs.Numbers.{accepted}
 use Rattle.refusal.specs.Rules.{firstOf}
+use Rattle.refusal.proofs.Rules.{append-some, append-none}
 use Rattle.laws.specs.Lists.{padded}
 use Rattle.octets.specs.Decimals.{valueOf}
 use Rattle.octets.specs.Room.{part}
@@ -26,14 +27,14 @@ use Rattle.message.specs.declared.Message.{Message}
 use Rattle.message.specs.Grammar.{paramLimit}
 use Rattle.message.specs.Content.{Content}
 use Rattle.message.specs.Parts.{bytesAt, contentBy, paramSpan}
-use Rattle.message.specs.Reading.{numberFor, isRead, contentOf, messageOf}
+use Rattle.message.specs.Reading.{lineRules, numberFor, isRead, contentOf, messageOf}
 use Rattle.message.specs.Words.{wordsOf}
-use Rattle.message.proofs.Readings.{read-small, refused-number}
+use Rattle.message.proofs.Readings.{rules-numbered, number-none, read-small, refused-number}
 use Rattle.message.proofs.Held.{param-held, message-holds}
 use Rattle.sjoin.specs.declared.Told.{Told}
 use Rattle.sjoin.specs.Modes.{keyLetter, limitLetter, modesByte, argumentOf}
 use Rattle.sjoin.specs.Entries.{memberOf, named}
-use Rattle.sjoin.specs.Join.{timeIn, nameIn, modesIn, listIn, argumentsIn, fewest, most, goodCount, joinRules, channelIn, told, spanRules, toldIn, joinNumber, toldBy}
+use Rattle.sjoin.specs.Join.{timeIn, nameIn, modesIn, listIn, argumentsIn, fewest, most, goodCount, joinRules, channelIn, told, spanRules, toldIn, lineJoinRules, toldBy}
 use Rattle.sjoin.specs.Scan.{Parted, refusedBy}
 use Rattle.sjoin.proofs.Judged.{span-rules}
 
@@ -91,20 +92,23 @@ module _ (text : List ℕ) (m : Message) where
 
 module _ (line : List ℕ) where
   pub told-unread : (k : ℕ) → isRead line ≡ false → k ≡ numberFor line → refusedBy k ≡ toldBy line
-  unfolding toldBy joinNumber
-  told-unread k h e = rw (h, ← e) (told-none k (contentOf line) (λ z. refused-number line h (sym e ∙ z)))
+  unfolding toldBy lineJoinRules numberFor
+  told-unread k h e =
+      let ne : k ≡ accepted → ⊥ = λ z. refused-number line h (sym e ∙ z) in
+      told-none k (contentOf line) ne ∙ ap (λ (n : ℕ). told n (contentOf line)) (e ∙ sym (append-some (joinRules (contentOf line)) (lineRules line) (refused-number line h)))
 
   module _ (h : isRead line ≡ true) where
+    -- the reader's own rules don't apply to a line that is read
+    pub told-number : toldBy line .number ≡ firstOf (joinRules (contentOf line))
+    unfolding toldBy lineJoinRules numberFor
+    told-number = append-none (joinRules (contentOf line)) (lineRules line) (rules-numbered line) (number-none line h)
+
     -- what its spans say is what it says
     pub told-same : toldIn line (messageOf line) ≡ toldBy line
-    unfolding toldIn toldBy joinNumber
+    unfolding toldIn toldBy
     told-same =
         let e : firstOf (spanRules line (messageOf line)) ≡ firstOf (joinRules (contentOf line)) = span-rules line (messageOf line) (read-small line h) ∙ ap (λ (c : Content). firstOf (joinRules c)) (message-holds line) in
-        rw (h, e, message-holds line)
-
-    pub told-number : toldBy line .number ≡ firstOf (joinRules (contentOf line))
-    unfolding toldBy joinNumber
-    told-number = rw h
+        rw (e ∙ sym told-number, message-holds line)
 
     pub told-says : toldBy line .number ≡ accepted → toldBy line .«record» ≡ encode (channelIn (contentOf line))
     unfolding toldBy

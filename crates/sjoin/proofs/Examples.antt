@@ -22,7 +22,7 @@ use Rattle.message.specs.Words.{wordsAt}
 use Rattle.message.specs.Reading.{crlf, endsLine, bodyOf, bodyRules, lineRules, numberFor, isRead, contentOf, messageOf}
 use Rattle.sjoin.specs.Modes.{once, goodLetters, modesByte, parametered, goodArguments, argumentOf, goodModes}
 use Rattle.sjoin.specs.Entries.{past, idOf, statusOf, isEntry, memberOf, goodEntries}
-use Rattle.sjoin.specs.Join.{argumentsIn, isSource, goodCount, goodTime, joinRules, channelIn, toldIn, joinNumber, toldBy}
+use Rattle.sjoin.specs.Join.{argumentsIn, isSource, goodCount, goodTime, joinRules, channelIn, toldIn, lineJoinRules, toldBy}
 use Rattle.sjoin.specs.Telling.{sjoin, joinMessage}
 use Rattle.sjoin.proofs.Answers.{told-same}
 use Rattle.sjoin.proofs.Wellformed.{line-well}
@@ -32,8 +32,8 @@ use Rattle.sjoin.proofs.Back.{channel-back, rules-back}
 unfoldable pub line : List ℕ
 line = 58 ∷ 49 ∷ 65 ∷ 66 ∷ 32 ∷ 83 ∷ 74 ∷ 79 ∷ 73 ∷ 78 ∷ 32 ∷ 49 ∷ 50 ∷ 48 ∷ 48 ∷ 32 ∷ 35 ∷ 114 ∷ 97 ∷ 99 ∷ 101 ∷ 32 ∷ 43 ∷ 110 ∷ 116 ∷ 32 ∷ 58 ∷ 64 ∷ 49 ∷ 65 ∷ 66 ∷ 65 ∷ 65 ∷ 65 ∷ 65 ∷ 65 ∷ 65 ∷ 32 ∷ 49 ∷ 65 ∷ 66 ∷ 65 ∷ 65 ∷ 65 ∷ 65 ∷ 65 ∷ 66 ∷ crlf
 
-line-taken : joinNumber line ≡ accepted
-unfolding line joinNumber joinRules goodCount isSource goodTime isDecimal leadsWithZero valueFrom isDigit isChannel isNameByte isServerId isUserId isIdByte goodModes goodLetters once parametered goodArguments argumentsIn placeAmong goodEntries isEntry idOf past wordsAt contentOf contentIn isRead numberFor lineRules bodyRules firstOf endsLine sameBy bodyOf all isPlain startsWith prefix word prefixEnd commandStart spaces command isCommand isLetter within commandEnd rest params
+line-taken : toldBy line .number ≡ accepted
+unfolding line toldBy lineJoinRules joinRules goodCount isSource goodTime isDecimal leadsWithZero valueFrom isDigit isChannel isNameByte isServerId isUserId isIdByte goodModes goodLetters once parametered goodArguments argumentsIn placeAmong goodEntries isEntry idOf past wordsAt contentOf contentIn isRead numberFor lineRules bodyRules firstOf endsLine sameBy bodyOf all isPlain startsWith prefix word prefixEnd commandStart spaces command isCommand isLetter within commandEnd rest params
 line-taken = refl
 
 -- the channel of channel/proofs/Examples.antt

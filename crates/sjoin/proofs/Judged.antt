@@ -24,14 +24,20 @@ use Rattle.message.specs.declared.Message.{Message}
 use Rattle.message.specs.Grammar.{lineLimit}
 use Rattle.message.specs.Content.{Content}
 use Rattle.message.specs.Parts.{contentBy}
+use Rattle.message.specs.Reading.{bodyRules, lineRules}
 use Rattle.sjoin.specs.Modes.{lettersOf, goodLetters, parametered, goodArguments, goodModes}
 use Rattle.sjoin.specs.Entries.{goodEntries}
-use Rattle.sjoin.specs.Join.{timeIn, nameIn, modesIn, listIn, argumentsIn, isSource, fewest, most, goodCount, goodTime, sourceRules, settingRules, tellingRules, joinRules, spanRules}
+use Rattle.sjoin.specs.Join.{timeIn, nameIn, modesIn, listIn, argumentsIn, isSource, fewest, most, goodCount, goodTime, sourceRules, settingRules, tellingRules, joinRules, spanRules, lineJoinRules}
 
 -- The rules stand in the order of their numbers: the first in it that applies is given.
 pub rules-ascend : (c : Content) → ascend (joinRules c) ≡ true
 unfolding ascendFrom joinRules placeIn
 rules-ascend c = refl
+
+-- those of a line, behind the reader's own
+pub line-rules-ascend : (line : List ℕ) → ascend (lineJoinRules line) ≡ true
+unfolding ascendFrom lineJoinRules lineRules bodyRules joinRules placeIn
+line-rules-ascend line = refl
 
 -- none of them is `accepted`
 pub rules-numbered : (c : Content) → numbered (joinRules c) ≡ true

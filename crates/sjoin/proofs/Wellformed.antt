@@ -28,15 +28,16 @@ use Rattle.channel.proofs.Sides.{stays-byId}
 use Rattle.channel.proofs.Proper.{Proper, member-passes, both-statuses, encode-well}
 use Rattle.message.specs.Grammar.{lineLimit}
 use Rattle.message.specs.Content.{Content}
-use Rattle.message.specs.Reading.{isRead, contentOf, messageOf}
+use Rattle.message.specs.Reading.{numberFor, isRead, contentOf, messageOf}
 use Rattle.message.proofs.Readings.{read-small, refused-number}
 use Rattle.message.proofs.Held.{message-holds}
 use Rattle.message.specs.Words.{wordsOf}
 use Rattle.sjoin.specs.Modes.{plus, keyLetter, limitLetter, lettersOf, isMode, lacks, goodLetters, goodArgument, goodModes, modesByte}
 use Rattle.sjoin.specs.Entries.{at, past, statusOf, isEntry, memberOf, goodEntries, named}
-use Rattle.sjoin.specs.Join.{timeIn, modesIn, listIn, argumentsIn, goodTime, joinRules, channelIn, joinNumber, toldBy}
+use Rattle.sjoin.specs.Join.{timeIn, modesIn, listIn, argumentsIn, goodTime, joinRules, channelIn, toldBy}
 use Rattle.sjoin.proofs.Modes.{bits, same-place}
-use Rattle.sjoin.proofs.Answers.{list-small}
+use Rattle.sjoin.specs.declared.Told.{Told}
+use Rattle.sjoin.proofs.Answers.{list-small, told-unread, told-number, told-says}
 use Rattle.sjoin.proofs.Limits.{limit-bounds}
 use Rattle.sjoin.proofs.Listed.{list-entries, list-room}
 use Rattle.sjoin.proofs.Judged.{time-zero}
@@ -135,10 +136,9 @@ read-proper line h none =
 pub read-well : (line : List ℕ) → isRead line ≡ true → firstOf (joinRules (contentOf line)) ≡ accepted → wellFormed (encode (channelIn (contentOf line))) ≡ true
 read-well line h none = encode-well (channelIn (contentOf line)) (read-proper line h none)
 
-pub line-well : (line : List ℕ) → joinNumber line ≡ accepted → wellFormed (toldBy line .«record») ≡ true
-unfolding toldBy joinNumber
+pub line-well : (line : List ℕ) → toldBy line .number ≡ accepted → wellFormed (toldBy line .«record») ≡ true
 line-well line e = go (isRead line) refl
   where
     go : (t : Bool) → isRead line ≡ t → wellFormed (toldBy line .«record») ≡ true
-    go true h = let none : firstOf (joinRules (contentOf line)) ≡ accepted = rw h at e in rw (h, none) (read-well line h none)
-    go false h = absurd (refused-number line h (rw h at e))
+    go true h = rw (told-says line h e) (read-well line h (sym (told-number line h) ∙ e))
+    go false h = absurd (refused-number line h (ap (λ (t : Told). t .number) (told-unread line (numberFor line) h refl) ∙ e))

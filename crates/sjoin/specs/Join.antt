@@ -18,7 +18,7 @@ use Rattle.message.specs.declared.Message.{Message}
 use Rattle.message.specs.Grammar.{lineLimit}
 use Rattle.message.specs.Content.{Content}
 use Rattle.message.specs.Parts.{contentBy}
-use Rattle.message.specs.Reading.{numberFor, isRead, contentOf}
+use Rattle.message.specs.Reading.{lineRules, contentOf}
 use Rattle.sjoin.specs.declared.Told.{Told}
 use Rattle.sjoin.specs.Modes.{keyLetter, limitLetter, goodModes, modesByte, argumentOf}
 use Rattle.sjoin.specs.Entries.{goodEntries, named}
@@ -102,17 +102,16 @@ told k c = record {
   «record» = cond (eqb k accepted) (encode (channelIn c)) emptyRecord;
 }
 
--- Of a message whose parts are spans of a text: number 4, since a list has room in a record where the text is no longer than a line, or the first of the
--- rules that applies.
+-- Of a message whose parts are spans of a text. A text longer than a line is refused by 4. A shorter one's list always has room in a record.
 unfoldable pub spanRules : List ℕ → Message → List Rule
 spanRules text m = lineTooLong when ltb lineLimit (length text) ∷ joinRules (contentBy text m)
 
 unfoldable pub toldIn : List ℕ → Message → Told
 toldIn text m = told (firstOf (spanRules text m)) (contentBy text m)
 
--- Of a line: the reader's own number, or the first of the rules that applies.
-unfoldable pub joinNumber : List ℕ → ℕ
-joinNumber line = cond (isRead line) (firstOf (joinRules (contentOf line))) (numberFor line)
+-- Of a line: the reader's own rules come first.
+unfoldable pub lineJoinRules : List ℕ → List Rule
+lineJoinRules line = lineRules line ++ joinRules (contentOf line)
 
 unfoldable pub toldBy : List ℕ → Told
-toldBy line = told (joinNumber line) (contentOf line)
+toldBy line = told (firstOf (lineJoinRules line)) (contentOf line)

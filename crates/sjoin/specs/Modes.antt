@@ -1,5 +1,5 @@
 -- The modes of an SJOIN line (document 01, 'SJOIN'): '+' and letters of the eight, each at most once; the parameters of k and l follow in the order of the
--- letters. Letters are judged apart from key and limit.
+-- letters.
 use Prim.Native.Nat.{ℕ}
 use mathlib.Core.Bool.{Bool, true, false, not, cond, _&&_, _||_}
 use mathlib.Core.List.{List, [], _∷_}

@@ -13,7 +13,7 @@ use Rattle.message.specs.Reading.{lineRules, contentOf}
 use Rattle.writer.specs.declared.Written.{Written}
 use Rattle.writer.specs.Form.{written, readsBack, lies, inCapitals}
 
--- ---- a message of spans
+-- ---- a message of spans, written as it is or with its command in capitals: capitals change neither what is refused nor the length
 unfoldable pub writeRules : List ℕ → Message → List ℕ → List Rule
 writeRules text m out =
     outputTooShort when ltb (length out) lineLimit
