@@ -1,11 +1,13 @@
 -- Links registered and dropped: which rule answers, that doing so twice changes nothing more, and that the channels stay. Assumes nothing.
 use mathlib.Core.Path.{_≡_, refl, _∙_}
-use mathlib.Core.Bool.{Bool, true, false, cond}
+use mathlib.Core.Bool.{Bool, true, false, not, cond}
+use mathlib.Core.List.{[], _∷_}
 use Prim.Native.Nat.{ℕ, _≤_, _<_}
 use lib.Dec.{eqb}
 use borrow.Author.Tests.{lt-ltb, le-ltb, ltb-true, ltb-false}
 use Rattle.refusal.specs.Numbers.{accepted, notWellFormed, badLink}
-use Rattle.refusal.specs.Rules.{firstOf, ascend, ascendFrom, placeIn}
+use Rattle.refusal.specs.Rules.{_when_, firstOf, ascend, ascendFrom, placeIn}
+use Rattle.refusal.proofs.Rules.{skip, stop, first-nil}
 use Rattle.links.specs.declared.Links.{Links}
 use Rattle.links.specs.Links.{linkCount, isLink, withLink, withoutLink}
 use Rattle.links.proofs.Sets.{with-twice, without-twice}
@@ -20,18 +22,25 @@ rules-ascend t link = refl
 
 -- ---- the answer, by the rule that applies
 module _ (t : Table) (link : ℕ) (l : Links) where
+  relinked-by : (k : ℕ) → firstOf (linkRules t link) ≡ k → relinked t link l ≡ record { number = k; table = cond (eqb k accepted) (record { slots = t .slots; links = l }) t }
+  unfolding relinked
+  relinked-by k e = rw e
+
   pub links-ill-formed : goodTable t ≡ false → relinked t link l ≡ record { number = notWellFormed; table = t }
-  unfolding relinked linkRules firstOf
-  links-ill-formed e = rw e
+  unfolding linkRules
+  links-ill-formed e = relinked-by notWellFormed (stop _ _ (rw e))
 
   module _ (good : goodTable t ≡ true) where
+    -- the link's own rule is left
+    then : (k : ℕ) → firstOf (badLink when not (isLink link) ∷ []) ≡ k → firstOf (linkRules t link) ≡ k
+    unfolding linkRules
+    then k e = skip _ _ (rw good) ∙ e
+
     pub links-no-link : linkCount ≤ link → relinked t link l ≡ record { number = badLink; table = t }
-    unfolding relinked linkRules firstOf
-    links-no-link h = rw (good, le-ltb link linkCount h)
+    links-no-link h = relinked-by badLink (then badLink (stop _ _ (rw (le-ltb link linkCount h))))
 
     pub links-changed : link < linkCount → relinked t link l ≡ record { number = accepted; table = record { slots = t .slots; links = l } }
-    unfolding relinked linkRules firstOf
-    links-changed h = rw (good, lt-ltb link linkCount h)
+    links-changed h = relinked-by accepted (then accepted (skip _ _ (rw (lt-ltb link linkCount h)) ∙ first-nil))
 
 -- ---- the table after
 module _ (t : Table) (link : ℕ) (l : Links) where

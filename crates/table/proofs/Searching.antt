@@ -1,14 +1,15 @@
 -- Whether a slot holds a name, and what the search answers by where the first slot that holds it stands, and the first free one. Assumes nothing.
 use mathlib.Core.Path.{_≡_, refl, sym, ap, _∙_}
 use mathlib.Core.Bool.{Bool, true, false, not, cond, _&&_}
-use mathlib.Core.List.{List}
+use mathlib.Core.List.{List, [], _∷_}
 use Prim.Native.Nat.{ℕ, _≤_, _<_}
 use native.Mathlib.Omega.{arith}
 use lib.ListN.{length}
 use lib.Dec.{ltb}
 use borrow.Author.Tests.{eq-eqb, ne-eqb, lt-ltb, le-ltb, ltb-true, ltb-false}
-use Rattle.refusal.specs.Numbers.{accepted, noFreeSlot}
-use Rattle.refusal.specs.Rules.{firstOf}
+use Rattle.refusal.specs.Numbers.{noFreeSlot}
+use Rattle.refusal.specs.Rules.{_when_, firstOf}
+use Rattle.refusal.proofs.Rules.{skip, stop, first-nil}
 use Rattle.octets.specs.Room.{part}
 use Rattle.names.specs.Fold.{sameName}
 use Rattle.channel.specs.declared.Record.{Record}
@@ -105,14 +106,14 @@ module _ (slots : List Record) (name : List ℕ) where
 
   -- the answer settles its number
   number-is : numberOf (slotFor slots name) ≡ firstOf (slotRules slots name)
-  unfolding slotFor freeSlot firstOf slotRules
+  unfolding slotFor freeSlot slotRules
   number-is = rw (first-all (holds name) slots, first-all isFree slots) (go (ltb (firstAt (holds name) slots) (length slots)) refl (ltb (firstAt isFree slots) (length slots)) refl)
     where
       go : (a : Bool) → ltb (firstAt (holds name) slots) (length slots) ≡ a → (b : Bool) → ltb (firstAt isFree slots) (length slots) ≡ b
-          → numberOf (slotFor slots name) ≡ cond (not (ltb (firstAt (holds name) slots) (length slots)) && not (ltb (firstAt isFree slots) (length slots))) noFreeSlot accepted
-      go true e b f = rw e
-      go false e true f = rw (e, f)
-      go false e false f = rw (e, f)
+          → numberOf (slotFor slots name) ≡ firstOf (noFreeSlot when (not (ltb (firstAt (holds name) slots) (length slots)) && not (ltb (firstAt isFree slots) (length slots))) ∷ [])
+      go true e b f = rw e (sym (skip _ _ refl ∙ first-nil))
+      go false e true f = rw (e, f) (sym (skip _ _ refl ∙ first-nil))
+      go false e false f = rw (e, f) (sym (stop _ _ refl))
 
   module _ (f : Found) (e : f .slot ≡ slotFor slots name) where
     pub answers : f .«record» ≡ heldIn slots (f .slot) → (f ≡ foundFor slots name) × (numberOf (f .slot) ≡ firstOf (slotRules slots name))
