@@ -5,7 +5,7 @@ use Prim.Native.Nat.{ℕ, _+_, _≤_, _<_}
 use native.Mathlib.Numerals.{add-one}
 use native.Mathlib.Omega.{arith}
 use lib.ListN.{length, take, drop, getD, set, length-map, drop-of-length-le}
-use lib.Seq.{set-at, take-suc, take-all, append-snoc, getD-at, length-take-le}
+use lib.Seq.{set-at, take-suc, take-all, append-snoc, length-take-le}
 use Rattle.laws.proofs.Lists.{drop-step}
 
 module _ {A : Type 0} (f : A → A) where
@@ -30,11 +30,6 @@ module _ {A : Type 0} (f : A → A) where
 
     front-next : map f (take (i + 1) l) ≡ map f (take i l) ++ (f (getD l i d) ∷ [])
     front-next = rw (add-one i, take-suc l i d h) (map-snoc (take i l) (getD l i d))
-
-    -- the next one is still as it was
-    pub mapped-at : getD (mapped l i) i d ≡ getD l i d
-    unfolding mapped
-    mapped-at = rw (drop-step l i d h) (getD-at (map f (take i l)) (getD l i d) (drop (i + 1) l) d i front-length)
 
     pub mapped-step : set (mapped l i) i (f (getD l i d)) ≡ mapped l (i + 1)
     unfolding mapped

@@ -2,7 +2,6 @@
 // Every function takes any bytes and refuses nothing.
 ghost use mathlib.Core.Path.{_≡_};
 ghost use mathlib.Core.Bool.{cond};
-ghost use mathlib.Core.List.{map};
 ghost use Prim.Native.Nat.{_+_, _≤_, min};
 ghost use lib.ListN.{length};
 ghost use lib.Seq.{paste};
@@ -237,15 +236,4 @@ pub fn capital(b: u8) -> u8
         return b - 32;
     }
     b
-}
-
-// Puts every small letter in capitals, in place.
-pub fn capitalize(s: &mut [u8])
-    ensures { λ _. ⌜ now (s .exit) ≡ map capitalOf (now (s .entry)) ⌝ }
-{
-    let mut i = 0;
-    while i < s.len() {
-        s[i] = capital(s[i]);
-        i += 1;
-    }
 }
