@@ -1,7 +1,7 @@
 -- A well-formed record is one that passes the tests of `is_well_formed`, made in that order: what a byte, a number of 16 or 32 bits and an array cannot
 -- be isn't tested. Assumes nothing.
 use mathlib.Core.Path.{_≡_, refl}
-use mathlib.Core.Bool.{Bool, true, false, _&&_, and-true, and-assoc}
+use mathlib.Core.Bool.{Bool, true, false, _&&_, and-true, and-false, and-assoc}
 use mathlib.Core.List.{List, [], _∷_}
 use Prim.Native.Nat.{ℕ, _≤_, _<_, _^_}
 use native.Mathlib.Omega.{arith}
@@ -10,15 +10,14 @@ use lib.Dec.{leb}
 use borrow.Author.Tests.{le-leb, lt-leb, lt-ltb, leb-true, leb-false}
 use Rattle.laws.specs.Lists.{all}
 use Rattle.laws.proofs.Bools.{and-right}
-use Rattle.ascending.specs.Ascending.{ascends}
 use Rattle.names.specs.Names.{nameLimit, isChannel}
 use Rattle.channel.specs.declared.Member.{Member}
 use Rattle.channel.specs.declared.Record.{Record}
 use Rattle.channel.specs.Limits.{memberLimit, keyLimit, timeLimit}
 use Rattle.channel.specs.Modes.{modeCount}
-use Rattle.channel.specs.Channel.{byId}
 use Rattle.channel.specs.Record.{decode}
 use Rattle.channel.specs.WellFormed.{isZero, isVacant, goodMember, goodTime, goodModes, goodKey, goodLimit, goodMembers, channelTests, inRoom, clear, wellFormed}
+use Rattle.channel.proofs.Places.{places}
 
 -- every test of a list passes
 abbrev pub passed : List Bool → Bool
@@ -39,15 +38,11 @@ last t = and-true t
 -- the tests that are made
 abbrev pub tests : Record → List Bool
 tests r =
-    inRoom r
+    (leb 1 (r .count) && inRoom r)
     ∷ all isZero (drop (r .«name_len») (r .name))
     ∷ all isZero (drop (r .«key_len») (r .key))
-    ∷ all isVacant (drop (r .count) (r .members))
-    ∷ isChannel (take (r .«name_len») (r .name))
-    ∷ leb 1 (r .time)
-    ∷ goodKey (r .modes) (take (r .«key_len») (r .key))
-    ∷ goodLimit (r .modes) (r .limit)
-    ∷ (leb 1 (r .count) && (all goodMember (take (r .count) (r .members)) && ascends byId (take (r .count) (r .members))))
+    ∷ (isChannel (take (r .«name_len») (r .name)) && (leb 1 (r .time) && (goodKey (r .modes) (take (r .«key_len») (r .key)) && goodLimit (r .modes) (r .limit))))
+    ∷ places (r .members) (r .count)
     ∷ []
 
 -- once what is in use keeps to its room, there are no more members than there is room for
@@ -69,6 +64,12 @@ module _ (l : List Member) (n : ℕ) (h : length l ≡ memberLimit) where
   not-over : leb (length (take n l)) memberLimit ≡ true
   not-over = le-leb (length (take n l)) memberLimit (omega (arith, length-take n l))
 
+-- the tests in another order: whether there are members comes first, and whether the other places are vacant last
+reordered : (s v i n k c t q l m a : Bool) → i && (n && (k && (v && (c && (t && (q && (l && (s && (m && a))))))))) ≡ s && (i && (n && (k && (c && (t && (q && (l && (m && (a && v)))))))))
+reordered true true i n k c t q l m a = simp and-true
+reordered true false i n k c t q l m a = simp and-false
+reordered false v i n k c t q l m a = simp and-false
+
 module _ (r : Record) (m : length (r .members) ≡ memberLimit) (t : r .time ≤ timeLimit) (b : r .modes < 2 ^ modeCount) where
   pub well-tests : wellFormed r ≡ passed (tests r)
   unfolding wellFormed clear channelTests decode goodTime goodModes goodMembers all
@@ -79,4 +80,4 @@ module _ (r : Record) (m : length (r .members) ≡ memberLimit) (t : r .time ≤
     not-over (r .members) (r .count) m,
     and-true,
     and-assoc,
-  )
+  ) (rw (reordered (leb 1 (r .count)) (all isVacant (drop (r .count) (r .members)))) (simp and-assoc))

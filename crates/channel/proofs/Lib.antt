@@ -15,6 +15,7 @@ pub mod Gathering
 pub mod Examples
 pub mod Witnesses
 mod Tests
+mod Places
 mod Judging
 mod Others
 mod Placing

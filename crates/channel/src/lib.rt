@@ -19,15 +19,14 @@ use merging::refused;
 use names::NAME_LIMIT;
 use names::USER_ID;
 use names::equal;
-use names::is_channel;
 use octets::part;
 use refusal::BAD_NAME;
 use refusal::NOT_WELL_FORMED;
-use well::good_key;
-use well::good_limit;
-use well::good_members;
+use well::good_member;
 use well::in_room;
-use well::vacant_from;
+use well::member_bits;
+use well::precedes;
+use well::settled;
 use well::zero_from;
 
 // A member of a channel: its user id, held whole, and its status, VOICE plus OPERATOR.
@@ -120,13 +119,12 @@ pub struct Roster {
     pub count: usize,
 }
 
-// Whether every part of the record is zero, as in a free slot.
+// Whether every part of the record is zero, as in a free slot. The places of members are read where they stand, by an or over their bytes and one test.
 pub fn is_blank(r: Record) -> bool
     ensures { λ t. ⌜ t ≡ isBlank r ⌝ }
 {
     let name = r.name;
     let key = r.key;
-    let members = r.members;
     if !zero_from(&name, 0) {
         return false;
     }
@@ -148,19 +146,24 @@ pub fn is_blank(r: Record) -> bool
     if r.limit != 0 {
         return false;
     }
-    if !vacant_from(members, 0) {
+    let mut bits = 0u64;
+    for i in 0..Record::MEMBERS {
+        let m = r.members[i];
+        bits = bits | member_bits(m);
+    }
+    if bits != 0 {
         return false;
     }
     r.count == 0
 }
 
-// Whether the record is well formed: what is in use keeps to its room, unused room is zero, and what it holds is a channel.
+// Whether the record is well formed: what is in use keeps to its room, unused room is zero, and what it holds is a channel. One function with two loops, so that
+// the members are read where they stand and handed to no other: first the places that are not in use, then those that are, each against the next.
 pub fn is_well_formed(r: Record) -> bool
     ensures { λ t. ⌜ t ≡ wellFormed r ⌝ }
 {
     let name = r.name;
     let key = r.key;
-    let members = r.members;
     if !in_room(r.name_len, r.key_len, r.count) {
         return false;
     }
@@ -170,22 +173,30 @@ pub fn is_well_formed(r: Record) -> bool
     if !zero_from(&key, r.key_len) {
         return false;
     }
-    if !vacant_from(members, r.count) {
+    let named = part(&name, 0, r.name_len);
+    let keyed = part(&key, 0, r.key_len);
+    if !settled(named, r.time, r.modes, keyed, r.limit) {
         return false;
     }
-    if !is_channel(part(&name, 0, r.name_len)) {
+    let mut bits = 0u64;
+    for j in r.count..Record::MEMBERS {
+        let m = r.members[j];
+        bits = bits | member_bits(m);
+    }
+    if bits != 0 {
         return false;
     }
-    if r.time == 0 {
-        return false;
+    let mut i = 0;
+    while i + 1 < r.count {
+        let m = r.members[i];
+        let next = r.members[i + 1];
+        if !precedes(m, next) {
+            return false;
+        }
+        i += 1;
     }
-    if !good_key(r.modes, part(&key, 0, r.key_len)) {
-        return false;
-    }
-    if !good_limit(r.modes, r.limit) {
-        return false;
-    }
-    good_members(members, r.count)
+    let last = r.members[i];
+    good_member(last)
 }
 
 // Two records of one channel merged by the rules of SJOIN, the first one's spelling kept. Refused where either isn't well formed, where their names

@@ -1,14 +1,12 @@
 // The tests of a well-formed record, each of the part that it judges.
 ghost use mathlib.Core.Path.{_≡_};
 ghost use mathlib.Core.Bool.{_&&_};
-ghost use Prim.Native.Nat.{_≤_};
-ghost use lib.ListN.{take, drop};
+ghost use lib.ListN.{drop};
 ghost use lib.Dec.{leb};
 ghost use Rattle.laws.specs.Lists.{all};
-ghost use Rattle.ascending.specs.Ascending.{ascends};
-ghost use Rattle.names.specs.Names.{nameLimit};
+ghost use Rattle.octets.specs.Order.{compare, isLess};
+ghost use Rattle.names.specs.Names.{nameLimit, isChannel};
 ghost use Rattle.channel.specs.Limits.{memberLimit, keyLimit};
-ghost use Rattle.channel.specs.Channel.{byId};
 ghost use Rattle.channel.specs.WellFormed.{isZero, isVacant, goodKey, goodLimit, goodMember};
 use crate::Member;
 use crate::Record;
@@ -19,14 +17,18 @@ use crate::modes::LIMIT_MODE;
 use crate::modes::has_mode;
 use names::USER_ID;
 use names::ids::is_id;
+use names::is_channel;
 
 // The most that a status can be.
 const BOTH: u8 = Member::VOICE + Member::OPERATOR;
 
-// Whether what is in use keeps to its room.
+// Whether there is a member, and what is in use keeps to its room.
 pub(crate) fn in_room(name_len: usize, key_len: usize, count: usize) -> bool
-    ensures { λ r. ⌜ r ≡ leb «name_len» nameLimit && (leb «key_len» keyLimit && leb count memberLimit) ⌝ }
+    ensures { λ r. ⌜ r ≡ leb 1 count && (leb «name_len» nameLimit && (leb «key_len» keyLimit && leb count memberLimit)) ⌝ }
 {
+    if count == 0 {
+        return false;
+    }
     if Record::NAME < name_len {
         return false;
     }
@@ -77,25 +79,11 @@ fn id_bits(id: [u8; USER_ID]) -> u64
 }
 
 // The bits of a member's bytes, joined by or: none exactly if its place is unused.
-fn member_bits(m: Member) -> u64
+pub(crate) fn member_bits(m: Member) -> u64
     ensures { λ r. ⌜ isZero r ≡ isVacant m ⌝ }
 {
     let id = m.id;
     id_bits(id) | (m.status as u64)
-}
-
-// Whether every place from one on is unused: an or over the bytes of all, and one test.
-pub(crate) fn vacant_from(members: [Member; Record::MEMBERS], from: usize) -> bool
-    ensures { λ r. ⌜ r ≡ all isVacant (drop from members) ⌝ }
-{
-    let mut bits = 0u64;
-    let mut i = from;
-    while i < Record::MEMBERS {
-        let m = members[i];
-        bits = bits | member_bits(m);
-        i += 1;
-    }
-    bits == 0
 }
 
 // Whether there is a key exactly with the mode k, and a good one.
@@ -122,7 +110,7 @@ pub(crate) fn good_limit(modes: u8, limit: u16) -> bool
 }
 
 // Whether it is a user id with a status that there is.
-fn good_member(m: Member) -> bool
+pub(crate) fn good_member(m: Member) -> bool
     ensures { λ r. ⌜ r ≡ goodMember m ⌝ }
 {
     let id = m.id;
@@ -132,26 +120,28 @@ fn good_member(m: Member) -> bool
     m.status <= BOTH
 }
 
-// Whether the first n, one or more, are members in ascending order: class and order are tested in one loop.
-pub(crate) fn good_members(members: [Member; Record::MEMBERS], n: usize) -> bool
-    requires { ⌜ n ≤ memberLimit ⌝ }
-    ensures { λ r. ⌜ r ≡ leb 1 n && (all goodMember (take n members) && ascends byId (take n members)) ⌝ }
+// Whether it is a member, and its id is smaller than the next one's: class and order are tested together.
+pub(crate) fn precedes(m: Member, next: Member) -> bool
+    ensures { λ r. ⌜ r ≡ goodMember m && isLess (compare (m .id) (next .id)) ⌝ }
 {
-    if n == 0 {
+    if !good_member(m) {
         return false;
     }
-    let mut i = 0;
-    while i + 1 < n {
-        let m = members[i];
-        let next = members[i + 1];
-        if !good_member(m) {
-            return false;
-        }
-        if !is_below(m, next) {
-            return false;
-        }
-        i += 1;
+    is_below(m, next)
+}
+
+// Whether name, time, modes, key and limit are a channel's.
+pub(crate) fn settled(name: &[u8], time: u32, modes: u8, key: &[u8], limit: u16) -> bool
+    ensures { λ r. ⌜ r ≡ isChannel (now (name .entry)) && (leb 1 time && (goodKey modes (now (key .entry)) && goodLimit modes limit)) ⌝ }
+{
+    if !is_channel(name) {
+        return false;
     }
-    let last = members[i];
-    good_member(last)
+    if time == 0 {
+        return false;
+    }
+    if !good_key(modes, key) {
+        return false;
+    }
+    good_limit(modes, limit)
 }

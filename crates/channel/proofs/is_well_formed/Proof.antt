@@ -1,164 +1,254 @@
--- `is_well_formed` meets its contract: each return is the first test that fails, after those that passed. Assumes nothing.
-use mathlib.Core.Path.{_≡_, sym, ap, _∙_}
+-- `is_well_formed` meets its contract: each return is the first test that fails, after those that passed. The invariants: the places not in use are vacant exactly
+-- if there are no bits so far and those from j on are, and the members in use are good exactly if those from i on are. Assumes nothing.
+use mathlib.Core.Path.{_≡_, refl, sym, ap₂, _∙_}
+use mathlib.Core.Bool.{true, _&&_, and-true, and-false}
+use mathlib.Core.List.{List}
+use Prim.Native.Nat.{ℕ, _-_, _≤_, _<_}
 use native.Mathlib.Omega.{arith}
-use lib.ListN.{length, take, drop}
+use lib.ListN.{length, take, drop, getD}
+use lib.Dec.{leb}
 use borrow.Author.Needs.{needs}
-use borrow.Author.Tests.{le-leb, lt-leb, not-true, not-false}
-use Rattle.names.specs.Names.{isChannel}
+use borrow.Author.Tests.{eq-eqb, ne-eqb, leb-true, not-true, not-false}
+use Rattle.laws.specs.Lists.{all}
+use Rattle.laws.proofs.Bools.{and-left, and-right}
 use Rattle.laws.proofs.Lists.{unmapped}
+use Rattle.laws.proofs.Bitwise.{or-step, or-past}
 use Rattle.octets.proofs.Room.{part-front}
+use Rattle.names.specs.Names.{isChannel}
 use Rattle.channel.specs.declared.Record.{Record}
 use Rattle.channel.specs.Limits.{memberLimit}
-use Rattle.channel.specs.WellFormed.{goodKey, inRoom, wellFormed}
+use Rattle.channel.specs.WellFormed.{isZero, isVacant, goodKey, goodLimit, inRoom, wellFormed}
+use Rattle.channel.proofs.Places.{proper, places, proper-stop, proper-go, proper-last}
 use Rattle.channel.proofs.Judging.{passed, pass, fail, last, tests, well-tests, in-room-count}
 use Rattle.channel.proofs.is_well_formed.Statement.{statement}
 use Rattle.channel.proofs.is_well_formed.Tie as tie
 
-in-room-requires : tie.Need-in-room-requires
-in-room-requires c κs = search needs
+abbrev Inv-loop : tie.InvT-loop
+Inv-loop r bits₀ j₀ bits j = all isVacant (drop (r .count) (r .members)) ≡ isZero bits && all isVacant (drop j (r .members))
+
+abbrev μ-loop : tie.MeasureT-loop
+μ-loop r bits₀ j₀ bits j = memberLimit - j
+
+abbrev Inv-loop2 : tie.InvT-loop2
+Inv-loop2 r bits i₀ i = (i < r .count) × (r .count ≤ memberLimit) × (proper (drop i (take (r .count) (r .members))) ≡ proper (take (r .count) (r .members)))
+
+abbrev μ-loop2 : tie.MeasureT-loop2
+μ-loop2 r bits i₀ i = r .count - i
 
 -- ---- the record, seen from each place
-abbrev at-0 : tie.After-in-room → Record
-at-0 c = c .before .before .before .before .args .r
+abbrev at-0 : tie.After-in-room Inv-loop μ-loop Inv-loop2 μ-loop2 → Record
+at-0 c = c .before .before .before .args .t1
 
-abbrev at-1 : tie.Else1 → Record
+abbrev at-1 : tie.Else1 Inv-loop μ-loop Inv-loop2 μ-loop2 → Record
 at-1 c = at-0 (c .before)
 
-abbrev at-2 : tie.Else2 → Record
+abbrev at-2 : tie.Else2 Inv-loop μ-loop Inv-loop2 μ-loop2 → Record
 at-2 c = at-1 (c .before .before .before)
 
-abbrev at-3 : tie.Else3 → Record
+abbrev at-3 : tie.Else3 Inv-loop μ-loop Inv-loop2 μ-loop2 → Record
 at-3 c = at-2 (c .before .before .before)
 
-abbrev at-4 : tie.Else4 → Record
-at-4 c = at-3 (c .before .before)
+abbrev at-4 : tie.Else4 Inv-loop μ-loop Inv-loop2 μ-loop2 → Record
+at-4 c = at-3 (c .before .before .before .before .before .before)
 
-abbrev at-5 : tie.Else5 → Record
-at-5 c = at-4 (c .before .before .before .before)
+abbrev at-5 : tie.Else5 Inv-loop μ-loop Inv-loop2 μ-loop2 → Record
+at-5 c = at-4 (c .before .before .before)
 
-abbrev at-6 : tie.Else6 → Record
-at-6 c = at-5 (c .before .before)
+long : (c : tie.After-in-room Inv-loop μ-loop Inv-loop2 μ-loop2) → length (at-0 c .members) ≡ memberLimit
+long c = search (needs, unmapped)
 
-abbrev at-7 : tie.Else7 → Record
-at-7 c = at-6 (c .before .before .before .before)
-
-abbrev at-8 : tie.Else8 → Record
-at-8 c = at-7 (c .before .before)
+long-still : (c : tie.Else4 Inv-loop μ-loop Inv-loop2 μ-loop2) → length (at-4 c .members) ≡ memberLimit
+long-still c = long (c .before .before .before .before .before .before .before .before .before .before .before .before .before)
 
 -- ---- what the tests come to that aren't handed on as they are
-room : (c : tie.After-in-room) → c .in-room .result ≡ inRoom (at-0 c)
+room : (c : tie.After-in-room Inv-loop μ-loop Inv-loop2 μ-loop2) → c .in-room .result ≡ leb 1 (at-0 c .count) && inRoom (at-0 c)
 unfolding inRoom
 room c = c .in-room .ensures
 
-named : (c : tie.After-is-channel) → c .is-channel .result ≡ isChannel (take (at-4 (c .before .before .before) .«name_len») (at-4 (c .before .before .before) .name))
-named c = c .is-channel .ensures ∙ ap isChannel (c .before .part .ensures .0 ∙ part-front (at-4 (c .before .before .before) .name) (at-4 (c .before .before .before) .«name_len»))
-
-keyed : (c : tie.After-good-key) → c .good-key .result ≡ goodKey (at-6 (c .before .before .before) .modes) (take (at-6 (c .before .before .before) .«key_len») (at-6 (c .before .before .before) .key))
-keyed c = c .good-key .ensures ∙ ap (goodKey (at-6 (c .before .before .before) .modes)) (c .before .part2 .ensures .0 ∙ part-front (at-6 (c .before .before .before) .key) (at-6 (c .before .before .before) .«key_len»))
+set-up : (c : tie.After-settled Inv-loop μ-loop Inv-loop2 μ-loop2) → c .settled .result ≡ getD (tests (at-3 (c .before .before .before .before .before))) 3 true
+set-up c =
+    let r : Record = at-3 (c .before .before .before .before .before) in
+    c .settled .ensures
+    ∙ ap₂ (λ (x y : List ℕ). isChannel x && (leb 1 (r .time) && (goodKey (r .modes) y && goodLimit (r .modes) (r .limit))))
+    (c .before .before .before .part .ensures .0 ∙ part-front (r .name) (r .«name_len»)) (c .before .part2 .ensures .0 ∙ part-front (r .key) (r .«key_len»))
 
 -- ---- what is left to be tested
-left-0 : (c : tie.After-in-room) → wellFormed (at-0 c) ≡ passed (tests (at-0 c))
-left-0 c =
-    let m : length (at-0 c .members) ≡ memberLimit = search (needs, unmapped) in
-    well-tests (at-0 c) m (search needs) (search needs)
+left-0 : (c : tie.After-in-room Inv-loop μ-loop Inv-loop2 μ-loop2) → wellFormed (at-0 c) ≡ passed (tests (at-0 c))
+left-0 c = well-tests (at-0 c) (long c) (search needs) (search needs)
 
-left-1 : (c : tie.Else1) → wellFormed (at-1 c) ≡ passed (drop 1 (tests (at-1 c)))
+left-1 : (c : tie.Else1 Inv-loop μ-loop Inv-loop2 μ-loop2) → wellFormed (at-1 c) ≡ passed (drop 1 (tests (at-1 c)))
 left-1 c = left-0 (c .before) ∙ pass _ (sym (room (c .before)) ∙ not-false _ (c .if1 .left))
 
-left-2 : (c : tie.Else2) → wellFormed (at-2 c) ≡ passed (drop 2 (tests (at-2 c)))
+left-2 : (c : tie.Else2 Inv-loop μ-loop Inv-loop2 μ-loop2) → wellFormed (at-2 c) ≡ passed (drop 2 (tests (at-2 c)))
 left-2 c = left-1 (c .before .before .before) ∙ pass _ (sym (c .before .zero-from .ensures) ∙ not-false _ (c .if2 .left))
 
-left-3 : (c : tie.Else3) → wellFormed (at-3 c) ≡ passed (drop 3 (tests (at-3 c)))
+left-3 : (c : tie.Else3 Inv-loop μ-loop Inv-loop2 μ-loop2) → wellFormed (at-3 c) ≡ passed (drop 3 (tests (at-3 c)))
 left-3 c = left-2 (c .before .before .before) ∙ pass _ (sym (c .before .zero-from2 .ensures) ∙ not-false _ (c .if3 .left))
 
-left-4 : (c : tie.Else4) → wellFormed (at-4 c) ≡ passed (drop 4 (tests (at-4 c)))
-left-4 c = left-3 (c .before .before) ∙ pass _ (sym (c .before .vacant-from .ensures) ∙ not-false _ (c .if4 .left))
+left-4 : (c : tie.Else4 Inv-loop μ-loop Inv-loop2 μ-loop2) → wellFormed (at-4 c) ≡ places (at-4 c .members) (at-4 c .count)
+left-4 c = left-3 (c .before .before .before .before .before .before) ∙ pass _ (sym (set-up (c .before)) ∙ not-false _ (c .if4 .left)) ∙ last _
 
-left-5 : (c : tie.Else5) → wellFormed (at-5 c) ≡ passed (drop 5 (tests (at-5 c)))
-left-5 c = left-4 (c .before .before .before .before) ∙ pass _ (sym (named (c .before)) ∙ not-false _ (c .if5 .left))
+-- the places not in use, after the first loop
+vacant : (c : tie.After-loop Inv-loop μ-loop Inv-loop2 μ-loop2) → all isVacant (drop (at-4 (c .before .before) .count) (at-4 (c .before .before) .members)) ≡ isZero (c .before .loop .bits)
+vacant c =
+    let l = c .before .loop in
+    let n = long-still (c .before .before) in
+    l .inv ∙ or-past isVacant (at-4 (c .before .before) .members) (l .j) (l .bits) (omega (arith, c .loop-test .left))
 
-left-6 : (c : tie.Else6) → wellFormed (at-6 c) ≡ passed (drop 6 (tests (at-6 c)))
-left-6 c = left-5 (c .before .before) ∙ pass _ (le-leb 1 (at-6 c .time) (omega (arith, c .if6 .left)))
+left-5 : (c : tie.Else5 Inv-loop μ-loop Inv-loop2 μ-loop2) → wellFormed (at-5 c) ≡ proper (take (at-5 c .count) (at-5 c .members))
+left-5 c = left-4 (c .before .before .before) ∙ rw (vacant (c .before) ∙ eq-eqb _ 0 (c .if5 .left)) (and-true _)
 
-left-7 : (c : tie.Else7) → wellFormed (at-7 c) ≡ passed (drop 7 (tests (at-7 c)))
-left-7 c = left-6 (c .before .before .before .before) ∙ pass _ (sym (keyed (c .before)) ∙ not-false _ (c .if7 .left))
+in-room-requires : tie.Need-in-room-requires Inv-loop μ-loop Inv-loop2 μ-loop2
+in-room-requires c κs = search needs
 
-left-8 : (c : tie.Else8) → wellFormed (at-8 c) ≡ passed (drop 8 (tests (at-8 c)))
-left-8 c = left-7 (c .before .before) ∙ pass _ (sym (c .before .good-limit .ensures) ∙ not-false _ (c .if8 .left))
-
-returns : tie.Need-returns
+returns : tie.Need-returns Inv-loop μ-loop Inv-loop2 μ-loop2
 returns c = sym (left-0 (c .before) ∙ fail _ (sym (room (c .before)) ∙ not-true _ (c .if1 .taken)))
 
-slice-aggregate-zero-from : tie.Need-slice-aggregate-zero-from
+slice-aggregate-zero-from : tie.Need-slice-aggregate-zero-from Inv-loop μ-loop Inv-loop2 μ-loop2
 slice-aggregate-zero-from c = search needs
 
-zero-from-requires : tie.Need-zero-from-requires
+zero-from-requires : tie.Need-zero-from-requires Inv-loop μ-loop Inv-loop2 μ-loop2
 zero-from-requires c κs = search needs
 
-returns-2 : tie.Need-returns-2
+returns-2 : tie.Need-returns-2 Inv-loop μ-loop Inv-loop2 μ-loop2
 returns-2 c = sym (left-1 (c .before .before .before) ∙ fail _ (sym (c .before .zero-from .ensures) ∙ not-true _ (c .if2 .taken)))
 
-slice-aggregate-zero-from-2 : tie.Need-slice-aggregate-zero-from-2
+slice-aggregate-zero-from-2 :
+    tie.Need-slice-aggregate-zero-from-2 Inv-loop μ-loop Inv-loop2 μ-loop2
 slice-aggregate-zero-from-2 c = search needs
 
-zero-from-requires-2 : tie.Need-zero-from-requires-2
+zero-from-requires-2 : tie.Need-zero-from-requires-2 Inv-loop μ-loop Inv-loop2 μ-loop2
 zero-from-requires-2 c κs = search needs
 
-returns-3 : tie.Need-returns-3
+returns-3 : tie.Need-returns-3 Inv-loop μ-loop Inv-loop2 μ-loop2
 returns-3 c = sym (left-2 (c .before .before .before) ∙ fail _ (sym (c .before .zero-from2 .ensures) ∙ not-true _ (c .if3 .taken)))
 
-vacant-from-requires : tie.Need-vacant-from-requires
-vacant-from-requires c κs = search needs
-
-returns-4 : tie.Need-returns-4
-returns-4 c = sym (left-3 (c .before .before) ∙ fail _ (sym (c .before .vacant-from .ensures) ∙ not-true _ (c .if4 .taken)))
-
-slice-aggregate-part : tie.Need-slice-aggregate-part
+slice-aggregate-part : tie.Need-slice-aggregate-part Inv-loop μ-loop Inv-loop2 μ-loop2
 slice-aggregate-part c = search needs
 
-part-requires : tie.Need-part-requires
+part-requires : tie.Need-part-requires Inv-loop μ-loop Inv-loop2 μ-loop2
 part-requires c κs = search needs
 
-is-channel-requires : tie.Need-is-channel-requires
-is-channel-requires c κs = search needs
-
-returns-5 : tie.Need-returns-5
-returns-5 c = sym (left-4 (c .before .before .before .before) ∙ fail _ (sym (named (c .before)) ∙ not-true _ (c .if5 .taken)))
-
-returns-6 : tie.Need-returns-6
-returns-6 c = sym (left-5 (c .before .before) ∙ fail _ (lt-leb 1 (at-5 (c .before .before) .time) (omega (arith, c .if6 .taken))))
-
-slice-aggregate-part-2 : tie.Need-slice-aggregate-part-2
+slice-aggregate-part-2 : tie.Need-slice-aggregate-part-2 Inv-loop μ-loop Inv-loop2 μ-loop2
 slice-aggregate-part-2 c = search needs
 
-part-requires-2 : tie.Need-part-requires-2
+part-requires-2 : tie.Need-part-requires-2 Inv-loop μ-loop Inv-loop2 μ-loop2
 part-requires-2 c κs = search needs
 
-good-key-requires : tie.Need-good-key-requires
-good-key-requires c κs = search needs
+settled-requires : tie.Need-settled-requires Inv-loop μ-loop Inv-loop2 μ-loop2
+settled-requires c κs = search needs
 
-returns-7 : tie.Need-returns-7
-returns-7 c = sym (left-6 (c .before .before .before .before) ∙ fail _ (sym (keyed (c .before)) ∙ not-true _ (c .if7 .taken)))
+returns-4 : tie.Need-returns-4 Inv-loop μ-loop Inv-loop2 μ-loop2
+returns-4 c = sym (left-3 (c .before .before .before .before .before .before) ∙ fail _ (sym (set-up (c .before)) ∙ not-true _ (c .if4 .taken)))
 
-good-limit-requires : tie.Need-good-limit-requires
-good-limit-requires c κs = search needs
+loop-holds : tie.Need-loop-holds Inv-loop μ-loop Inv-loop2 μ-loop2
+loop-holds c = refl
 
-returns-8 : tie.Need-returns-8
-returns-8 c = sym (left-7 (c .before .before) ∙ fail _ (sym (c .before .good-limit .ensures) ∙ not-true _ (c .if8 .taken)))
+mul-m : tie.Need-mul-m Inv-loop μ-loop Inv-loop2 μ-loop2
+mul-m c = search needs
 
-good-members-requires : tie.Need-good-members-requires
-good-members-requires c κs =
-    let five = c .before .before .before .before .before .before .before .before in
-    let one = five .before .before .before .before .before .before .before .before .before .before .before .before in
-    in-room-count (at-1 one) (sym (room (one .before)) ∙ not-false _ (one .if1 .left))
+element-copy-out-m : tie.Need-element-copy-out-m Inv-loop μ-loop Inv-loop2 μ-loop2
+element-copy-out-m c = search needs
 
-returns-9 : tie.Need-returns-9
-returns-9 c = c .good-members .ensures ∙ sym (left-8 (c .before) ∙ last _)
+member-bits-requires : tie.Need-member-bits-requires Inv-loop μ-loop Inv-loop2 μ-loop2
+member-bits-requires c κs = search needs
+
+add-j : tie.Need-add-j Inv-loop μ-loop Inv-loop2 μ-loop2
+add-j c = search needs
+
+loop-less : tie.Need-loop-less Inv-loop μ-loop Inv-loop2 μ-loop2
+loop-less c = search needs
+
+loop-again : tie.Need-loop-again Inv-loop μ-loop Inv-loop2 μ-loop2
+loop-again c =
+    let l = c .before .before .before .loop in
+    let r : Record = at-4 (c .before .before .before .before) in
+    let n = long-still (c .before .before .before .before) in
+    l .inv ∙ or-step isVacant (r .members) (l .j) (l .bits) _ _ (omega (arith, c .before .before .loop-test .taken)) (c .member-bits .ensures)
+
+returns-5 : tie.Need-returns-5 Inv-loop μ-loop Inv-loop2 μ-loop2
+returns-5 c =
+    let r : Record = at-4 (c .before .before .before) in
+    sym (left-4 (c .before .before .before) ∙ rw (vacant (c .before) ∙ ne-eqb _ 0 (c .if5 .taken)) (and-false (proper (take (r .count) (r .members)))))
+
+loop2-holds : tie.Need-loop2-holds Inv-loop μ-loop Inv-loop2 μ-loop2
+loop2-holds c =
+    let one = c .before .before .before .before .before .before .before .before .before .before .before .before .before .before .before in
+    let k = sym (room (one .before)) ∙ not-false _ (one .if1 .left) in
+    let some = leb-true 1 (at-1 one .count) (and-left (leb 1 (at-1 one .count)) (inRoom (at-1 one)) k) in
+    (omega arith, in-room-count (at-1 one) (and-right (leb 1 (at-1 one .count)) (inRoom (at-1 one)) k), refl)
+
+add-loop2 : tie.Need-add-loop2 Inv-loop μ-loop Inv-loop2 μ-loop2
+add-loop2 c = search needs
+
+mul-m-2 : tie.Need-mul-m-2 Inv-loop μ-loop Inv-loop2 μ-loop2
+mul-m-2 c = search needs
+
+element-copy-out-m-2 : tie.Need-element-copy-out-m-2 Inv-loop μ-loop Inv-loop2 μ-loop2
+element-copy-out-m-2 c = search needs
+
+add-next : tie.Need-add-next Inv-loop μ-loop Inv-loop2 μ-loop2
+add-next c = search needs
+
+mul-next : tie.Need-mul-next Inv-loop μ-loop Inv-loop2 μ-loop2
+mul-next c = search needs
+
+element-copy-out-next : tie.Need-element-copy-out-next Inv-loop μ-loop Inv-loop2 μ-loop2
+element-copy-out-next c = search needs
+
+precedes-requires : tie.Need-precedes-requires Inv-loop μ-loop Inv-loop2 μ-loop2
+precedes-requires c κs = search needs
+
+returns-6 : tie.Need-returns-6 Inv-loop μ-loop Inv-loop2 μ-loop2
+returns-6 c =
+    let l = c .before .before .before .before .before .loop2 in
+    let r : Record = at-5 (c .before .before .before .before .before .before) in
+    let n = long-still (c .before .before .before .before .before .before .before .before .before) in
+    sym
+    (left-5 (c .before .before .before .before .before .before) ∙ sym (l .inv .2)
+    ∙ proper-stop (r .members) (r .count) (l .i) _ (omega (arith, l .inv .1)) (c .before .before .before .before .loop2-test .taken) (sym (c .before .precedes .ensures) ∙ not-true _ (c .if6 .taken)))
+
+add-i : tie.Need-add-i Inv-loop μ-loop Inv-loop2 μ-loop2
+add-i c = search needs
+
+loop2-less : tie.Need-loop2-less Inv-loop μ-loop Inv-loop2 μ-loop2
+loop2-less c = search needs
+
+loop2-again : tie.Need-loop2-again Inv-loop μ-loop Inv-loop2 μ-loop2
+loop2-again c =
+    let l = c .before .before .before .before .before .loop2 in
+    let r : Record = at-5 (c .before .before .before .before .before .before) in
+    let n = long-still (c .before .before .before .before .before .before .before .before .before) in (
+      c .before .before .before .before .loop2-test .taken,
+      l .inv .1,
+      sym (proper-go (r .members) (r .count) (l .i) _ (omega (arith, l .inv .1)) (c .before .before .before .before .loop2-test .taken) (sym (c .before .precedes .ensures) ∙ not-false _ (c .if6 .left))) ∙ l .inv .2,
+    )
+
+mul-last : tie.Need-mul-last Inv-loop μ-loop Inv-loop2 μ-loop2
+mul-last c = search needs
+
+element-copy-out-last : tie.Need-element-copy-out-last Inv-loop μ-loop Inv-loop2 μ-loop2
+element-copy-out-last c = search needs
+
+good-member-requires : tie.Need-good-member-requires Inv-loop μ-loop Inv-loop2 μ-loop2
+good-member-requires c κs = search needs
+
+returns-7 : tie.Need-returns-7 Inv-loop μ-loop Inv-loop2 μ-loop2
+returns-7 c =
+    let l = c .before .before .before .loop2 in
+    let r : Record = at-5 (c .before .before .before .before) in
+    let n = long-still (c .before .before .before .before .before .before .before) in
+    c .good-member .ensures
+    ∙ sym (left-5 (c .before .before .before .before) ∙ sym (l .inv .2) ∙ proper-last (r .members) (r .count) (l .i) _ (omega (arith, l .inv .1)) (omega (arith, l .inv .0, c .before .before .loop2-test .left)))
 
 pub is-well-formed-spec : {M : Type 1} → statement M
 is-well-formed-spec =
     tie.close
     (tie.spec
+    Inv-loop
+    μ-loop
+    Inv-loop2
+    μ-loop2
     in-room-requires
     returns
     slice-aggregate-zero-from
@@ -167,18 +257,33 @@ is-well-formed-spec =
     slice-aggregate-zero-from-2
     zero-from-requires-2
     returns-3
-    vacant-from-requires
-    returns-4
     slice-aggregate-part
     part-requires
-    is-channel-requires
-    returns-5
-    returns-6
     slice-aggregate-part-2
     part-requires-2
-    good-key-requires
-    returns-7
-    good-limit-requires
-    returns-8
-    good-members-requires
-    returns-9)
+    settled-requires
+    returns-4
+    loop-holds
+    mul-m
+    element-copy-out-m
+    member-bits-requires
+    add-j
+    loop-less
+    loop-again
+    returns-5
+    loop2-holds
+    add-loop2
+    mul-m-2
+    element-copy-out-m-2
+    add-next
+    mul-next
+    element-copy-out-next
+    precedes-requires
+    returns-6
+    add-i
+    loop2-less
+    loop2-again
+    mul-last
+    element-copy-out-last
+    good-member-requires
+    returns-7)
