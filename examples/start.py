@@ -1,0 +1,368 @@
+#!/usr/bin/env python3
+"""Tests of bin/relay alone: when it builds, what it says, how it ends.
+
+Each test has a small tree of its own, with a stand-in for `rt` that writes down
+how it is called and a stand-in for the program, so nothing is proved here and
+nothing of this repository is touched. Says which test fails; the last line is
+'N passed, M failed', the status 1 if one did.
+"""
+import contextlib
+import os
+import pathlib
+import pty
+import shutil
+import signal
+import subprocess
+import sys
+import tempfile
+import time
+
+HERE = pathlib.Path(__file__).resolve().parent
+
+# Writes down its call, and an overlap with another one; proves nothing. A stamp is left alone where it is there already, as rt's own are.
+RT = """#!/bin/sh
+echo "$*" >>"$TREE/calls"
+mkdir "$TREE/busy" 2>/dev/null || echo overlap >>"$TREE/calls"
+echo $$ >>"$TREE/provers"
+sleep "${PROVING-0}" &
+echo $! >>"$TREE/provers"
+wait
+rmdir "$TREE/busy"
+if [ "$2" = "${UNPROVED-}" ]; then
+    echo "a fact can't be shown"
+    echo "rt: $2 NOT PROVED (exit 1, 0 s)"
+    exit 1
+fi
+echo "fn $2::main: proved"
+echo "rt: laws proved (unchanged since it was last proved)"
+[ "$2" = laws ] || echo "rt: $2 proved (0 s)"
+mkdir -p target/stamp target/bin
+[ -f "target/stamp/$2" ] || echo x >"target/stamp/$2"
+if [ "$2" = console ] && [ ! -f target/bin/console ]; then
+    cp "$TREE/program" target/bin/console
+fi
+"""
+
+# Answers its input with its arguments before it; says what SAYS says.
+PROGRAM = """#!/bin/sh
+echo "$*"
+cat
+[ -z "${SAYS-}" ] || echo "$SAYS" >&2
+"""
+
+WAITS = """#!/bin/sh
+trap 'echo ended by TERM; exit 0' TERM
+trap 'echo ended by HUP; exit 0' HUP
+echo started
+while :; do sleep 0.05; done
+"""
+
+
+class Tree:
+    """A repository of three crates, of which the program needs two."""
+
+    def __init__(self, folder):
+        self.folder = folder
+        folder.chmod(0o755)
+        for name in ["laws", "console", "other"]:
+            for part in ["src", "specs", "proofs"]:
+                (folder / "crates" / name / part).mkdir(parents=True)
+                (folder / "crates" / name / part / "file").write_text("x")
+        (folder / "crates.txt").write_text("laws:\nother: laws\nconsole: laws io\n")
+        (folder / "VERSION").write_text("1.2.3\n")
+        (folder / "bin").mkdir()
+        shutil.copy(HERE.parent / "bin" / "relay", folder / "bin" / "relay")
+        (folder / "tools").mkdir()
+        self.script("tools/rt", RT)
+        self.script("program", PROGRAM)
+
+    def script(self, name, text):
+        path = self.folder / name
+        path.write_text(text)
+        path.chmod(0o755)
+
+    def built(self, program=PROGRAM):
+        for name in ["stamp/laws", "stamp/console", "bin/console"]:
+            path = self.folder / "target" / name
+            path.parent.mkdir(parents=True, exist_ok=True)
+            path.write_text("x\n")
+        self.script("target/bin/console", program)
+        return self
+
+    def environment(self, **more):
+        path = f"{self.folder}/tools:{os.environ['PATH']}"
+        return os.environ | {"PATH": path, "TREE": str(self.folder)} | more
+
+    def start(self, *words, **options):
+        more = options.pop("more", {})
+        options = {"stdin": subprocess.DEVNULL, "stdout": subprocess.PIPE, "stderr": subprocess.PIPE} | options
+        return subprocess.Popen([self.folder / "bin" / "relay", *words], env=self.environment(**more), text=True, cwd="/", **options)
+
+    def run(self, *words, **options):
+        """Status, standard output and standard error."""
+        given = options.pop("input", None)
+        if given is not None:
+            options["stdin"] = subprocess.PIPE
+        started = self.start(*words, **options)
+        out, err = started.communicate(given, timeout=60)
+        return started.returncode, out, err
+
+    def calls(self):
+        with contextlib.suppress(FileNotFoundError):
+            return (self.folder / "calls").read_text().splitlines()
+        return []
+
+    def seen(self):
+        """All that is in the tree, with its times."""
+        return sorted((str(path), path.lstat().st_mtime_ns, path.lstat().st_size) for path in self.folder.rglob("*"))
+
+    def touch(self, name):
+        later = time.time() + 5
+        os.utime(self.folder / name, (later, later))
+
+
+def equal(got, expected):
+    if got != expected:
+        raise AssertionError(f"{got!r}, expected {expected!r}")
+
+
+def holds(text, part):
+    if part not in text:
+        raise AssertionError(f"{text!r} doesn't have {part!r}")
+
+
+def wait_for(test):
+    for _ in range(400):
+        if test():
+            return
+        time.sleep(0.05)
+    raise AssertionError("waited in vain")
+
+
+def is_running(number):
+    with contextlib.suppress(FileNotFoundError):
+        return pathlib.Path(f"/proc/{number}/stat").read_text().rsplit(")", 1)[1].split()[0] != "Z"
+    return False
+
+
+# ---- when it builds
+
+
+def test_built_program_runs_and_nothing_is_touched(tree):
+    tree.built()
+    before = tree.seen()
+    equal(tree.run("day.log", input="a\n"), (0, "day.log\na\n", ""))
+    equal(tree.calls(), [])
+    equal(tree.seen(), before)
+
+
+def test_built_program_runs_for_a_user_without_write_access(tree):
+    tree.built()
+    user = {"user": 65534, "group": 65534, "extra_groups": []} if os.getuid() == 0 else {}
+    for path in [tree.folder, *tree.folder.rglob("*")]:
+        path.chmod(path.stat().st_mode & ~0o222)
+    try:
+        equal(tree.run(input="a\n", **user), (0, "\na\n", ""))
+    finally:
+        for path in [tree.folder, *tree.folder.rglob("*")]:
+            path.chmod(path.stat().st_mode | 0o200)
+
+
+def test_what_the_program_needs_is_built_in_order_and_told(tree):
+    status, out, err = tree.run("day.log", input="a\n")
+    equal((status, out), (0, "day.log\na\n"))
+    equal(tree.calls(), ["check laws", "check console"])
+    lines = err.splitlines()
+    equal([line[:6] for line in lines if not line.startswith("rt: ")], ["note: "] * 3)
+    holds(lines[0], "minutes")
+    equal(lines[1:3], ["note: laws, crate 1 of 2", "rt: laws proved (unchanged since it was last proved)"])
+    equal(lines[3:], ["note: console, crate 2 of 2", "rt: console proved (0 s)"])
+
+
+def test_newer_source_is_built_once(tree):
+    for name in ["crates/laws/proofs/file", "crates/console/specs/file", "crates.txt"]:
+        tree.built()
+        os.utime(tree.folder / "target/stamp/console", (1, 1))
+        for path in [*(tree.folder / "crates").rglob("*"), tree.folder / "crates.txt"]:
+            os.utime(path, (0, 0))
+        equal(tree.run()[0], 0)
+        equal(tree.calls(), [])
+        os.utime(tree.folder / name, (2, 2))
+        equal(tree.run()[0], 0)
+        equal(tree.calls(), ["check laws", "check console"])
+        equal(tree.run()[0], 0)
+        equal(tree.calls(), ["check laws", "check console"])
+        (tree.folder / "calls").unlink()
+
+
+def test_source_that_is_gone_is_noticed(tree):
+    tree.built()
+    os.utime(tree.folder / "target/stamp/console", (1, 1))
+    for path in [*(tree.folder / "crates").rglob("*"), tree.folder / "crates.txt"]:
+        os.utime(path, (0, 0))
+    (tree.folder / "crates/laws/src/file").unlink()
+    equal(tree.run()[0], 0)
+    equal(tree.calls(), ["check laws", "check console"])
+
+
+def test_other_crates_are_no_matter(tree):
+    tree.built()
+    tree.touch("crates/other/src/file")
+    equal(tree.run()[0], 0)
+    equal(tree.calls(), [])
+
+
+def test_source_changed_while_it_is_built_is_newer_after(tree):
+    started = tree.start(more={"PROVING": "1"})
+    wait_for(tree.calls)
+    (tree.folder / "crates/laws/src/file").write_text("y")
+    started.communicate(timeout=60)
+    equal(len(tree.calls()), 2)
+    equal(tree.run()[0], 0)
+    equal(len(tree.calls()), 4)
+
+
+def test_two_starts_build_once(tree):
+    first = tree.start(more={"PROVING": "0.5"})
+    wait_for(tree.calls)
+    second = tree.start(more={"PROVING": "0.5"})
+    out, err = second.communicate(timeout=60)
+    equal((second.returncode, out), (0, "\n"))
+    equal([line[:6] for line in err.splitlines()], ["note: "])
+    holds(err, "waiting")
+    equal(first.wait(), 0)
+    equal(tree.calls(), ["check laws", "check console"])
+    first.communicate()
+
+
+def test_unproved_crate_is_told_in_full(tree):
+    status, out, err = tree.run(more={"UNPROVED": "laws"})
+    equal((status, out), (1, ""))
+    equal(tree.calls(), ["check laws"])
+    holds(err, "a fact can't be shown\nrt: laws NOT PROVED")
+    holds(err, "\nrelay: ")
+
+
+def test_without_rt_it_says_so_first(tree):
+    tools = tree.folder / "few"
+    tools.mkdir()
+    for name in ["bash", "env", "dirname", "readlink", "awk", "find", "cat", "grep", "mkdir", "touch", "flock", "setsid"]:
+        (tools / name).symlink_to(shutil.which(name))
+    before = tree.seen()
+    status, out, err = tree.run(more={"PATH": str(tools)})
+    equal((status, out), (127, ""))
+    equal(err.splitlines()[0][:20], "relay: rt is missing")
+    holds(err, "README.md")
+    equal(tree.seen(), before)
+    tree.built()
+    equal(tree.run(more={"PATH": str(tools)}), (0, "\n", ""))
+
+
+def test_unwritable_tree_is_told(tree):
+    if os.getuid() != 0:
+        return
+    status, out, err = tree.run(user=65534, group=65534, extra_groups=[])
+    equal((status, out, tree.calls()), (1, "", []))
+    holds(err, "relay: ")
+
+
+def test_signals_end_the_provers(tree):
+    for sent, group in [(signal.SIGTERM, False), (signal.SIGHUP, False), (signal.SIGINT, False), (signal.SIGINT, True)]:
+        started = tree.start(more={"PROVING": "60"}, start_new_session=True, preexec_fn=restored)
+        wait_for(lambda: (tree.folder / "provers").exists() and len((tree.folder / "provers").read_text().split()) == 2)
+        if group:
+            os.killpg(started.pid, sent)
+        else:
+            started.send_signal(sent)
+        started.communicate(timeout=20)
+        equal(started.returncode, -sent)
+        for number in (tree.folder / "provers").read_text().split():
+            wait_for(lambda: not is_running(number))
+        (tree.folder / "provers").unlink()
+        (tree.folder / "busy").rmdir()
+    # the next start isn't kept waiting
+    equal(tree.run()[0], 0)
+
+
+# ---- how it is used, how it ends
+
+
+def test_help_and_version(tree):
+    tree.built()
+    for word in ["-h", "--help"]:
+        status, out, err = tree.run(word)
+        equal((status, out[:13], err), (0, "usage: relay ", ""))
+    for word in ["-V", "--version"]:
+        equal(tree.run(word), (0, "relay 1.2.3\n", ""))
+
+
+def test_wrong_usage_makes_nothing(tree):
+    tree.built()
+    before = tree.seen()
+    for words in [["-x"], ["--"], ["-"], ["--helpful"], ["a", "b"], ["a", "-h"]]:
+        status, out, err = tree.run(*words)
+        equal((status, out), (2, ""))
+        equal(err[:7], "relay: ")
+    equal(tree.seen(), before)
+
+
+def test_status_is_what_was_said(tree):
+    tree.built()
+    equal(tree.run(more={"SAYS": "relay: it broke"}), (1, "\n", "relay: it broke\n"))
+    equal(tree.run(more={"SAYS": "note: all is well"}), (0, "\n", "note: all is well\n"))
+    equal(tree.run(more={"SAYS": "so to say relay: no"}), (0, "\n", "so to say relay: no\n"))
+
+
+def test_ended_program_passes_its_status(tree):
+    tree.built("#!/bin/sh\nkill -s SEGV $$\n")
+    equal(tree.run()[0], 128 + signal.SIGSEGV)
+
+
+def test_signals_are_passed_on(tree):
+    tree.built(WAITS)
+    for sent, said in [(signal.SIGTERM, "TERM"), (signal.SIGHUP, "HUP"), (signal.SIGINT, "TERM")]:
+        started = tree.start(preexec_fn=restored)
+        equal(started.stdout.readline(), "started\n")
+        started.send_signal(sent)
+        out, err = started.communicate(timeout=20)
+        equal((started.returncode, out, err), (-sent, f"ended by {said}\n", ""))
+
+
+def test_control_c_at_a_terminal(tree):
+    tree.built(WAITS)
+    child, terminal = pty.fork()
+    if child == 0:
+        os.execve(tree.folder / "bin" / "relay", ["relay"], tree.environment())
+    wait_for(lambda: b"started" in os.read(terminal, 100))
+    os.write(terminal, b"\x03")
+    _, status = os.waitpid(child, 0)
+    equal(os.WIFSIGNALED(status) and os.WTERMSIG(status), signal.SIGINT)
+    os.close(terminal)
+
+
+def restored():
+    signal.signal(signal.SIGINT, signal.default_int_handler)
+    signal.signal(signal.SIGINT, signal.SIG_DFL)
+
+
+def main():
+    wanted = sys.argv[1:]
+    passed = failed = 0
+    for name, test in list(globals().items()):
+        if not name.startswith("test_") or (wanted and name not in wanted):
+            continue
+        folder = pathlib.Path(tempfile.mkdtemp())
+        try:
+            test(Tree(folder))
+            passed += 1
+        except (AssertionError, OSError, subprocess.TimeoutExpired) as error:
+            print(f"examples/start.py: {name}: {error}")
+            failed += 1
+        finally:
+            shutil.rmtree(folder)
+    print(f"{passed} passed, {failed} failed")
+    return failed != 0
+
+
+if __name__ == "__main__":
+    sys.exit(main())
