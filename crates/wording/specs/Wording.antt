@@ -1,0 +1,100 @@
+-- The words of refusals: document 01's table, shortened.
+use Prim.Native.Nat.{ℕ}
+use Prim.Native.Char.{code}
+use Prim.Native.String.{String, [] as nothing, _∷_ as _then_}
+use mathlib.Core.Bool.{cond}
+use mathlib.Core.List.{List, [], _∷_}
+use lib.ListN.{length}
+use lib.Dec.{eqb}
+use Rattle.laws.specs.Lists.{padded}
+use Rattle.refusal.specs.Numbers.{
+    notWellFormed,
+    outputTooShort,
+    badLink,
+    lineTooLong,
+    noLineEnd,
+    forbiddenByte,
+    emptyLine,
+    emptyPrefix,
+    badCommand,
+    tooManyParams,
+    unknownCommand,
+    wrongParamCount,
+    badSource,
+    badTime,
+    zeroTime,
+    badName,
+    badModes,
+    badMembers,
+    noSuchChannel,
+    notOnChannel,
+    noFreeSlot,
+    tooManyMembers,
+    textTooLong,
+    unwritable,
+    noRoom
+}
+use Rattle.wording.specs.declared.Text.{Text}
+
+-- the bytes of a text of ASCII characters: their codes
+unfoldable pub bytesOf : String → List ℕ
+bytesOf nothing = []
+bytesOf (c then s) = code c ∷ bytesOf s
+
+-- a number and its words
+pub record Entry : Type 0 where
+  pub number : ℕ
+  pub words : String
+
+infix 68 _says_
+abbrev pub _says_ : ℕ → String → Entry
+n says w = record { number = n; words = w }
+
+unfoldable pub table : List Entry
+table =
+    notWellFormed says "table or record not well formed"
+    ∷ outputTooShort says "output under 512 bytes"
+    ∷ badLink says "link above 31, or not registered"
+    ∷ lineTooLong says "line over 512 bytes"
+    ∷ noLineEnd says "no CR LF at the end"
+    ∷ forbiddenByte says "NUL, CR or LF before the end"
+    ∷ emptyLine says "only CR LF"
+    ∷ emptyPrefix says "prefix empty"
+    ∷ badCommand says "command malformed or missing"
+    ∷ tooManyParams says "a sixteenth parameter"
+    ∷ unknownCommand says "command not SJOIN, PART or QUIT"
+    ∷ wrongParamCount says "too few or too many parameters"
+    ∷ badSource says "prefix missing or no id of its kind"
+    ∷ badTime says "time malformed or too large"
+    ∷ zeroTime says "time is 0"
+    ∷ badName says "bad channel name, or names differ"
+    ∷ badModes says "bad modes, key, limit, or their number"
+    ∷ badMembers says "bad member list"
+    ∷ noSuchChannel says "channel not in the table"
+    ∷ notOnChannel says "user not in it"
+    ∷ noFreeSlot says "all 16 slots used"
+    ∷ tooManyMembers says "more than 64 members would result"
+    ∷ textTooLong says "mask or text over 512 bytes"
+    ∷ unwritable says "message would not read back"
+    ∷ noRoom says "no room for what is written"
+    ∷ []
+
+-- the words of a number in a table, none where it isn't there
+unfoldable pub wordsIn : List Entry → ℕ → List ℕ
+wordsIn [] n = []
+wordsIn (e ∷ es) n = cond (eqb (e .number) n) (bytesOf (e .words)) (wordsIn es n)
+
+abbrev pub wordsOf : ℕ → List ℕ
+wordsOf n = wordsIn table n
+
+-- ---- as the struct
+-- the most bytes of a text
+abbrev pub textLimit : ℕ
+textLimit = 48
+
+-- some words at the front of the room, the rest zero
+abbrev pub holding : List ℕ → Text
+holding words = record { bytes = padded textLimit 0 words; len = length words }
+
+abbrev pub textOf : ℕ → Text
+textOf n = holding (wordsOf n)
