@@ -5,9 +5,9 @@ use mathlib.Core.Bool.{Bool, true, false, cond}
 use mathlib.Core.List.{List, [], _∷_, _++_, map}
 use native.Mathlib.Numerals.{add-one}
 use native.Mathlib.Omega.{arith}
-use lib.ListN.{length, drop, length-append, length-drop, length-take}
+use lib.ListN.{length, take, drop, length-append, length-drop, length-take}
 use lib.Seq.{take-append-seam}
-use borrow.Author.Tests.{eqb-false, ltb-true}
+use borrow.Author.Tests.{ne-eqb, eqb-false, ltb-true}
 use Rattle.refusal.specs.Rules.{emitted}
 use Rattle.refusal.proofs.Rules.{emitted-all}
 use Rattle.octets.specs.Bytes.{lf, space, comma}
@@ -24,7 +24,10 @@ use Rattle.message.specs.Grammar.{lineLimit}
 use Rattle.journal.specs.declared.Logged.{Logged}
 use Rattle.journal.specs.Journal.{recordOf, logRules, answerFor}
 use Rattle.journal.proofs.Records.{accepts}
-use Rattle.console.specs.Answers.{numberedText, noLink, linksText, relayedText}
+use Rattle.wording.specs.declared.Text.{Text}
+use Rattle.wording.specs.Wording.{wordsOf, textLimit, textOf}
+use Rattle.wording.proofs.Fitting.{words-few, words-back}
+use Rattle.console.specs.Answers.{spaced, numberedText, noLink, linksText, relayedText}
 use Rattle.console.specs.Stands.{answerRoom, recordRoom, Stands}
 
 -- ---- what stands at the front
@@ -37,14 +40,46 @@ stands empty out n w adds fits =
 pub stands-front : (out next : List ℕ) (n : ℕ) (w : List ℕ) → n ≡ length w → next ≡ front w out → Stands next n w
 stands-front out next n w e f = record { counts = e; begins = rw (e, f) (take-append-seam w (drop (length w) out)) }
 
--- the front of a line's room is no longer than a line
-pub front-few : (s p : List ℕ) (n : ℕ) → p ≡ part s 0 n → length s ≤ lineLimit → length p ≤ lineLimit
+-- the front of some room is no longer than the room
+pub front-few : {m : ℕ} (s p : List ℕ) (n : ℕ) → p ≡ part s 0 n → length s ≤ m → length p ≤ m
 front-few s p n e h = omega (arith, ap (λ (l : List ℕ). length l) (e ∙ part-front s n), length-take n s)
 
--- ---- a number
-pub numbered-few : (mark n : ℕ) → n < 2 ^ 32 → length (numberedText mark n) ≤ answerRoom
+-- ---- a number, and its words
+module _ (n : ℕ) (t : Text) (is : t ≡ textOf n) where
+  size : t .len ≡ length (wordsOf n)
+  size = ap (λ (x : Text). x .len) is
+
+  pub spaced-none : t .len ≡ 0 → spaced (wordsOf n) ≡ []
+  unfolding spaced
+  spaced-none e = let none : length (wordsOf n) ≡ 0 = sym size ∙ e in rw (nil-length (wordsOf n), none)
+
+  pub spaced-some : (t .len ≡ 0 → ⊥) → (p : List ℕ) → p ≡ part (t .bytes) 0 (t .len) → spaced (wordsOf n) ≡ (space ∷ []) ++ p
+  unfolding spaced
+  spaced-some ne p e =
+      let words : p ≡ wordsOf n = e ∙ part-front (t .bytes) (t .len) ∙ ap (λ (x : Text). take (x .len) (x .bytes)) is ∙ words-back n in
+      rw (nil-length (wordsOf n), ne-eqb (length (wordsOf n)) 0 (λ z. ne (size ∙ z)), words)
+
+worded-few : (n : ℕ) (worded : Bool) → length (cond worded (spaced (wordsOf n)) []) ≤ suc textLimit
+unfolding spaced
+worded-few n false = omega arith
+worded-few n true = go (isNil (wordsOf n))
+  where
+    go : (t : Bool) → length (cond t [] (space ∷ wordsOf n)) ≤ suc textLimit
+    go true = omega arith
+    go false = omega (arith, words-few n)
+
+pub numbered-few : (mark n : ℕ) (worded : Bool) → n < 2 ^ 32 → length (numberedText mark n worded) ≤ answerRoom
 unfolding numberedText
-numbered-few mark n h = omega (arith, length-append ((mark ∷ space ∷ []) ++ digitsOf n) (lf ∷ []), length-append (mark ∷ space ∷ []) (digitsOf n), digits-ten n h)
+numbered-few mark n worded h =
+    let words = cond worded (spaced (wordsOf n)) [] in
+    omega (
+      arith,
+      length-append ((mark ∷ space ∷ []) ++ digitsOf n ++ words) (lf ∷ []),
+      length-append ((mark ∷ space ∷ []) ++ digitsOf n) words,
+      length-append (mark ∷ space ∷ []) (digitsOf n),
+      digits-ten n h,
+      worded-few n worded,
+    )
 
 -- ---- links, one by one
 -- those from a place on, a comma before each

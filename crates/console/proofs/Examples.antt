@@ -1,17 +1,21 @@
 -- Requests and answers as computed from their definitions, and an instance that meets the premise of `kept-line`. Assumes nothing.
 use Prim.Native.Nat.{ℕ}
 use mathlib.Core.Path.{_≡_, refl}
+use mathlib.Core.Bool.{true, false}
 use mathlib.Core.List.{List as ListOf, [], _∷_, map}
 use Rattle.octets.specs.Bytes.{cr, lf, space, isDigit, within}
+use Rattle.octets.specs.Order.{compare}
 use Rattle.laws.specs.Bits.{hasBit}
 use Rattle.laws.specs.Lists.{all, startsWith, prefixed, separated}
 use Rattle.octets.specs.Decimals.{leadsWithZero, isDecimal, valueFrom, valueUpTo, decimalUpTo, digitsUpTo, digitsOf}
 use Rattle.links.specs.Links.{linksFrom}
 use Rattle.message.specs.Grammar.{word}
-use Rattle.console.specs.declared.requests.Request.the-variants.{Register, Unregister, Take, List, Unknown}
+use Rattle.wording.specs.Wording.{bytesOf, table, wordsIn}
+use Rattle.console.specs.declared.requests.Request.the-variants.{Register, Unregister, Take, List, Unknown, Help, Nothing}
 use Rattle.console.specs.Lines.{kept, firstLine}
 use Rattle.console.specs.Requests.{plus, minus, question, ended, takingIn, requestIn, lineFrom}
-use Rattle.console.specs.Answers.{numberedText, linksText, relayedText}
+use Rattle.console.specs.Answers.{spaced, numberedText, linksText, relayedText}
+use Rattle.console.specs.Typing.{typed, typedIn}
 use Rattle.console.proofs.Keeping.{kept-line}
 
 -- ---- requests
@@ -52,10 +56,28 @@ unfolding firstLine
 first = refl
 
 -- ---- answers
--- `! 20`
-numbered : numberedText 33 20 ≡ 33 ∷ space ∷ 50 ∷ 48 ∷ lf ∷ []
+-- `! 20`; typed, `! 15 time is 0` and `= 0`
+numbered : numberedText 33 20 false ≡ 33 ∷ space ∷ 50 ∷ 48 ∷ lf ∷ []
 unfolding numberedText digitsOf digitsUpTo
 numbered = refl
+
+worded : numberedText 33 15 true ≡ bytesOf "! 15 time is 0\n"
+unfolding numberedText digitsOf digitsUpTo spaced table wordsIn bytesOf
+worded = refl
+
+wordless : numberedText 61 0 true ≡ bytesOf "= 0\n"
+unfolding numberedText digitsOf digitsUpTo spaced table wordsIn bytesOf
+wordless = refl
+
+-- ---- lines that are typed: `help`, an empty line, `?`
+typing : map typedIn (bytesOf "help\n" ∷ bytesOf "\r\n" ∷ bytesOf "?\n" ∷ []) ≡ Help ∷ Nothing ∷ List ∷ []
+unfolding typedIn ended compare requestIn bytesOf
+typing = refl
+
+-- LF alone is taken as CR LF
+ending : map typed (bytesOf "1 X\n" ∷ bytesOf "1 X\r\n" ∷ bytesOf "1 X" ∷ []) ≡ bytesOf "1 X\r\n" ∷ bytesOf "1 X\r\n" ∷ bytesOf "1 X" ∷ []
+unfolding typed ended bytesOf
+ending = refl
 
 -- links 0, 5 and 31
 several : linksText 2147483681 ≡ 48 ∷ 44 ∷ 53 ∷ 44 ∷ 51 ∷ 49 ∷ []

@@ -4,3 +4,4 @@ pub mod Asking
 pub mod Keeping
 pub mod Answering
 pub mod Examples
+pub mod Typing

@@ -1,15 +1,20 @@
 -- What is answered.
 use Prim.Native.Nat.{ℕ}
-use mathlib.Core.Bool.{cond}
+use mathlib.Core.Bool.{Bool, cond}
 use mathlib.Core.List.{List, [], _∷_, _++_, map}
 use Rattle.octets.specs.Bytes.{lf, space, comma}
 use Rattle.laws.specs.Lists.{isNil, separated}
 use Rattle.octets.specs.Decimals.{digitsOf}
 use Rattle.links.specs.Links.{linksIn}
+use Rattle.wording.specs.Wording.{wordsOf}
 
--- a mark, a SPACE and a number: `= 0`, `! 12`
-unfoldable pub numberedText : ℕ → ℕ → List ℕ
-numberedText mark n = (mark ∷ space ∷ []) ++ digitsOf n ++ (lf ∷ [])
+-- a SPACE before some words, if there are any
+unfoldable pub spaced : List ℕ → List ℕ
+spaced words = cond (isNil words) [] (space ∷ words)
+
+-- a mark, a SPACE and a number: `= 0`, `! 12`; with its words, if they are asked for: `! 15 time is 0`
+unfoldable pub numberedText : ℕ → ℕ → Bool → List ℕ
+numberedText mark n worded = (mark ∷ space ∷ []) ++ digitsOf n ++ cond worded (spaced (wordsOf n)) [] ++ (lf ∷ [])
 
 -- '-'
 abbrev pub noLink : List ℕ

@@ -2,3 +2,4 @@ pub mod Lines
 pub mod Requests
 pub mod Answers
 pub mod Stands
+pub mod Typing

@@ -11,7 +11,8 @@ ghost use Rattle.octets.specs.Decimals.{digitsOf};
 ghost use Rattle.octets.specs.Held.{Adds};
 ghost use Rattle.links.specs.Links.{linksIn};
 ghost use Rattle.message.specs.Grammar.{lineLimit};
-ghost use Rattle.console.specs.Answers.{numberedText, linksText, relayedText};
+ghost use Rattle.wording.specs.Wording.{wordsOf};
+ghost use Rattle.console.specs.Answers.{spaced, numberedText, linksText, relayedText};
 ghost use Rattle.console.specs.Stands.{answerRoom, Stands};
 use libc::STDOUT_FILENO;
 use links::Links;
@@ -20,6 +21,7 @@ use links::has_link;
 use octets::decimals::put_decimal;
 use octets::part;
 use octets::put;
+use wording::words;
 
 // Room for any answer, and for any channel of the table.
 pub(crate) const ROOM: usize = 1024;
@@ -28,31 +30,55 @@ pub(crate) fn print(s: &[u8]) -> bool {
     io::write_all(STDOUT_FILENO, s)
 }
 
-// A mark, a SPACE and a number.
-fn put_numbered(mark: u8, number: u8, out: &mut [u8]) -> usize
+// Adds a SPACE and the words of a number, if they are asked for and there are any.
+fn put_words(out: &mut [u8], at: usize, number: u8, worded: bool) -> usize
+    ensures { λ n. ⌜ Adds (now (out .entry)) at (now (out .exit)) n (cond worded (spaced (wordsOf number)) []) ⌝ }
+{
+    if !worded {
+        return at;
+    }
+    let text = words(number);
+    if text.len == 0 {
+        return at;
+    }
+    let bytes = text.bytes;
+    let next = put(out, at, b" ");
+    put(out, next, part(&bytes, 0, text.len))
+}
+
+// A mark, a SPACE and a number, with its words where they are asked for.
+fn put_numbered(mark: u8, number: u8, worded: bool, out: &mut [u8]) -> usize
     requires { ⌜ length (now out) ≡ answerRoom ⌝ }
-    ensures { λ n. ⌜ Stands (now (out .exit)) n (numberedText mark number) ⌝ }
+    ensures { λ n. ⌜ Stands (now (out .exit)) n (numberedText mark number worded) ⌝ }
 {
     let opening = [mark, b' '];
     let opened = put(out, 0, &opening);
     let numbered = put_decimal(out, opened, number as u32);
-    put(out, numbered, b"\n")
+    let told = put_words(out, numbered, number, worded);
+    put(out, told, b"\n")
 }
 
-fn say_numbered(mark: u8, number: u8) -> bool {
+fn say_numbered(mark: u8, number: u8, worded: bool) -> bool {
     let mut text = [0u8; ROOM];
-    let n = put_numbered(mark, number, &mut text);
+    let n = put_numbered(mark, number, worded, &mut text);
     print(part(&text, 0, n))
 }
 
 // The answer to a link registered or dropped.
-pub(crate) fn say_done(number: u8) -> bool {
-    say_numbered(b'=', number)
+pub(crate) fn say_done(number: u8, worded: bool) -> bool {
+    say_numbered(b'=', number, worded)
 }
 
 // The answer to a line that is refused.
-pub(crate) fn say_refused(number: u8) -> bool {
-    say_numbered(b'!', number)
+pub(crate) fn say_refused(number: u8, worded: bool) -> bool {
+    say_numbered(b'!', number, worded)
+}
+
+// The answer to `help`.
+pub(crate) fn say_help() -> bool {
+    print(
+        b"+N        registers link N\n-N        drops link N\nN LINE    takes LINE from link N\n?         prints the table\nhelp      prints this\nCtrl-D    ends the program\n",
+    )
 }
 
 // The answer to what is no request.

@@ -8,10 +8,15 @@ ghost use Rattle.message.specs.Grammar.{lineLimit};
 ghost use Rattle.journal.specs.Journal.{recordOf};
 ghost use Rattle.console.specs.Stands.{recordRoom, Stands};
 use journal::write_record;
+use libc::STDERR_FILENO;
 use octets::part;
+use octets::put;
 
 // Room for the record of any line.
 const ROOM: usize = 517;
+
+// Room for what is said of the file, its name included.
+const SAYING: usize = 4200;
 
 // The file, where there is one. `ready` says that lines can be taken.
 pub(crate) struct Journal {
@@ -37,6 +42,30 @@ fn open_or_make(path: &[u8]) -> i32 {
     os::open_append(path)
 }
 
+// Says why the file can't be opened.
+fn say_unopened(path: &[u8]) {
+    let mut text = [0u8; SAYING];
+    let opened = put(&mut text, 0, b"relay: ");
+    let n = put(&mut text, opened, path);
+    os::fail(part(&text, 0, n));
+}
+
+// Whether the file is open, and apart from standard input, output and error: where one of these is closed, the file has got its number, and what
+// is said there would stand in the day log.
+fn is_own(fd: i32, path: &[u8]) -> bool {
+    if fd < 0 {
+        say_unopened(path);
+        return false;
+    }
+    if fd < STDERR_FILENO {
+        io::write_all(
+            STDERR_FILENO,
+            b"relay: standard input or output is closed\n",
+        );
+    }
+    fd > STDERR_FILENO
+}
+
 // Opens the journal that the first argument names. Without an argument there is none.
 pub(crate) fn open_journal() -> Journal {
     if os::arg_count() < 2 {
@@ -49,7 +78,7 @@ pub(crate) fn open_journal() -> Journal {
     let mut path = io::buffer();
     let n = os::arg(1, &mut path);
     if os::errno() != 0 {
-        os::fail(b"journal");
+        os::fail(b"relay: the day log's name");
         return Journal {
             ready: false,
             used: true,
@@ -57,11 +86,9 @@ pub(crate) fn open_journal() -> Journal {
         };
     }
     let fd = open_or_make(&path[..n]);
-    if fd < 0 {
-        os::fail(&path[..n]);
-    }
+    let ready = is_own(fd, &path[..n]);
     Journal {
-        ready: fd >= 0,
+        ready,
         used: true,
         fd,
     }
@@ -87,7 +114,7 @@ pub(crate) fn keep(journal: Journal, link: u32, line: &[u8]) -> bool
     let n = put_record(link, line, &mut record);
     let kept = io::write_all(journal.fd, part(&record, 0, n));
     if !kept {
-        os::fail(b"journal");
+        os::fail(b"relay: day log");
     }
     kept
 }

@@ -1,6 +1,7 @@
 // The relay on standard input and output, for a person at a terminal, a script, or socat. Input, a line each: `+N` registers link N, `-N` drops it, `N `
 // and the bytes up to and including LF are a line from link N, and `?` asks for the table. Each gets its answer before the next one is looked at.
-// With an argument, the day-log record of each accepted line is appended to the file of that name before the line is answered.
+// With an argument, the day-log record of each accepted line is appended to the file of that name before the line is answered. What makes the program stop
+// is said on standard error in a line that begins with 'relay: ', by which bin/relay knows, since a program of this language has no exit status.
 mod answers;
 mod daylog;
 mod lines;
@@ -8,12 +9,14 @@ mod listing;
 mod requests;
 
 use answers::say_done;
+use answers::say_help;
 use answers::say_input;
 use answers::say_refused;
 use answers::say_relayed;
 use daylog::Journal;
 use daylog::keep;
 use daylog::open_journal;
+use libc::STDERR_FILENO;
 use libc::STDIN_FILENO;
 use lines::Pending;
 use lines::ends_line;
@@ -26,23 +29,29 @@ use refusal::ACCEPTED;
 use relay::process;
 use requests::Request;
 use requests::line_from;
+use requests::put_typed;
 use requests::request_in;
+use requests::typed_request;
 use table::Table;
 use table::register;
 use table::unregister;
 
-// What is kept from one read to the next: the table, the line under way, the journal, and whether the program goes on.
+// Room for a line that was typed.
+const TYPED: usize = 525;
+
+// What is kept from one read to the next: the table, the line under way, the journal, whether the input is typed, and whether the program goes on.
 struct Session {
     table: Table,
     pending: Pending,
     journal: Journal,
+    typed: bool,
     more: bool,
 }
 
 // Whether an answer was written. Where it wasn't, the program stops: whoever waits for it can't be told.
 fn went(written: bool) -> bool {
     if !written {
-        os::fail(b"standard output");
+        os::fail(b"relay: standard output");
     }
     written
 }
@@ -52,7 +61,7 @@ fn take(mut s: Session, link: u32, line: &[u8]) -> Session {
     let mut out = [0u8; LINE_LIMIT];
     let taken = process(s.table, link, line, &mut out);
     if taken.number != ACCEPTED {
-        s.more = went(say_refused(taken.number));
+        s.more = went(say_refused(taken.number, s.typed));
         return s;
     }
     if !keep(s.journal, link, line) {
@@ -66,26 +75,35 @@ fn take(mut s: Session, link: u32, line: &[u8]) -> Session {
 }
 
 // Answers an input line: a whole one, or the last one, which is taken as it is.
-fn respond(mut s: Session, input: &[u8]) -> Session {
-    let request = request_in(input);
+fn respond(mut s: Session, request: Request, input: &[u8]) -> Session {
     match request {
         Request::Register(link) => {
             let r = register(s.table, link);
             let table = r.table;
             s.table = table;
-            s.more = went(say_done(r.number));
+            s.more = went(say_done(r.number, s.typed));
         }
         Request::Unregister(link) => {
             let r = unregister(s.table, link);
             let table = r.table;
             s.table = table;
-            s.more = went(say_done(r.number));
+            s.more = went(say_done(r.number, s.typed));
         }
         Request::Take(link, start) => return take(s, link, line_from(input, start)),
         Request::List => s.more = went(say_channels(s.table)),
         Request::Unknown => s.more = went(say_input()),
+        Request::Help => s.more = went(say_help()),
+        Request::Nothing => return s,
     }
     s
+}
+
+// Answers a line that was typed, whose CR may be missing.
+fn respond_typed(s: Session, line: Pending) -> Session {
+    let mut text = [0u8; TYPED];
+    let n = put_typed(line, &mut text);
+    let taken = part(&text, 0, n);
+    respond(s, typed_request(taken), taken)
 }
 
 // The line under way is at its end: it is answered, and the next one begins.
@@ -94,7 +112,11 @@ fn finish(mut s: Session) -> Session {
     let bytes = line.bytes;
     let none = Pending::empty();
     s.pending = none;
-    respond(s, part(&bytes, 0, line.len))
+    if s.typed {
+        return respond_typed(s, line);
+    }
+    let input = part(&bytes, 0, line.len);
+    respond(s, request_in(input), input)
 }
 
 // Bytes of the line under way, up to its LF or the end of what was read.
@@ -135,7 +157,7 @@ fn step(mut s: Session) -> Session {
     let mut piece = [0u8; 4096];
     let got = libc::read(STDIN_FILENO, &mut piece);
     if got < 0 {
-        os::fail(b"standard input");
+        os::fail(b"relay: standard input");
         s.more = false;
         return s;
     }
@@ -146,13 +168,24 @@ fn step(mut s: Session) -> Session {
     take_piece(s, &piece[..n])
 }
 
+// Whether the input is typed, at a terminal. If so, whoever types is told how to begin.
+fn is_typed() -> bool {
+    if libc::isatty(STDIN_FILENO) != 1 {
+        return false;
+    }
+    io::write_all(STDERR_FILENO, b"note: help prints the requests\n");
+    true
+}
+
 // The turns are counted since nothing else says that the loop ends: the input could go on forever.
 fn main() {
     let journal = open_journal();
+    let typed = is_typed();
     let mut s = Session {
         table: Table::empty(),
         pending: Pending::empty(),
         journal,
+        typed,
         more: journal.ready,
     };
     let mut turns = u64::MAX;

@@ -1,13 +1,22 @@
 // What an input line asks for.
 ghost use mathlib.Core.Path.{_≡_};
 ghost use mathlib.Core.Bool.{cond};
+ghost use lib.ListN.{length};
 ghost use Rattle.laws.specs.Lists.{isNil};
 ghost use Rattle.console.specs.declared.requests.Request.the-variants.{Register, Unregister, List, Unknown};
 ghost use Rattle.console.specs.Requests.{ended as endedOf, linkIn, numbered, takingIn, requestIn, lineFrom};
+ghost use Rattle.console.specs.Typing.{typed, typedIn};
+ghost use Rattle.console.specs.Lines.{heldIn};
+ghost use Rattle.console.specs.Stands.{typedRoom, Stands};
+use crate::lines::Pending;
+use crate::lines::ends_line;
 use message::next_word;
 use octets::Decimal;
+use octets::Order;
+use octets::compare;
 use octets::decimals::decimal;
 use octets::part;
+use octets::put;
 
 // The largest number that nine digits write.
 const LINK_LIMIT: u32 = 999999999;
@@ -15,13 +24,16 @@ const LINK_LIMIT: u32 = 999999999;
 // The most bytes that are taken of a link's line: one more than the relay takes.
 const TAKEN: usize = 513;
 
-// What is asked, and of which link. The line that came from a link stands in the input line, from a place on.
+// What is asked, and of which link. The line that came from a link stands in the input line, from a place on. Only a line that was typed asks for help, or
+// for nothing.
 pub(crate) enum Request {
     Register(u32),
     Unregister(u32),
     Take(u32, usize),
     List,
     Unknown,
+    Help,
+    Nothing,
 }
 
 // The bytes before LF, or before CR LF; all of them where there is no LF at the end.
@@ -115,4 +127,33 @@ pub(crate) fn line_from(input: &[u8], start: usize) -> &[u8]
     ensures { λ r. ⌜ now r ≡ lineFrom start (now (input .entry)) ⌝ }
 {
     part(part(input, start, input.len()), 0, TAKEN)
+}
+
+// A line as it is taken that was typed: with CR LF, where it ends with LF.
+pub(crate) fn put_typed(line: Pending, out: &mut [u8]) -> usize
+    requires { ⌜ length (now out) ≡ typedRoom ⌝ }
+    ensures { λ n. ⌜ Stands (now (out .exit)) n (typed (heldIn line)) ⌝ }
+{
+    let bytes = line.bytes;
+    let input = part(&bytes, 0, line.len);
+    if !ends_line(input) {
+        return put(out, 0, input);
+    }
+    let n = put(out, 0, ended(input));
+    put(out, n, b"\r\n")
+}
+
+// What a line asks for that was typed.
+pub(crate) fn typed_request(input: &[u8]) -> Request
+    ensures { λ r. ⌜ r ≡ typedIn (now (input .entry)) ⌝ }
+{
+    let text = ended(input);
+    if text.len() == 0 {
+        return Request::Nothing;
+    }
+    match compare(text, b"help") {
+        Order::Same => Request::Help,
+        Order::Less => request_in(input),
+        Order::More => request_in(input),
+    }
 }

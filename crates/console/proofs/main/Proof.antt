@@ -4,13 +4,16 @@ use Rattle.console.proofs.main.Statement.{statement}
 use Rattle.console.proofs.main.Tie as tie
 
 abbrev Inv-loop : tie.InvT-loop
-Inv-loop s₀ turns₀ s turns = Unit {0}
+Inv-loop typed s₀ turns₀ s turns = Unit {0}
 
 abbrev μ-loop : tie.MeasureT-loop
-μ-loop s₀ turns₀ s turns = turns
+μ-loop typed s₀ turns₀ s turns = turns
 
 open-journal-requires : tie.Need-open-journal-requires Inv-loop μ-loop
 open-journal-requires c κs = search needs
+
+is-typed-requires : tie.Need-is-typed-requires Inv-loop μ-loop
+is-typed-requires c κs = search needs
 
 empty-requires : tie.Need-empty-requires Inv-loop μ-loop
 empty-requires c κs = search needs
@@ -46,6 +49,7 @@ main-spec =
     Inv-loop
     μ-loop
     open-journal-requires
+    is-typed-requires
     empty-requires
     empty-requires-2
     loop-holds

@@ -18,6 +18,9 @@ put-requires c κs = search needs
 put-decimal-requires : tie.Need-put-decimal-requires
 put-decimal-requires c κs = search needs
 
+put-words-requires : tie.Need-put-words-requires
+put-words-requires c κs = search needs
+
 slice-aggregate-put-2 : tie.Need-slice-aggregate-put-2
 slice-aggregate-put-2 c = search needs
 
@@ -31,14 +34,17 @@ returns : tie.Need-returns
 unfolding numberedText
 returns c =
     let ended = c .before .before in
-    let digits = ended .before .before .before .before .before in
+    let words = ended .before .before .before .before .before in
+    let digits = words .before .before .before .before in
     let opened = digits .before .before .before .before in
     let a = opened .before .before .before .before .args in
     stands _ _ _ _
     (adds-then _ _ _ _ _ _ _ (lf ∷ [])
+    (adds-then _ _ _ _ _ _ _ _
     (adds-then _ _ _ _ _ _ (a .mark ∷ space ∷ []) _ (added _ _ _ _ _ (opened .put .ensures .0) (opened .put .ensures .1)) (added _ _ _ _ _ (digits .put-decimal .ensures .0) (digits .put-decimal .ensures .1)))
+    (words .put-words .ensures))
     (added _ _ _ _ _ (ended .put2 .ensures .0) (ended .put2 .ensures .1)))
-    (omega (arith, numbered-few (a .mark) (a .number) (omega arith)))
+    (omega (arith, numbered-few (a .mark) (a .number) (a .worded) (omega arith)))
 
 pub put-numbered-spec : {M : Type 1} → statement M
 put-numbered-spec =
@@ -47,6 +53,7 @@ put-numbered-spec =
     slice-aggregate-put
     put-requires
     put-decimal-requires
+    put-words-requires
     slice-aggregate-put-2
     put-requires-2
     same-length
