@@ -19,6 +19,13 @@ static void print(relay_bytes bytes)
     fwrite(bytes.ptr, 1, bytes.len, stdout);
 }
 
+/* Prints the words of a refusal's number. */
+static void print_words(uint8_t number)
+{
+    relay_text words = relay_refusal_text(number);
+    print(relay_bytes_of(words.bytes, words.len));
+}
+
 /* Prints the links of a set, a comma between them. */
 static void print_links(uint32_t set)
 {
@@ -36,7 +43,9 @@ static void take(relay_table *table, uint32_t link, const char *line)
     uint8_t out[RELAY_LINE];
     relay_answer answer = relay_table_take(table, link, text(line), relay_room_of(out, sizeof out));
     if (answer.number != RELAY_ACCEPTED) {
-        printf("refused by %d: %s", answer.number, line);
+        printf("refused by %d, ", answer.number);
+        print_words(answer.number);
+        printf(": %s", line);
         return;
     }
     printf("to %" PRIu32 " links, ", answer.count);
@@ -84,6 +93,20 @@ static relay_table morning(void)
     take(&table, 3, ":1ABAAAAAB QUIT\r\n");
     print_channels(&table);
     return table;
+}
+
+/* A channel found by its name, and told as a text; and where there is none, or no room. */
+static void describe(const relay_table *table)
+{
+    uint8_t out[RELAY_DESCRIPTION];
+    relay_found found = relay_find(*table, text("#RACE"));
+    relay_written written = relay_describe(table->slots[found.slot], relay_room_of(out, sizeof out));
+    printf("#RACE is in slot %zu: ", found.slot);
+    print(relay_bytes_of(out, written.len));
+    printf("\n#finish is there: %d, refused by %d\n", relay_table_find(table, text("#finish")) != NULL, relay_find(*table, text("#finish")).number);
+    printf("an empty slot: %d, ", relay_describe(table->slots[1], relay_room_of(out, sizeof out)).number);
+    print_words(RELAY_NOT_WELL_FORMED);
+    printf("\na byte too little: %d\n", relay_describe(table->slots[found.slot], relay_room_of(out, written.len - 1)).number);
 }
 
 /* Two relays that were apart: what one of them knows of the channel is merged into what the other knows. */
@@ -150,7 +173,9 @@ int main(void)
         fprintf(stderr, "relay.h and libcapi.a are of different versions\n");
         return 1;
     }
+    printf("version %s\n", RELAY_VERSION);
     relay_table table = morning();
+    describe(&table);
     merge(&table);
     parts();
     names_masks_keys();

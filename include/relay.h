@@ -7,8 +7,8 @@
  * What it is. The relay holds one table: sixteen channels and the registered links, numbered 0 to 31. You hand it each line that comes
  * in by a link; it folds the line into the table and answers the line to send on, and to which links. It reads and writes no socket and
  * no file, has no heap, no globals and no threads: every answer depends on the arguments alone, so calls may run side by side as long
- * as nothing that one of them writes is read or written by another. Allow 128 KB of stack for a call; the benchmark in rust/ prints how
- * much each takes.
+ * as nothing that one of them writes is read or written by another. Allow RELAY_STACK bytes of stack, 128 KB, for a call of any function
+ * here, its arguments and its answer included; the benchmark in rust/ prints how much each takes.
  *
  *     relay_table table = relay_empty_table();
  *     uint8_t out[RELAY_LINE];
@@ -44,6 +44,12 @@
 extern "C" {
 #endif
 
+/* The version of the whole project, as the file VERSION has it. */
+#define RELAY_VERSION "0.1.0"
+
+/* The bytes of stack that are enough for a call. */
+#define RELAY_STACK 131072
+
 /* ---- limits ---- */
 
 enum {
@@ -56,7 +62,9 @@ enum {
     RELAY_MEMBERS = 64,  /* the most members of a channel */
     RELAY_SLOTS = 16,    /* the channels of a table */
     RELAY_LINKS = 32,    /* links are numbered from 0 to one below this */
-    RELAY_LOG_HEAD = 5   /* a day-log record is this much longer than its line */
+    RELAY_LOG_HEAD = 5,  /* a day-log record is this much longer than its line */
+    RELAY_DESCRIPTION = 869,  /* the most bytes of a record's text: room for them is always enough */
+    RELAY_REFUSAL_TEXT = 48   /* the most bytes of a refusal's words */
 };
 
 /* ---- the numbers of refusals ---- */
@@ -87,8 +95,17 @@ enum {
     RELAY_TOO_MANY_MEMBERS = 22,   /* more than 64 members would result */
     RELAY_TEXT_TOO_LONG = 23,      /* mask or text over 512 bytes */
     RELAY_UNWRITABLE = 24,         /* message that would not read back as it was, or with parts outside the lent bytes */
-    RELAY_NO_ROOM = 25             /* written line over 512 bytes; log buffer shorter than the line and 5 */
+    RELAY_NO_ROOM = 25             /* written line over 512 bytes; log buffer shorter than the line and 5; output shorter than a record's text */
 };
+
+/* Words for people, the rest of the room zero. */
+typedef struct relay_text {
+    uint8_t bytes[RELAY_REFUSAL_TEXT];
+    size_t len;
+} relay_text;
+
+/* The words of a number of the list above, as "user not in it" of 20; no words of 0 and of any other number. */
+relay_text relay_refusal_text(uint8_t number);
 
 /* ---- lent bytes ---- */
 
@@ -218,6 +235,12 @@ typedef struct relay_merged {
  */
 relay_merged relay_merge(relay_record first, relay_record second);
 
+/*
+ * Writes a record as a text to the front of `out`: time, name, modes, key and limit where there are any, and members, one SPACE between
+ * them, as they stand in an SJOIN; no ':' and no CR LF. RELAY_DESCRIPTION bytes are always room enough. Numbers 1, 25.
+ */
+relay_written relay_describe(relay_record record, relay_room out);
+
 /* ---- the table ---- */
 
 /* The registered links, link n as the bit n. */
@@ -249,12 +272,24 @@ typedef struct relay_taken {
     uint8_t number;
 } relay_taken;
 
+/* The slot that holds a channel; 0 where it is refused. */
+typedef struct relay_found {
+    uint8_t number;
+    size_t slot;
+} relay_found;
+
 /* Every slot free, no link registered. */
 relay_table relay_empty_table(void);
 
 /* Registers or drops a link; the channels stay, and doing so twice changes nothing more. Numbers 1, 3. */
 relay_registered relay_register(relay_table table, uint32_t link);
 relay_registered relay_unregister(relay_table table, uint32_t link);
+
+/*
+ * The slot that holds the channel of a name, without regard to case. Any bytes are a name here and any table will do; where two slots
+ * hold the name, which no well-formed table has, the lower one. Number 19.
+ */
+relay_found relay_find(relay_table table, relay_bytes name);
 
 /*
  * Takes a line that came in by a link:
@@ -389,6 +424,13 @@ static inline relay_answer relay_table_take(relay_table *table, uint32_t link, r
     return answer;
 }
 
+/* The channel of a name, in the table; NULL where it isn't there. */
+static inline const relay_record *relay_table_find(const relay_table *table, relay_bytes name)
+{
+    relay_found found = relay_find(*table, name);
+    return found.number == RELAY_ACCEPTED ? &table->slots[found.slot] : NULL;
+}
+
 /* As `relay_merge`, into the first record; answers the number. */
 static inline uint8_t relay_record_merge(relay_record *first, const relay_record *second)
 {
@@ -426,7 +468,9 @@ static inline bool relay_layout_matches(void)
         RELAY_FIELD(relay_registered, table), RELAY_FIELD(relay_registered, number), sizeof(relay_registered),
         RELAY_FIELD(relay_taken, table), RELAY_FIELD(relay_taken, len), RELAY_FIELD(relay_taken, set),
         RELAY_FIELD(relay_taken, count), RELAY_FIELD(relay_taken, number), sizeof(relay_taken),
-        RELAY_FIELD(relay_logged, number), RELAY_FIELD(relay_logged, size), sizeof(relay_logged)
+        RELAY_FIELD(relay_logged, number), RELAY_FIELD(relay_logged, size), sizeof(relay_logged),
+        RELAY_FIELD(relay_found, number), RELAY_FIELD(relay_found, slot), sizeof(relay_found),
+        RELAY_FIELD(relay_text, bytes), RELAY_FIELD(relay_text, len), sizeof(relay_text)
     };
     const size_t count = sizeof numbers / sizeof numbers[0];
     size_t k;

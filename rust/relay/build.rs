@@ -13,7 +13,13 @@ const PREFIX: &str = "earlier_";
 fn main() {
     let folder = variable("RELAY_LIB_DIR").map_or_else(default_folder, PathBuf::from);
     let library = folder.join("libcapi.a");
-    assert!(library.exists(), "{} isn't there: run `rt staticlib capi`", library.display());
+    if !library.exists() {
+        let missing = library.display();
+        println!(
+            "cargo::error={missing} isn't there: `rt staticlib capi`, in the repository, makes it."
+        );
+        return;
+    }
     let prefix = match variable("RELAY_EARLIER_LIB") {
         None => {
             link(&library, &folder, "capi");

@@ -6,6 +6,7 @@ use lib.ListN.{length}
 use Rattle.names.specs.Names.{nameLimit, userIdLength}
 use Rattle.message.specs.Grammar.{paramLimit}
 use Rattle.channel.specs.Limits.{memberLimit, keyLimit, slotCount}
+use Rattle.wording.specs.Wording.{textLimit}
 
 -- a type: its size and its alignment in bytes
 pub record Kind : Type 0 where
@@ -87,7 +88,7 @@ links = word ∷ []
 abbrev pub table : List Kind
 table = array slotCount (struct channel) ∷ struct links ∷ []
 
--- a number, then what an answer tells: of LineRead, Written, Logged a count of things or bytes, of Match a yes, of Merged a record
+-- a number, then what an answer tells: of LineRead, Written, Logged a count of things or bytes, of Match a yes, of Merged a record, of ChannelFound a place
 abbrev pub numbered : Kind → List Kind
 numbered k = byte ∷ k ∷ []
 
@@ -98,6 +99,10 @@ registered = struct table ∷ byte ∷ []
 -- Taken: the table, the length of what was written, the links and how many they are, then its number
 abbrev pub taken : List Kind
 taken = struct table ∷ long ∷ word ∷ word ∷ byte ∷ []
+
+-- Text: the room for the words, then their length
+abbrev pub text : List Kind
+text = array textLimit byte ∷ long ∷ []
 
 -- ---- all numbers, and how many they are first
 unfoldable pub numbers : List ℕ
@@ -116,6 +121,8 @@ numbers =
     ++ numbersOf registered
     ++ numbersOf taken
     ++ numbersOf (numbered long)
+    ++ numbersOf (numbered long)
+    ++ numbersOf text
 
 unfoldable pub layout : List ℕ
 layout = length numbers ∷ numbers

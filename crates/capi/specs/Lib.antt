@@ -1,2 +1,4 @@
 pub mod Layout
 pub mod Reading
+pub mod Finding
+pub mod Describing

@@ -5,7 +5,7 @@ ghost use lib.ListN.{getD};
 ghost use Rattle.capi.specs.Layout.{layout};
 
 // How many numbers there are, this one counted.
-const COUNT: usize = 90;
+const COUNT: usize = 100;
 
 // The number k, or 0 past the last: how many there are after it, then of each struct the place and the size of each field, and its own size.
 pub fn number(k: usize) -> usize
@@ -15,7 +15,7 @@ pub fn number(k: usize) -> usize
         return 0;
     }
     let numbers = [
-        89usize,
+        99usize,
         0, // Span.start
         8,
         8, // Span.end
@@ -105,6 +105,16 @@ pub fn number(k: usize) -> usize
         8, // Logged.size
         8,
         16, // Logged
+        0, // ChannelFound.number
+        1,
+        8, // ChannelFound.slot
+        8,
+        16, // ChannelFound
+        0, // Text.bytes
+        48,
+        48, // Text.len
+        8,
+        56, // Text
     ];
     numbers[k]
 }

@@ -1,5 +1,5 @@
 // The relay for programs in C and Rust: what they need of it under C names, each answer with its promise as the core gives them, but for the reader's
-// answer, which is a struct here, and the choice of a key. The header include/relay.h declares these functions and says what a caller must know.
+// answer and the place of a channel, which are structs here, a record's text, which has its numbers here, and the choice of a key. The header include/relay.h declares these functions and says what a caller must know.
 // Structs go in and come back by value. An exported function can't return a reference, so the header makes the parts of a line from `relay_parts`, and
 // hands back the greater of two keys by `relay_key_less`.
 mod layout;
@@ -15,11 +15,16 @@ ghost use Rattle.writer.specs.Form.{written};
 ghost use Rattle.writer.specs.Writing.{writeRules, answerFor as writeAnswer};
 ghost use Rattle.names.specs.Fold.{sameName};
 ghost use Rattle.glob.specs.Mask.{answerFor as matchAnswer};
+ghost use Rattle.channel.specs.Record.{decode};
 ghost use Rattle.channel.specs.Merging.{mergeAnswer};
 ghost use Rattle.table.specs.Table.{emptyTable, registerAnswer, unregisterAnswer};
+ghost use Rattle.sjoin.specs.Telling.{described};
 ghost use Rattle.relay.specs.Relay.{processAnswer, sent};
 ghost use Rattle.journal.specs.Journal.{logRules, recordOf, answerFor as logAnswer};
+ghost use Rattle.wording.specs.Wording.{textOf};
 ghost use Rattle.capi.specs.Reading.{readAnswer};
+ghost use Rattle.capi.specs.Finding.{heldAt, findAnswer};
+ghost use Rattle.capi.specs.Describing.{describeRules};
 ghost use Rattle.capi.specs.Layout.{layout as layoutOf};
 use channel::Merged;
 use channel::Record;
@@ -28,9 +33,15 @@ use journal::Logged;
 use message::Message;
 use message::Reading;
 use octets::Order;
+use refusal::ACCEPTED;
+use refusal::NO_ROOM;
+use refusal::NO_SUCH_CHANNEL;
+use refusal::NOT_WELL_FORMED;
 use relay::Taken;
 use table::Registered;
+use table::Slot;
 use table::Table;
+use wording::Text;
 use writer::Written;
 
 // The reader's answer for a caller that has no enums: the number of a refusal, or ACCEPTED, and the count of parameters, 0 with a refusal.
@@ -38,6 +49,13 @@ use writer::Written;
 pub struct LineRead {
     pub number: u8,
     pub count: usize,
+}
+
+// The slot that holds a channel, for a caller that has no enums: the number of a refusal, or ACCEPTED, and the slot's place, 0 with a refusal.
+#[repr(C)]
+pub struct ChannelFound {
+    pub number: u8,
+    pub slot: usize,
 }
 
 // The count of parameters that a reading tells: 0 of a refusal.
@@ -115,6 +133,31 @@ pub extern "C" fn relay_merge(a: Record, b: Record) -> Merged
     channel::merge(a, b)
 }
 
+// Writes what an SJOIN tells of a record, as a text of its own, to the front of the output.
+#[no_mangle]
+pub extern "C" fn relay_describe(r: Record, out: &mut [u8]) -> Written
+    ensures answer { λ w. ⌜ w ≡ writeAnswer (describeRules r (now (out .entry))) (described (decode r)) ⌝ }
+    ensures output { λ _. ⌜ now (out .exit) ≡ front (emitted (describeRules r (now (out .entry))) (described (decode r))) (now (out .entry)) ⌝ }
+{
+    if !channel::is_well_formed(r) {
+        return Written {
+            number: NOT_WELL_FORMED,
+            len: 0,
+        };
+    }
+    let len = sjoin::describe(r, out);
+    if len == 0 {
+        return Written {
+            number: NO_ROOM,
+            len: 0,
+        };
+    }
+    Written {
+        number: ACCEPTED,
+        len,
+    }
+}
+
 // Every slot free, no link registered.
 #[no_mangle]
 pub extern "C" fn relay_empty_table() -> Table
@@ -139,6 +182,36 @@ pub extern "C" fn relay_unregister(t: Table, link: u32) -> Registered
     table::unregister(t, link)
 }
 
+// Where the channel is that a slot which a name uses holds.
+fn held_at(slot: Slot) -> ChannelFound
+    ensures { λ r. ⌜ r ≡ heldAt slot ⌝ }
+{
+    match slot {
+        Slot::Held(k) => ChannelFound {
+            number: ACCEPTED,
+            slot: k,
+        },
+        Slot::Free(_) => ChannelFound {
+            number: NO_SUCH_CHANNEL,
+            slot: 0,
+        },
+        Slot::Full => ChannelFound {
+            number: NO_SUCH_CHANNEL,
+            slot: 0,
+        },
+    }
+}
+
+// The slot that holds the channel of a name.
+#[no_mangle]
+pub extern "C" fn relay_find(t: Table, name: &[u8]) -> ChannelFound
+    ensures { λ r. ⌜ r ≡ findAnswer (t .slots) (now (name .entry)) ⌝ }
+{
+    let found = table::find(t, name);
+    let slot = found.slot;
+    held_at(slot)
+}
+
 // Takes a line that came from a link: the table after, and the line that goes out at the front of the output.
 #[no_mangle]
 pub extern "C" fn relay_process(t: Table, link: u32, line: &[u8], out: &mut [u8]) -> Taken
@@ -155,6 +228,14 @@ pub extern "C" fn relay_log(link: u32, line: &[u8], log: &mut [u8]) -> Logged
     ensures log { λ _. ⌜ now (log .exit) ≡ front (emitted (logRules link (now (line .entry)) (now (log .entry))) (recordOf link (now (line .entry)))) (now (log .entry)) ⌝ }
 {
     journal::write_record(link, line, log)
+}
+
+// The words of a refusal's number; of any other number none.
+#[no_mangle]
+pub extern "C" fn relay_refusal_text(number: u8) -> Text
+    ensures { λ r. ⌜ r ≡ textOf number ⌝ }
+{
+    wording::words(number)
 }
 
 // How many numbers tell the layout of the structs above (k is 0), or one of them; 0 past the last.

@@ -3,7 +3,8 @@
 use crate::ffi::{Bytes, Room};
 use crate::layout;
 use crate::types::{
-    Answer, LineRead, Logged, Matched, Merged, Message, Record, Registered, Table, Taken, Written,
+    Answer, Found, LineRead, Logged, Matched, Merged, Message, Record, Registered, Table, Taken,
+    Text, Written,
 };
 
 /// A number of the library's layout of the structs, 0 past the last.
@@ -80,6 +81,24 @@ pub fn greater_key<'a>(first: &'a [u8], second: &'a [u8]) -> &'a [u8] {
 pub fn merge(first: &Record, second: &Record) -> Merged {
     // SAFETY: only plain data goes in and comes back.
     unsafe { relay_merge(*first, *second) }
+}
+
+/// Writes a record as a text to the front of the output.
+pub fn describe(record: &Record, out: &mut [u8]) -> Written {
+    // SAFETY: the output is lent for the call.
+    unsafe { relay_describe(*record, Room::of(out)) }
+}
+
+/// The slot that holds the channel of a name.
+pub fn find(table: &Table, name: &[u8]) -> Found {
+    // SAFETY: the name is lent for the call.
+    unsafe { relay_find(*table, Bytes::of(name)) }
+}
+
+/// The words of a refusal's number.
+pub fn refusal_text(number: u8) -> Text {
+    // SAFETY: only plain data goes in and comes back.
+    unsafe { relay_refusal_text(number) }
 }
 
 /// The table with every slot free and no link registered.

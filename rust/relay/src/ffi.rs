@@ -49,6 +49,12 @@ macro_rules! functions {
             fn relay_key_less(a: Bytes, b: Bytes) -> bool;
             #[link_name = concat!($prefix, "relay_merge")]
             fn relay_merge(first: Record, second: Record) -> Merged;
+            #[link_name = concat!($prefix, "relay_describe")]
+            fn relay_describe(record: Record, out: Room) -> Written;
+            #[link_name = concat!($prefix, "relay_find")]
+            fn relay_find(table: Table, name: Bytes) -> Found;
+            #[link_name = concat!($prefix, "relay_refusal_text")]
+            fn relay_refusal_text(number: u8) -> Text;
             #[link_name = concat!($prefix, "relay_empty_table")]
             fn relay_empty_table() -> Table;
             #[link_name = concat!($prefix, "relay_register")]

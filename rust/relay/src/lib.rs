@@ -11,8 +11,8 @@ mod layout;
 mod types;
 
 pub use types::{
-    Answer, LineRead, Links, Logged, Matched, Member, Merged, Message, Record, Registered, Span,
-    Table, Taken, Written,
+    Answer, Found, LineRead, Links, Logged, Matched, Member, Merged, Message, Record, Registered,
+    Span, Table, Taken, Text, Written,
 };
 
 /// The number of an answer that is no refusal.
@@ -25,8 +25,9 @@ mod current {
 }
 
 pub use current::{
-    command, empty_table, greater_key, layout_matches, layout_number, log, matches, merge, param,
-    parts, prefix, process, read, register, same_name, take, unregister, write,
+    command, describe, empty_table, find, greater_key, layout_matches, layout_number, log, matches,
+    merge, param, parts, prefix, process, read, refusal_text, register, same_name, take,
+    unregister, write,
 };
 
 /// The same functions of an earlier library, for the benchmark: of the one that the variable

@@ -168,6 +168,33 @@ pub struct Logged {
     pub size: usize,
 }
 
+/// The slot that holds a channel, or the number of a refusal.
+#[repr(C)]
+#[derive(Clone, Copy, Debug, PartialEq, Eq)]
+pub struct Found {
+    /// The number of a refusal, or 0.
+    pub number: u8,
+    /// The place of the slot.
+    pub slot: usize,
+}
+
+/// Words for people.
+#[repr(C)]
+#[derive(Clone, Copy, Debug, PartialEq, Eq)]
+pub struct Text {
+    /// The words, then zeros.
+    pub bytes: [u8; 48],
+    /// The length of the words.
+    pub len: usize,
+}
+
+impl Text {
+    /// The words alone.
+    pub fn as_bytes(&self) -> &[u8] {
+        &self.bytes[..self.len]
+    }
+}
+
 impl Span {
     /// The bytes of the span, which must lie in those given.
     pub fn of(self, bytes: &[u8]) -> &[u8] {

@@ -8,7 +8,7 @@ use std::fs;
 type Constants = BTreeMap<String, u64>;
 
 /// Each limit of the header, and the crate that has it under which name.
-const LIMITS: [(&str, &str, &str); 10] = [
+const LIMITS: [(&str, &str, &str); 12] = [
     ("LINE", "message", "LINE_LIMIT"),
     ("PARAMS", "message", "PARAM_LIMIT"),
     ("TEXT", "glob", "TEXT_LIMIT"),
@@ -19,6 +19,8 @@ const LIMITS: [(&str, &str, &str); 10] = [
     ("SLOTS", "channel", "Record::SLOTS"),
     ("LINKS", "links", "Links::COUNT"),
     ("LOG_HEAD", "journal", "HEAD"),
+    ("DESCRIPTION", "sjoin", "DESCRIPTION_LIMIT"),
+    ("REFUSAL_TEXT", "wording", "TEXT_LIMIT"),
 ];
 
 /// A file of the repository.
@@ -113,7 +115,7 @@ fn differing(header: &str, expected: &Constants) -> Vec<String> {
 fn constants_are_the_sources() {
     let expected = expected();
     assert_eq!(differing(&text("include/relay.h"), &expected), [""; 0]);
-    assert_eq!(expected.len(), 46, "0 and 25 numbers, ten limits, eight modes, two statuses");
+    assert_eq!(expected.len(), 48, "0 and 25 numbers, twelve limits, eight modes, two statuses");
 }
 
 /// Wrong headers are noticed: each number made greater by one, each constant renamed, and one more.
@@ -132,4 +134,31 @@ fn other_constants_are_noticed() {
     }
     let more = "RELAY_NO_ROOM = 25,\n    RELAY_MORE = 26 ";
     assert_eq!(changed("RELAY_NO_ROOM = 25 ", more), ["MORE"]);
+}
+
+/// The project has one version, which stands in the file VERSION.
+#[test]
+fn version_is_the_files() {
+    let version = text("VERSION");
+    let macros = format!("#define RELAY_VERSION \"{}\"\n", version.trim_end());
+    assert_eq!(text("include/relay.h").matches(&macros).count(), 1, "{macros}");
+    assert_eq!(env!("CARGO_PKG_VERSION"), version.trim_end());
+}
+
+/// The words of each number are those of the table in the source, and there are no others.
+#[test]
+fn words_are_the_sources() {
+    let source = text("crates/wording/src/lib.rt");
+    let arm = |line: &str| {
+        let (name, words) = line.trim().strip_suffix("\"),")?.split_once(" => held(b\"")?;
+        Some((name.to_string(), words.to_string()))
+    };
+    let arms: BTreeMap<String, String> = source.lines().filter_map(arm).collect();
+    let numbers = of_source(&text("crates/refusal/src/lib.rt"));
+    assert_eq!(arms.len(), numbers.len(), "a text for each number, and none for any other");
+    for number in 0..=u8::MAX {
+        let name = numbers.iter().find(|(_, &value)| value == u64::from(number));
+        let name = name.map_or("_", |(name, _)| if number == 0 { "_" } else { name });
+        assert_eq!(relay::refusal_text(number).as_bytes(), arms[name].as_bytes(), "{number}");
+    }
 }

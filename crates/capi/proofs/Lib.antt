@@ -1,0 +1,2 @@
+-- Laws of a record's text, for the function that writes it.
+mod Describing

@@ -1,0 +1,139 @@
+/*
+ * Every function of include/relay.h on a stack of RELAY_STACK bytes, with full tables and long lines. Below the stack lies memory that
+ * can't be touched, so a call that takes more ends the program. `examples/embed.sh` builds and runs it.
+ */
+#define _GNU_SOURCE
+#include "relay.h"
+
+#include <stdio.h>
+#include <string.h>
+#include <sys/mman.h>
+#include <ucontext.h>
+
+enum { GUARD = 1 << 20 };
+
+static ucontext_t here, there;
+static relay_table table;
+static relay_record other;
+static uint8_t out[RELAY_DESCRIPTION];
+static char line[1024];
+static int failed;
+
+static relay_bytes text(const char *s)
+{
+    return relay_bytes_of(s, strlen(s));
+}
+
+static relay_room room(void)
+{
+    return relay_room_of(out, sizeof out);
+}
+
+static void expect(int number, int expected, const char *what)
+{
+    if (number != expected) {
+        printf("%s: %d\n", what, number);
+        failed = 1;
+    }
+}
+
+static void take(int expected)
+{
+    expect(relay_table_take(&table, 3, text(line), room()).number, expected, line);
+}
+
+/* An SJOIN that names half of a full channel's members. */
+static void join_line(int channel, int half, int time)
+{
+    int n = sprintf(line, ":1AB SJOIN %d #%c%048d +kl %s 65535 :", time, 'a' + channel, 0, "kkkkkkkkkkkkkkkkkkkkkkk");
+    for (int k = 0; k < 32; k++)
+        n += sprintf(line + n, "%s@+1ABA%05d", k ? " " : "", half * 32 + k);
+    sprintf(line + n, "\r\n");
+}
+
+static void registers(void)
+{
+    table = relay_empty_table();
+    expect(relay_table_register(&table, 3), 0, "register");
+    expect(relay_table_register(&table, 4), 0, "register");
+    expect(relay_table_unregister(&table, 4), 0, "unregister");
+}
+
+static void joins(void)
+{
+    for (int channel = 0; channel < RELAY_SLOTS; channel++)
+        for (int half = 0; half < 2; half++) {
+            join_line(channel, half, 1000);
+            take(0);
+        }
+    other = table.slots[0];
+    join_line(0, 0, 900);
+    take(0);
+    join_line(0, 1, 1100);
+    take(0);
+    join_line(RELAY_SLOTS, 0, 1000);
+    take(RELAY_NO_FREE_SLOT);
+}
+
+static void leaves(void)
+{
+    sprintf(line, ":1ABA00000 PART #%s :gone home\r\n", "none");
+    take(RELAY_NO_SUCH_CHANNEL);
+    sprintf(line, ":1ABA00000 PART %.50s\r\n", (const char *)table.slots[15].name);
+    take(0);
+    sprintf(line, ":1ABA00001 QUIT :gone home\r\n");
+    take(0);
+    sprintf(line, "nonsense\r\n");
+    take(RELAY_UNKNOWN_COMMAND);
+}
+
+static void records(void)
+{
+    relay_bytes name = relay_bytes_of(table.slots[15].name, table.slots[15].name_len);
+    expect(relay_table_find(&table, name) == &table.slots[15], 1, "find");
+    expect(relay_describe(other, room()).number, 0, "describe");
+    expect(relay_record_merge(&other, &table.slots[0]), 0, "merge");
+}
+
+static void lines(void)
+{
+    relay_bytes bytes = text(":a X b c d e f g h i j k l m n o :p\r\n");
+    relay_message message = relay_parts(bytes);
+    expect(relay_read(bytes).count, RELAY_PARAMS, "read");
+    expect(relay_write(bytes, message, room()).number, 0, "write");
+    expect((int)(relay_prefix(bytes).len + relay_command(bytes).len + relay_param(bytes, 14).len), 3, "parts");
+    expect(relay_log(3, bytes, room()).number, 0, "log");
+}
+
+static void others(void)
+{
+    expect(relay_same_name(text("#A["), text("#a{")), 1, "same name");
+    expect(relay_match(text("*a*b*c*"), text("abxbcabxbcabxbc")).yes, 1, "match");
+    expect(relay_greater_key(text("a"), text("b")).ptr[0], 'b', "key");
+    expect(relay_refusal_text(20).bytes[0], 'u', "words");
+    expect(relay_layout_matches(), 1, "layout");
+}
+
+/* Runs a call on the small stack. */
+static void on_stack(void *stack, void (*call)(void))
+{
+    getcontext(&there);
+    there.uc_stack.ss_sp = stack;
+    there.uc_stack.ss_size = RELAY_STACK;
+    there.uc_link = &here;
+    makecontext(&there, call, 0);
+    swapcontext(&here, &there);
+}
+
+int main(void)
+{
+    void (*const calls[])(void) = { registers, joins, records, leaves, lines, others };
+    char *memory = mmap(NULL, GUARD + RELAY_STACK, PROT_NONE, MAP_PRIVATE | MAP_ANONYMOUS, -1, 0);
+    if (memory == MAP_FAILED || mprotect(memory + GUARD, RELAY_STACK, PROT_READ | PROT_WRITE) != 0) {
+        printf("no memory\n");
+        return 1;
+    }
+    for (size_t k = 0; k < sizeof calls / sizeof calls[0]; k++)
+        on_stack(memory + GUARD, calls[k]);
+    return failed;
+}
