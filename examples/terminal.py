@@ -1,7 +1,6 @@
 #!/usr/bin/env python3
 """Tests of the program at a terminal, which is a pseudo-terminal here, and of how
-it ends: run through bin/relay, which must find it built. Says which test fails;
-the last line is 'N passed, M failed', the status 1 if one did.
+it ends, run through bin/relay. Says which test fails; the last line is 'N passed, M failed', the status 1 if one did.
 """
 import os
 import pathlib
@@ -124,6 +123,17 @@ def restored():
     signal.signal(signal.SIGINT, signal.SIG_DFL)
 
 
+def test_lines_that_the_readme_types():
+    text = (ROOT / "README.md").read_text()
+    block = text.split("and Ctrl-D to end:\n\n")[1].split("\n\n")[0]
+    lines = [line[4:] for line in block.split("\n")]
+    asked = [line for line in lines if line[0] in "+?1"]
+    answers = "".join(line + "\n" for line in lines if line not in asked)
+    equal(len(asked), 4)
+    status, out, err = typed([line.encode() + b"\n" for line in asked])
+    equal((status, out.replace("\r", ""), err), (0, answers, NOTE))
+
+
 # ---- how it ends
 
 
@@ -191,6 +201,7 @@ def test_standard_input_that_cannot_be_read():
 
 
 def main():
+    subprocess.run([RELAY], stdin=subprocess.DEVNULL, check=True)
     passed = failed = 0
     for name, test in list(globals().items()):
         if not name.startswith("test_") or (sys.argv[1:] and name not in sys.argv[1:]):

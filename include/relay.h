@@ -1,3 +1,4 @@
+/* SPDX-License-Identifier: Apache-2.0 */
 /*
  * The relay core, for programs in C and C++ on x86-64 Linux.
  *
