@@ -93,10 +93,10 @@ sorted true false l x e = refl
 sorted true true true x e = sym (and-true e)
 sorted true true false x e = sym (and-false (x && e))
 
-pub id-tests : (id : List ℕ) → length id ≡ userIdLength → isUserId id ≡ all isIdByte (drop 1 id) && (isDigit (getD id 0 0) && within 65 (getD id serverIdLength 0) 90)
-unfolding isUserId isServerId isIdByte all
+pub id-tests : (id : List ℕ) → length id ≡ userIdLength → isUserId id ≡ all isIdByte (drop 1 id) && (within 48 (getD id 0 0) 57 && within 65 (getD id serverIdLength 0) 90)
+unfolding isUserId isServerId isDigit isIdByte all
 id-tests [] = λ h. absurd (omega arith)
 id-tests (a ∷ t) = λ h.
     let short : length (a ∷ take 2 t) ≡ serverIdLength = omega (arith, length-take-le 2 t (omega arith)) in
     rw (eq-eqb (length (a ∷ t)) userIdLength h, eq-eqb (length (a ∷ take 2 t)) serverIdLength short, split isIdByte 2 t, all-step isIdByte t 2 0 (omega arith))
-    (sorted (isDigit a) (all isIdByte (take 2 t)) (within 65 (getD t 2 0) 90) (within 48 (getD t 2 0) 57) (all isIdByte (drop 3 t)))
+    (sorted (within 48 a 57) (all isIdByte (take 2 t)) (within 65 (getD t 2 0) 90) (within 48 (getD t 2 0) 57) (all isIdByte (drop 3 t)))
