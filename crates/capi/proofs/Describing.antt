@@ -6,7 +6,7 @@ use mathlib.Core.List.{List, [], _∷_}
 use native.Mathlib.Omega.{arith}
 use lib.ListN.{length, length-append}
 use Rattle.refusal.specs.Numbers.{accepted, notWellFormed, noRoom}
-use Rattle.refusal.specs.Rules.{_when_, firstOf}
+use Rattle.refusal.specs.Rules.{_when_, firstOf, ascend, ascendFrom, placeIn}
 use Rattle.refusal.proofs.Rules.{skip, stop, first-nil}
 use Rattle.laws.specs.Lists.{prefixed, separated}
 use Rattle.octets.specs.Room.{fits, front}
@@ -35,6 +35,11 @@ blank [] out h = refl
 blank (x ∷ w) out h = absurd (omega arith)
 
 module _ (r : Record) (out : List ℕ) where
+  -- The rules stand in the order of their numbers: the first in it that applies is given.
+  rules-ascend : ascend (describeRules r out) ≡ true
+  unfolding ascendFrom describeRules placeIn
+  rules-ascend = refl
+
   pub ill : wellFormed r ≡ false → firstOf (describeRules r out) ≡ notWellFormed
   unfolding describeRules
   ill e = stop _ _ (ap not e)
