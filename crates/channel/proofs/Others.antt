@@ -64,14 +64,14 @@ module _ (id : List ℕ) (l : List Member) (i : ℕ) where
   has-past h = rw (drop-of-length-le l h)
 
 -- ---- the record without a member, by the roster of those that stay
-module _ (id : List ℕ) (r : Record) (s : Roster) (is : s ≡ roster (others id (take (r .count) (r .members)))) where
-  staying : s .count ≡ length (others id (take (r .count) (r .members)))
+module _ (id : List ℕ) (r : Record) (s : Roster) (is : s ≡ roster (others id (decode r .members))) where
+  staying : s .count ≡ length (others id (decode r .members))
   unfolding roster
   staying = ap (λ (x : Roster). x .count) is
 
   pub without-all : s .count ≡ 0 → without id r ≡ emptyRecord
-  unfolding without decode
-  without-all e = rw (nil-length (others id (take (r .count) (r .members))) ∙ eq-eqb _ 0 (sym staying ∙ e))
+  unfolding without
+  without-all e = rw (nil-length (others id (decode r .members)) ∙ eq-eqb _ 0 (sym staying ∙ e))
 
   pub without-some : (s .count ≡ 0 → ⊥) → without id r ≡ record {
     name = r .name;
@@ -84,5 +84,5 @@ module _ (id : List ℕ) (r : Record) (s : Roster) (is : s ≡ roster (others id
     members = s .list;
     count = s .count;
   }
-  unfolding without decode withMembers roster
-  without-some ne = rw (nil-length (others id (take (r .count) (r .members))) ∙ ne-eqb _ 0 (λ e. ne (staying ∙ e)), is)
+  unfolding without withMembers roster
+  without-some ne = rw (nil-length (others id (decode r .members)) ∙ ne-eqb _ 0 (λ e. ne (staying ∙ e)), is)

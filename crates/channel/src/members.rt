@@ -67,9 +67,8 @@ pub(crate) fn is_below(m: Member, next: Member) -> bool
 pub fn has_member(r: Record, id: [u8; USER_ID]) -> bool
     ensures { λ t. ⌜ t ≡ hasMember id (decode r .members) ⌝ }
 {
-    let members = r.members;
     for i in 0..within(r.count) {
-        let m = members[i];
+        let m = r.members[i];
         if has_id(m, id) {
             return true;
         }
@@ -77,14 +76,14 @@ pub fn has_member(r: Record, id: [u8; USER_ID]) -> bool
     false
 }
 
-// All but those with the id, of the first n.
-fn others(members: [Member; Record::MEMBERS], n: usize, id: [u8; USER_ID]) -> Roster
-    ensures { λ r. ⌜ r ≡ roster (othersOf id (take n members)) ⌝ }
+// The record's members but for those with the id.
+fn others(r: Record, id: [u8; USER_ID]) -> Roster
+    ensures { λ s. ⌜ s ≡ roster (othersOf id (decode r .members)) ⌝ }
 {
     let mut list = vacant();
     let mut count = 0;
-    for i in 0..within(n) {
-        let m = members[i];
+    for i in 0..within(r.count) {
+        let m = r.members[i];
         if has_id(m, id) {
             continue;
         }
@@ -98,8 +97,7 @@ fn others(members: [Member; Record::MEMBERS], n: usize, id: [u8; USER_ID]) -> Ro
 pub fn without(r: Record, id: [u8; USER_ID]) -> Record
     ensures { λ s. ⌜ s ≡ withoutOf id r ⌝ }
 {
-    let members = r.members;
-    let left = others(members, r.count, id);
+    let left = others(r, id);
     if left.count == 0 {
         return Record::empty();
     }
