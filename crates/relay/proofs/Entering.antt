@@ -1,19 +1,19 @@
 -- The numbers that come before a command's own: table, output and link, then the reader's. Past them the command's rules decide. Assumes nothing.
 use mathlib.Core.Path.{_≡_, refl, sym, ap, _∙_}
-use mathlib.Core.Bool.{Bool, true, false, not, _&&_}
+use mathlib.Core.Bool.{Bool, true, false, not}
 use mathlib.Core.List.{List, [], _∷_}
 use Prim.Native.Nat.{ℕ, _≤_, _<_, _^_}
 use native.Mathlib.Omega.{arith}
-use borrow.Author.Tests.{lt-ltb, le-ltb, ltb-false, not-false}
+use borrow.Author.Tests.{lt-ltb, le-ltb, not-false}
 use Rattle.refusal.specs.Numbers.{accepted, notWellFormed, outputTooShort, badLink}
 use Rattle.refusal.specs.Rules.{_when_, firstOf}
 use Rattle.refusal.proofs.Rules.{skip, stop, first-nil, first-none, append-some, append-none}
 use Rattle.laws.specs.Bits.{hasBit}
-use Rattle.laws.proofs.Bitwise.{bit-past}
 use Rattle.message.specs.Grammar.{lineLimit}
 use Rattle.message.specs.Reading.{lineRules, numberFor, isRead, contentOf}
 use Rattle.message.proofs.Readings.{rules-numbered, number-none, refused-number}
-use Rattle.links.specs.Links.{linkCount, isLink}
+use Rattle.links.specs.Links.{linkCount}
+use Rattle.links.proofs.Sets.{linked}
 use Rattle.channel.specs.declared.Record.{Record}
 use Rattle.table.specs.declared.Table.{Table}
 use Rattle.table.specs.Table.{goodTable}
@@ -22,14 +22,6 @@ use Rattle.relay.specs.Relay.{commandRules, commandIn, takenRules, entry
 use Rattle.relay.proofs.Judgements.{Judged}
 
 -- ---- table, output and link
--- a set of 32 bits has no link above 31
-linked : (set link : ℕ) → set < 2 ^ linkCount → isLink link && hasBit set link ≡ hasBit set link
-linked set link s = go (isLink link) refl
-  where
-    go : (t : Bool) → isLink link ≡ t → isLink link && hasBit set link ≡ hasBit set link
-    go true e = rw e
-    go false e = rw e (sym (bit-past set linkCount link s (ltb-false link linkCount e)))
-
 module _ (good : Bool) (set link n : ℕ) where
   pub entry-ill-formed : good ≡ false → firstOf (entryRules good n set link) ≡ notWellFormed
   entry-ill-formed g = stop _ _ (ap not g)
