@@ -1,5 +1,6 @@
 -- Laws that the crates above cite.
 pub mod Bytes
+pub mod Search
 pub mod Ordered
 pub mod Digits
 pub mod Room

@@ -3,7 +3,7 @@ use Prim.Native.Nat.{ℕ, _-_}
 use mathlib.Core.Bool.{Bool, not, cond, _&&_, _||_}
 use lib.Dec.{eqb, leb}
 use Rattle.octets.specs.declared.Class.{Class}
-use Rattle.octets.specs.declared.Class.the-variants.{Plain, NonSpace, Letter, Digit, Id, Name, Key}
+use Rattle.octets.specs.declared.Class.the-variants.{Plain, NonSpace, NonLf, Letter, Digit, Id, Name, Key}
 
 abbrev pub nul : ℕ
 nul = 0
@@ -26,6 +26,9 @@ comma = 44
 abbrev pub colon : ℕ
 colon = 58
 
+abbrev pub isZero : ℕ → Bool
+isZero b = eqb b 0
+
 -- lo ≤ b ≤ hi
 unfoldable pub within : ℕ → ℕ → ℕ → Bool
 within lo b hi = leb lo b && leb b hi
@@ -36,6 +39,9 @@ isPlain b = not (eqb b nul) && (not (eqb b lf) && not (eqb b cr))
 
 abbrev pub isNonSpace : ℕ → Bool
 isNonSpace b = not (eqb b space)
+
+abbrev pub isNonLf : ℕ → Bool
+isNonLf b = not (eqb b lf)
 
 -- 'A' to 'Z' or 'a' to 'z'
 unfoldable pub isLetter : ℕ → Bool
@@ -61,6 +67,7 @@ isKeyByte b = not (eqb b comma) && within 33 b 126
 abbrev pub inClass : Class → ℕ → Bool
 inClass Plain = isPlain
 inClass NonSpace = isNonSpace
+inClass NonLf = isNonLf
 inClass Letter = isLetter
 inClass Digit = isDigit
 inClass Id = isIdByte

@@ -1,4 +1,5 @@
 pub mod Bytes
+pub mod Search
 pub mod Order
 pub mod Decimals
 pub mod Room

@@ -1,13 +1,14 @@
-// Bytes: their classes, byte strings compared, numbers in decimal, a part of a lent slice, bytes put into lent room, and capital letters.
+// Bytes: their classes, the place of one, byte strings compared, numbers in decimal, a part of a lent slice, bytes put into lent room, and capital letters.
 // Every function takes any bytes and refuses nothing.
 ghost use mathlib.Core.Path.{_≡_};
 ghost use mathlib.Core.Bool.{cond};
 ghost use Prim.Native.Nat.{_+_, _≤_, min};
-ghost use lib.ListN.{length};
+ghost use lib.ListN.{length, drop};
 ghost use lib.Seq.{paste};
 ghost use denote.Ref.{ptr};
-ghost use Rattle.octets.specs.Bytes.{within, isPlain, isLetter, isIdByte, isNameByte, isKeyByte, inClass, capital as capitalOf};
+ghost use Rattle.octets.specs.Bytes.{isZero, within, isPlain, isLetter, isIdByte, isNameByte, isKeyByte, inClass, capital as capitalOf};
 ghost use Rattle.laws.specs.Lists.{all};
+ghost use Rattle.octets.specs.Search.{before};
 ghost use Rattle.octets.specs.Order.{compare as compareOf};
 ghost use Rattle.octets.specs.Room.{part as partOf, placeIn, putAt, endOf};
 
@@ -22,6 +23,8 @@ pub enum Class {
     Plain,
     // any but SPACE
     NonSpace,
+    // any but LF
+    NonLf,
     // 'A' to 'Z' or 'a' to 'z'
     Letter,
     // '0' to '9'
@@ -117,6 +120,7 @@ fn is_in(b: u8, class: Class) -> bool
     match class {
         Class::Plain => is_plain(b),
         Class::NonSpace => b != b' ',
+        Class::NonLf => b != b'\n',
         Class::Letter => is_letter(b),
         Class::Digit => between(b, b'0', b'9'),
         Class::Id => is_id_byte(b),
@@ -146,6 +150,40 @@ pub fn all_in(s: &[u8], class: Class) -> bool
         i += 1;
     }
     odd == 0
+}
+
+// The bits of the bytes from a place on, joined by or: none exactly if those bytes are zero.
+fn gathered(s: &[u8], from: usize) -> u8
+    ensures { λ r. ⌜ isZero r ≡ all isZero (drop from (now (s .entry))) ⌝ }
+{
+    let mut bits = 0u8;
+    let mut i = from;
+    while i < s.len() {
+        bits = bits | s[i];
+        i += 1;
+    }
+    bits
+}
+
+// Whether every byte from a place on is zero: an or over the bytes, and one test.
+pub fn zero_from(s: &[u8], from: usize) -> bool
+    ensures { λ r. ⌜ r ≡ all isZero (drop from (now (s .entry))) ⌝ }
+{
+    gathered(s, from) == 0
+}
+
+// The place of the first b, or the end where there is none.
+pub fn place_of(s: &[u8], b: u8) -> usize
+    ensures { λ r. ⌜ r ≡ length (before b (now (s .entry))) ⌝ }
+{
+    let mut i = 0;
+    while i < s.len() {
+        if s[i] == b {
+            return i;
+        }
+        i += 1;
+    }
+    i
 }
 
 // How a stands to b: by the first byte that differs, a proper beginning being smaller.

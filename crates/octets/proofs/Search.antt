@@ -1,0 +1,67 @@
+-- Laws of the first place of a byte: the bytes before it, that byte, and those behind it are all of them, and it isn't among those before it. Assumes nothing.
+use mathlib.Core.Path.{_≡_, refl, sym, ap, _∙_}
+use mathlib.Core.Bool.{Bool, true, false, not}
+use mathlib.Core.List.{List, [], _∷_, _++_}
+use Prim.Native.Nat.{ℕ, zero, suc, _+_, _≤_, _<_}
+use native.Mathlib.Omega.{arith}
+use lib.ListN.{length, take, drop, getD, drop-of-length-le}
+use lib.Dec.{eqb}
+use borrow.Author.Tests.{eq-eqb, ne-eqb, eqb-true}
+use Rattle.laws.specs.Lists.{all}
+use Rattle.laws.proofs.Lists.{drop-step}
+use Rattle.octets.specs.Search.{before}
+
+-- ---- at a place, for a loop
+module _ (b : ℕ) (s : List ℕ) (i : ℕ) where
+  pub before-past : length s ≤ i → length (before b (drop i s)) ≡ 0
+  unfolding before
+  before-past h = rw (drop-of-length-le s h)
+
+  pub before-stop : i < length s → getD s i 0 ≡ b → length (before b (drop i s)) ≡ 0
+  unfolding before
+  before-stop h e = rw (drop-step s i 0 h, eq-eqb _ b e)
+
+  pub before-go : i < length s → (getD s i 0 ≡ b → ⊥) → length (before b (drop i s)) ≡ suc (length (before b (drop (i + 1) s)))
+  unfolding before
+  before-go h e = rw (drop-step s i 0 h, ne-eqb _ b e)
+
+-- ---- the bytes divided
+-- b isn't among those before it
+pub before-none : (b : ℕ) (s : List ℕ) → all (λ x. not (eqb x b)) (before b s) ≡ true
+unfolding before all
+before-none b [] = refl
+before-none b (x ∷ s) = go (eqb x b) refl (before-none b s)
+  where
+    go : (t : Bool) → eqb x b ≡ t → all (λ y. not (eqb y b)) (before b s) ≡ true → all (λ y. not (eqb y b)) (before b (x ∷ s)) ≡ true
+    go true e ih = rw e
+    go false e ih = rw (e, e) ih
+
+-- they stand in front
+pub before-front : (b : ℕ) (s : List ℕ) → take (length (before b s)) s ≡ before b s
+unfolding before
+before-front b [] = refl
+before-front b (x ∷ s) = go (eqb x b) refl (before-front b s)
+  where
+    go : (t : Bool) → eqb x b ≡ t → take (length (before b s)) s ≡ before b s → take (length (before b (x ∷ s))) (x ∷ s) ≡ before b (x ∷ s)
+    go true e ih = rw e
+    go false e ih = rw e (ap (λ (l : List ℕ). x ∷ l) ih)
+
+pub before-within : (b : ℕ) (s : List ℕ) → length (before b s) ≤ length s
+unfolding before
+before-within b [] = omega arith
+before-within b (x ∷ s) = go (eqb x b) refl (before-within b s)
+  where
+    go : (t : Bool) → eqb x b ≡ t → length (before b s) ≤ length s → length (before b (x ∷ s)) ≤ suc (length s)
+    go true e ih = rw e (omega arith)
+    go false e ih = rw e (omega arith)
+
+-- and behind them comes b, if there is one
+pub before-then : (b : ℕ) (s : List ℕ) → length (before b s) < length s → drop (length (before b s)) s ≡ b ∷ drop (suc (length (before b s))) s
+unfolding before
+before-then b [] = λ h. absurd (omega arith)
+before-then b (x ∷ s) = λ h. go (eqb x b) refl (before-then b s) h
+  where
+    go : (t : Bool) → eqb x b ≡ t → (length (before b s) < length s → drop (length (before b s)) s ≡ b ∷ drop (suc (length (before b s))) s)
+        → length (before b (x ∷ s)) < suc (length s) → drop (length (before b (x ∷ s))) (x ∷ s) ≡ b ∷ drop (suc (length (before b (x ∷ s)))) (x ∷ s)
+    go true e ih = rw e (λ h. ap (λ (y : ℕ). y ∷ s) (eqb-true x b e))
+    go false e ih = rw e (λ h. ih (omega arith))
