@@ -97,6 +97,12 @@ module _ {A : Type 0} (p : A → Bool) where
   all-drop (suc n) [] h = h
   all-drop (suc n) (x ∷ s) h = all-drop n s (all-tail x s h)
 
+  pub all-take : (n : ℕ) (s : List A) → all p s ≡ true → all p (take n s) ≡ true
+  unfolding all
+  all-take zero s h = refl
+  all-take (suc n) [] h = refl
+  all-take (suc n) (x ∷ s) h = all-cons x (take n s) (all-head x s h) (all-take n s (all-tail x s h))
+
   pub all-replicate : (x : A) (n : ℕ) → p x ≡ true → all p (replicate n x) ≡ true
   unfolding all
   all-replicate x zero e = refl

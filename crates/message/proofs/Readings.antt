@@ -1,7 +1,7 @@
 -- Laws of readings: what a line that is read keeps to, what the tests that a line passes and fails make of its reading, and where its
 -- parts lie. Assumes nothing.
 use mathlib.Core.Path.{_≡_, refl, sym, ap, _∙_}
-use mathlib.Core.Bool.{Bool, true, false, true≢false, _&&_, and-false, and-true}
+use mathlib.Core.Bool.{Bool, true, false, true≢false, not, _&&_, and-false, and-true}
 use mathlib.Core.List.{List, [], _∷_}
 use mathlib.Core.Option.{Option·getD}
 use Prim.Native.Nat.{ℕ, _+_, _-_, _≤_, _<_}
@@ -11,7 +11,7 @@ use lib.Dec.{eqb, ltb}
 use borrow.Author.Tests.{eq-eqb, ne-eqb, lt-ltb, le-ltb, ltb-true, ltb-false, eqb-true, eqb-false, not-false}
 use Rattle.refusal.specs.Numbers.{accepted, lineTooLong, noLineEnd, forbiddenByte, emptyLine, emptyPrefix, badCommand, tooManyParams}
 use Rattle.refusal.specs.Rules.{_when_, firstOf, ascend, ascendFrom, placeIn}
-use Rattle.refusal.proofs.Rules.{skip, stop, first-nil, first-none, numbered}
+use Rattle.refusal.proofs.Rules.{skip, stop, first-nil, first-none, first-lacks, numbered}
 use Rattle.octets.specs.Bytes.{cr, lf, isPlain}
 use Rattle.laws.specs.Lists.{all, isNil, sameBy}
 use Rattle.octets.specs.Room.{part}
@@ -196,6 +196,19 @@ module _ (line : List ℕ) where
 
     pub number-unended : endsLine line ≡ false → numberFor line ≡ noLineEnd
     number-unended e = number-grammar ∙ stop _ _ (rw e)
+
+    -- 4 isn't given, and 5 exactly where CR LF doesn't end the line
+    pub number-small : eqb (numberFor line) lineTooLong ≡ false
+    unfolding bodyRules
+    number-small = rw number-grammar (first-lacks lineTooLong (grammarRules line) (λ e. omega arith) refl)
+
+    pub number-ending : eqb (numberFor line) noLineEnd ≡ not (endsLine line)
+    unfolding bodyRules
+    number-ending = go (endsLine line) refl
+      where
+        go : (t : Bool) → endsLine line ≡ t → eqb (numberFor line) noLineEnd ≡ not (endsLine line)
+        go true e = rw (e, number-grammar ∙ skip _ _ (rw e)) (first-lacks noLineEnd _ (λ z. omega arith) refl)
+        go false e = rw (number-unended e, e)
 
     module _ (ends : endsLine line ≡ true) (body : List ℕ) (is : body ≡ bodyOf line) where
       pub number-control : all isPlain body ≡ false → numberFor line ≡ forbiddenByte

@@ -18,6 +18,10 @@ pub part-front : (s : List ℕ) (n : ℕ) → part s 0 n ≡ take n s
 unfolding part
 part-front s n = let e : n - 0 ≡ n = omega arith in rw e
 
+pub part-next : (s : List ℕ) (start n : ℕ) → part s start (start + n) ≡ take n (drop start s)
+unfolding part
+part-next s start n = let e : start + n - start ≡ n = omega arith in rw e
+
 pub part-back : (s : List ℕ) (start end : ℕ) → length s ≤ end → part s start end ≡ drop start s
 unfolding part
 part-back s start end h = take-all (end - start) (drop start s) (omega (arith, length-drop start s))
@@ -141,3 +145,10 @@ module _ (n : ℕ) (p : List ℕ) (h : length p ≤ n) where
 
   pub put-padded : putAt room 0 p ≡ padded n 0 p
   put-padded = put-front room p (omega (arith, length-replicate {A = ℕ} n 0)) ∙ front-padded
+
+-- and more of them behind those
+pub put-more : (n : ℕ) (p q : List ℕ) → length p + length q ≤ n → putAt (padded n 0 p) (length p) q ≡ padded n 0 (p ++ q)
+put-more n p q h =
+    ap (λ (l : List ℕ). putAt l (length p) q) (sym (front-padded n p (omega arith)))
+    ∙ put-behind (replicate n 0) p q (omega (arith, length-replicate {A = ℕ} n 0))
+    ∙ front-padded n (p ++ q) (omega (arith, length-append p q))
