@@ -10,13 +10,14 @@ use lib.Dec.{leb}
 use borrow.Author.Tests.{le-leb, lt-leb, lt-ltb, leb-true, leb-false}
 use Rattle.laws.specs.Lists.{all}
 use Rattle.laws.proofs.Bools.{and-right}
+use Rattle.octets.specs.Bytes.{isZero}
 use Rattle.names.specs.Names.{nameLimit, isChannel}
 use Rattle.channel.specs.declared.Member.{Member}
 use Rattle.channel.specs.declared.Record.{Record}
 use Rattle.channel.specs.Limits.{memberLimit, keyLimit, timeLimit}
 use Rattle.channel.specs.Modes.{modeCount}
 use Rattle.channel.specs.Record.{decode}
-use Rattle.channel.specs.WellFormed.{isZero, isVacant, goodMember, goodTime, goodModes, goodKey, goodLimit, goodMembers, channelTests, inRoom, clear, wellFormed}
+use Rattle.channel.specs.WellFormed.{isVacant, goodMember, goodTime, goodModes, goodKey, goodLimit, goodMembers, channelTests, inRoom, clear, wellFormed}
 use Rattle.channel.proofs.Places.{places}
 
 -- every test of a list passes

@@ -12,13 +12,14 @@ use borrow.Author.Tests.{eqb-true, leb-true, le-leb}
 use Rattle.laws.specs.Lists.{all}
 use Rattle.laws.proofs.Bools.{and-left, and-right, and-three}
 use Rattle.laws.proofs.Lists.{all-head, all-tail, all-from, take-padded, all-padded, padded-take}
+use Rattle.octets.specs.Bytes.{isZero}
 use Rattle.names.specs.Names.{nameLimit, userIdLength}
 use Rattle.channel.specs.declared.Member.{Member}
 use Rattle.channel.specs.declared.Record.{Record}
 use Rattle.channel.specs.Limits.{keyLimit, memberLimit}
 use Rattle.channel.specs.Channel.{Channel, member}
 use Rattle.channel.specs.Record.{nobody, encode, decode}
-use Rattle.channel.specs.WellFormed.{isZero, isVacant, inRoom, clear}
+use Rattle.channel.specs.WellFormed.{isVacant, inRoom, clear}
 use Rattle.channel.proofs.Sides.{channel-path}
 
 -- A channel keeps to the room that a record has.

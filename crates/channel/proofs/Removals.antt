@@ -13,6 +13,7 @@ use borrow.Author.Tests.{le-leb}
 use Rattle.laws.specs.Lists.{all, isNil, same}
 use Rattle.laws.proofs.Bools.{and-three}
 use Rattle.laws.proofs.Lists.{all-head, all-tail, all-cons, all-padded, take-padded}
+use Rattle.octets.specs.Bytes.{isZero}
 use Rattle.octets.proofs.Bytes.{same-true}
 use Rattle.ascending.proofs.Ascends.{Above, Ascending}
 use Rattle.ascending.proofs.Contents.{has}
@@ -23,7 +24,7 @@ use Rattle.channel.specs.Limits.{memberLimit, keyLimit}
 use Rattle.channel.specs.Channel.{Channel, byId}
 use Rattle.channel.specs.Record.{nobody, emptyRecord, encode, decode}
 use Rattle.channel.specs.Members.{others, withMembers, without}
-use Rattle.channel.specs.WellFormed.{goodMember, isZero, isVacant, inRoom, clear, wellFormed}
+use Rattle.channel.specs.WellFormed.{goodMember, isVacant, inRoom, clear, wellFormed}
 use Rattle.channel.specs.Plain.{statusIn}
 use Rattle.channel.proofs.Sides.{channel-path, named}
 use Rattle.channel.proofs.Rules.{peopled}

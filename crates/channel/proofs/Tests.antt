@@ -12,7 +12,7 @@ use lib.Pow.{shl-exact, shl-shr, shr-le}
 use borrow.Author.Tests.{ne-eqb, eqb-true, eqb-false, leb-true, leb-false}
 use Rattle.laws.specs.Lists.{all}
 use Rattle.laws.proofs.Lists.{drop-step, all-step}
-use Rattle.channel.specs.WellFormed.{isZero}
+use Rattle.octets.specs.Bytes.{isZero}
 
 -- ---- the first n at a place
 module _ {A : Type 0} (l : List A) (n i : ℕ) (d : A) (h : i < n) (k : n ≤ length l) where

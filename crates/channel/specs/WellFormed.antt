@@ -3,8 +3,9 @@ use Prim.Native.Nat.{ℕ, _+_, _^_}
 use mathlib.Core.Bool.{Bool, not, _&&_, _||_, Bool·beq}
 use mathlib.Core.List.{List, [], _∷_}
 use lib.ListN.{length, drop}
-use lib.Dec.{eqb, leb, ltb}
+use lib.Dec.{leb, ltb}
 use Rattle.laws.specs.Lists.{all, isNil}
+use Rattle.octets.specs.Bytes.{isZero}
 use Rattle.ascending.specs.Ascending.{ascends}
 use Rattle.names.specs.Names.{nameLimit, isChannel, isUserId}
 use Rattle.channel.specs.declared.Member.{Member}
@@ -56,9 +57,6 @@ channelTests c =
     ∷ []
 
 -- ---- of the record that holds it
-abbrev pub isZero : ℕ → Bool
-isZero b = eqb b 0
-
 abbrev pub isVacant : Member → Bool
 isVacant m = all isZero (m .id) && isZero (m .status)
 

@@ -20,6 +20,7 @@ use names::NAME_LIMIT;
 use names::USER_ID;
 use names::equal;
 use octets::part;
+use octets::zero_from;
 use refusal::BAD_NAME;
 use refusal::NOT_WELL_FORMED;
 use well::good_member;
@@ -27,7 +28,6 @@ use well::in_room;
 use well::member_bits;
 use well::precedes;
 use well::settled;
-use well::zero_from;
 
 // A member of a channel: its user id, held whole, and its status, VOICE plus OPERATOR.
 #[repr(C)]

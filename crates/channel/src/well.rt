@@ -1,13 +1,13 @@
 // The tests of a well-formed record, each of the part that it judges.
 ghost use mathlib.Core.Path.{_≡_};
 ghost use mathlib.Core.Bool.{_&&_};
-ghost use lib.ListN.{drop};
 ghost use lib.Dec.{leb};
 ghost use Rattle.laws.specs.Lists.{all};
+ghost use Rattle.octets.specs.Bytes.{isZero};
 ghost use Rattle.octets.specs.Order.{compare, isLess};
 ghost use Rattle.names.specs.Names.{nameLimit, isChannel};
 ghost use Rattle.channel.specs.Limits.{memberLimit, keyLimit};
-ghost use Rattle.channel.specs.WellFormed.{isZero, isVacant, goodKey, goodLimit, goodMember};
+ghost use Rattle.channel.specs.WellFormed.{isVacant, goodKey, goodLimit, goodMember};
 use crate::Member;
 use crate::Record;
 use crate::key::is_key;
@@ -36,26 +36,6 @@ pub(crate) fn in_room(name_len: usize, key_len: usize, count: usize) -> bool
         return false;
     }
     count <= Record::MEMBERS
-}
-
-// The bits of the bytes from a place on, joined by or: none exactly if those bytes are zero.
-fn gathered(s: &[u8], from: usize) -> u8
-    ensures { λ r. ⌜ isZero r ≡ all isZero (drop from (now (s .entry))) ⌝ }
-{
-    let mut bits = 0u8;
-    let mut i = from;
-    while i < s.len() {
-        bits = bits | s[i];
-        i += 1;
-    }
-    bits
-}
-
-// Whether every byte from a place on is zero: an or over the bytes, and one test.
-pub(crate) fn zero_from(s: &[u8], from: usize) -> bool
-    ensures { λ r. ⌜ r ≡ all isZero (drop from (now (s .entry))) ⌝ }
-{
-    gathered(s, from) == 0
 }
 
 // The byte's bits in a place of a wide number that belongs to i: none exactly if the byte is zero.

@@ -10,9 +10,10 @@ use borrow.Author.Tests.{eq-eqb, ne-eqb, not-true, not-false}
 use Rattle.laws.specs.Lists.{all}
 use Rattle.laws.proofs.Lists.{unmapped}
 use Rattle.laws.proofs.Bitwise.{or-step, or-past}
+use Rattle.octets.specs.Bytes.{isZero}
 use Rattle.channel.specs.declared.Record.{Record}
 use Rattle.channel.specs.Limits.{memberLimit}
-use Rattle.channel.specs.WellFormed.{isZero, isVacant, zeroTests, isBlank}
+use Rattle.channel.specs.WellFormed.{isVacant, zeroTests, isBlank}
 use Rattle.channel.proofs.Judging.{passed, pass, fail, last}
 use Rattle.channel.proofs.Blank.{blank-tests}
 use Rattle.channel.proofs.is_blank.Statement.{statement}

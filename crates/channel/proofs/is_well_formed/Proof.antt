@@ -13,11 +13,12 @@ use Rattle.laws.specs.Lists.{all}
 use Rattle.laws.proofs.Bools.{and-left, and-right}
 use Rattle.laws.proofs.Lists.{unmapped}
 use Rattle.laws.proofs.Bitwise.{or-step, or-past}
+use Rattle.octets.specs.Bytes.{isZero}
 use Rattle.octets.proofs.Room.{part-front}
 use Rattle.names.specs.Names.{isChannel}
 use Rattle.channel.specs.declared.Record.{Record}
 use Rattle.channel.specs.Limits.{memberLimit}
-use Rattle.channel.specs.WellFormed.{isZero, isVacant, goodKey, goodLimit, inRoom, wellFormed}
+use Rattle.channel.specs.WellFormed.{isVacant, goodKey, goodLimit, inRoom, wellFormed}
 use Rattle.channel.proofs.Places.{proper, places, proper-stop, proper-go, proper-last}
 use Rattle.channel.proofs.Judging.{passed, pass, fail, last, tests, well-tests, in-room-count}
 use Rattle.channel.proofs.is_well_formed.Statement.{statement}

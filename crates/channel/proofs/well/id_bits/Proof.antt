@@ -6,8 +6,8 @@ use lib.ListN.{drop}
 use borrow.Author.Needs.{needs}
 use Rattle.laws.specs.Lists.{all}
 use Rattle.laws.proofs.Bitwise.{or-step, or-past}
+use Rattle.octets.specs.Bytes.{isZero}
 use Rattle.names.specs.Names.{userIdLength}
-use Rattle.channel.specs.WellFormed.{isZero}
 use Rattle.channel.proofs.well.id_bits.Statement.{statement}
 use Rattle.channel.proofs.well.id_bits.Tie as tie
 

@@ -3,7 +3,7 @@ use mathlib.Core.Path.{ap, _∙_}
 use mathlib.Core.Bool.{Bool, _&&_}
 use borrow.Author.Needs.{needs}
 use Rattle.laws.proofs.Bitwise.{or-zero}
-use Rattle.channel.specs.WellFormed.{isZero}
+use Rattle.octets.specs.Bytes.{isZero}
 use Rattle.channel.proofs.well.member_bits.Statement.{statement}
 use Rattle.channel.proofs.well.member_bits.Tie as tie
 
