@@ -1,54 +1,39 @@
--- Laws of the input split into lines: the first line byte by byte, and the line under way with more of its bytes. Assumes nothing.
+-- Laws of the input split into lines: the first line's length, and the line under way with more of its bytes. Assumes nothing.
 use Prim.Native.Nat.{ℕ, suc, _+_, _-_, _≤_, _<_, min}
 use mathlib.Core.Path.{_≡_, refl, sym, ap, _∙_}
 use mathlib.Core.Bool.{Bool, true, false, cond}
 use mathlib.Core.List.{List, [], _∷_, _++_}
 use native.Mathlib.Omega.{arith}
-use lib.ListN.{length, take, drop, getD, drop-of-length-le, length-append, length-drop, length-take}
+use lib.ListN.{length, take, drop, length-append, length-drop, length-take}
 use lib.Seq.{take-all, take-at, take-append-add}
 use lib.Dec.{eqb, leb}
-use borrow.Author.Tests.{eq-eqb, ne-eqb, eqb-true, eqb-false, leb-true, leb-false}
+use borrow.Author.Tests.{leb-true, leb-false}
 use Rattle.octets.specs.Bytes.{lf}
+use Rattle.octets.specs.Search.{before}
 use Rattle.octets.specs.Room.{part, putAt}
-use Rattle.laws.proofs.Lists.{drop-step}
 use Rattle.octets.proofs.Room.{part-front, put-fits}
 use Rattle.console.specs.Lines.{inputLimit, kept, firstLine, endsLine}
 
 -- ---- the first line
-first-short : (s : List ℕ) → length (firstLine s) ≤ length s
-unfolding firstLine
-first-short [] = omega arith
-first-short (b ∷ s) = go (eqb b lf) (first-short s)
+-- the bytes before the first LF, and that one, if there is one
+pub length-first : (s : List ℕ) → length (firstLine s) ≡ min (suc (length (before lf s))) (length s)
+unfolding firstLine before
+length-first [] = refl
+length-first (b ∷ s) = go (eqb b lf) (length-first s)
   where
-    go : (t : Bool) → length (firstLine s) ≤ length s → length (cond t (b ∷ []) (b ∷ firstLine s)) ≤ suc (length s)
-    go true h = omega arith
-    go false h = omega arith
+    go : (t : Bool) → length (firstLine s) ≡ min (suc (length (before lf s))) (length s) → length (cond t (b ∷ []) (b ∷ firstLine s)) ≡ min (suc (length (cond t [] (b ∷ before lf s)))) (suc (length s))
+    go true ih = omega arith
+    go false ih = omega arith
 
 -- at a place
 module _ (s : List ℕ) (i : ℕ) where
-  pub first-past : length s ≤ i → length (firstLine (drop i s)) ≡ 0
-  unfolding firstLine
-  first-past h = rw (drop-of-length-le s {i = i} h)
-
-  pub first-stop : i < length s → getD s i 0 ≡ lf → length (firstLine (drop i s)) ≡ 1
-  unfolding firstLine
-  first-stop h e = rw (drop-step s i 0 h, eq-eqb (getD s i 0) lf e)
-
-  pub first-go : i < length s → (getD s i 0 ≡ lf → ⊥) → length (firstLine (drop i s)) ≡ suc (length (firstLine (drop (i + 1) s)))
-  unfolding firstLine
-  first-go h ne = rw (drop-step s i 0 h, ne-eqb (getD s i 0) lf ne)
-
   -- it has a byte, where there is one
   pub first-some : i < length s → 0 < length (firstLine (drop i s))
-  first-some h = go (eqb (getD s i 0) lf) refl
-    where
-      go : (t : Bool) → eqb (getD s i 0) lf ≡ t → 0 < length (firstLine (drop i s))
-      go true e = omega (arith, first-stop h (eqb-true (getD s i 0) lf e))
-      go false e = omega (arith, first-go h (eqb-false (getD s i 0) lf e))
+  first-some h = omega (arith, length-first (drop i s), length-drop i s)
 
   -- and none past the end
   pub first-in : i ≤ length s → i + length (firstLine (drop i s)) ≤ length s
-  first-in h = omega (arith, first-short (drop i s), length-drop i s)
+  first-in h = omega (arith, length-first (drop i s), length-drop i s)
 
 -- nothing ends no line
 pub ends-nothing : (s : List ℕ) → length s ≡ 0 → false ≡ endsLine s

@@ -7,6 +7,7 @@ ghost use lib.ListN.{length, drop};
 ghost use Rattle.console.specs.Lines.{heldIn, kept, firstLine, endsLine};
 use octets::lesser;
 use octets::part;
+use octets::place_of;
 use octets::put;
 
 // The most bytes that are kept of an input line: a number of nine digits, a SPACE, and of the line behind them one byte more than the relay takes.
@@ -49,14 +50,8 @@ pub(crate) fn line_end(piece: &[u8], at: usize) -> usize
     requires { ⌜ at < length (now piece) ⌝ }
     ensures { λ r. ⌜ r ≡ at + length (firstLine (drop at (now (piece .entry)))) ⌝ }
 {
-    let mut i = at;
-    while i < piece.len() {
-        if piece[i] == b'\n' {
-            return i + 1;
-        }
-        i += 1;
-    }
-    i
+    let rest = part(piece, at, piece.len());
+    lesser(at + place_of(rest, b'\n') + 1, piece.len())
 }
 
 // Whether the last byte is LF.

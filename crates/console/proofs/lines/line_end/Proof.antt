@@ -1,55 +1,51 @@
--- `line_end` meets its contract. The invariant: what is left of the line from here comes to what was there at the start. Assumes nothing.
-use Prim.Native.Nat.{_+_, _-_, _≤_}
-use mathlib.Core.Path.{_≡_}
+-- `line_end` meets its contract: a line has the bytes before the first LF, and that one, unless the piece ends before it. Assumes nothing.
+use Prim.Native.Nat.{ℕ, _+_, _≤_}
+use mathlib.Core.Path.{_≡_, ap, _∙_}
+use mathlib.Core.List.{List}
 use native.Mathlib.Omega.{arith}
-use lib.ListN.{length, drop}
+use lib.ListN.{length, drop, length-drop}
 use borrow.Author.Needs.{needs}
-use Rattle.console.specs.Lines.{firstLine}
-use Rattle.console.proofs.Splitting.{first-past, first-stop, first-go}
+use Rattle.octets.specs.Bytes.{lf}
+use Rattle.octets.specs.Search.{before}
+use Rattle.octets.proofs.Room.{part-back}
+use Rattle.octets.proofs.Search.{before-within}
+use Rattle.console.proofs.Splitting.{length-first}
 use Rattle.console.proofs.lines.line_end.Statement.{statement}
 use Rattle.console.proofs.lines.line_end.Tie as tie
 
-abbrev Inv-loop : tie.InvT-loop
-Inv-loop piece at i₀ i = (i ≤ length piece) × (i + length (firstLine (drop i piece)) ≡ at + length (firstLine (drop at piece)))
+abbrev piece : tie.After-place-of → List ℕ
+piece c = c .before .before .before .args .piece .now
 
-abbrev μ-loop : tie.MeasureT-loop
-μ-loop piece at i₀ i = length piece - i
+abbrev at : tie.After-place-of → ℕ
+at c = c .before .before .before .args .at
 
-loop-holds : tie.Need-loop-holds Inv-loop μ-loop
-loop-holds c = omega arith
+-- the bytes from the place on
+abbrev rest : tie.After-place-of → List ℕ
+rest c = drop (at c) (piece c)
 
-shared-slice-read-if1 : tie.Need-shared-slice-read-if1 Inv-loop μ-loop
-shared-slice-read-if1 c = search needs
+found : (c : tie.After-place-of) → c .place-of .result ≡ length (before lf (rest c))
+found c = c .place-of .ensures ∙ ap (λ (l : List ℕ). length (before lf l)) (c .before .part .ensures .0 ∙ part-back _ _ _ (omega arith))
 
-add-result : tie.Need-add-result Inv-loop μ-loop
-add-result c = search needs
+inside : (c : tie.After-place-of) → at c + c .place-of .result ≤ length (piece c)
+inside c = omega (arith, found c, before-within lf (rest c), length-drop (at c) (piece c))
 
-returns : tie.Need-returns Inv-loop μ-loop
-returns c = omega (arith, first-stop (c .before .before .before .before .args .piece .now) (c .before .before .before .loop .i) (c .before .before .loop-test .taken) (c .if1 .taken))
+part-requires : tie.Need-part-requires
+part-requires c κs = search needs
 
-add-i : tie.Need-add-i Inv-loop μ-loop
-add-i c = search needs
+place-of-requires : tie.Need-place-of-requires
+place-of-requires c κs = search needs
 
-loop-less : tie.Need-loop-less Inv-loop μ-loop
-loop-less c = search needs
+add-lesser : tie.Need-add-lesser
+add-lesser c = omega (arith, inside c)
 
-loop-again : tie.Need-loop-again Inv-loop μ-loop
-loop-again c = omega (arith, first-go (c .before .before .before .before .args .piece .now) (c .before .before .before .loop .i) (c .before .before .loop-test .taken) (c .if1 .left))
+add-lesser-2 : tie.Need-add-lesser-2
+add-lesser-2 c = omega (arith, inside c)
 
-returns-2 : tie.Need-returns-2 Inv-loop μ-loop
-returns-2 c = omega (arith, first-past (c .before .before .args .piece .now) (c .before .loop .i) (c .loop-test .left))
+lesser-requires : tie.Need-lesser-requires
+lesser-requires c κs = search needs
+
+returns : tie.Need-returns
+returns c = let p = c .before in omega (arith, c .lesser .ensures, found p, length-first (rest p), length-drop (at p) (piece p))
 
 pub line-end-spec : {M : Type 1} → statement M
-line-end-spec =
-    tie.close
-    (tie.spec
-    Inv-loop
-    μ-loop
-    loop-holds
-    shared-slice-read-if1
-    add-result
-    returns
-    add-i
-    loop-less
-    loop-again
-    returns-2)
+line-end-spec = tie.close (tie.spec part-requires place-of-requires add-lesser add-lesser-2 lesser-requires returns)
