@@ -1,0 +1,13 @@
+-- `dropping` meets its contract: nothing padded is all padding. Assumes nothing.
+use mathlib.Core.Path.{refl}
+use Rattle.laws.specs.Lists.{padded}
+use Rattle.feed.specs.Feeder.{stateOf}
+use Rattle.feed.proofs.dropping.Statement.{statement}
+use Rattle.feed.proofs.dropping.Tie as tie
+
+returns : tie.Need-returns
+unfolding stateOf padded
+returns c = refl
+
+pub dropping-spec : {M : Type 1} → statement M
+dropping-spec = tie.close (tie.spec returns)
