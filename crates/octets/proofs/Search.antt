@@ -1,15 +1,18 @@
--- Laws of the first place of a byte: the bytes before it, that byte, and those behind it are all of them, and it isn't among those before it. Assumes nothing.
+-- Laws of the first place of a byte: the bytes before it, that byte, and those behind it are all of them, and it isn't among those before it; so bytes without it
+-- may be passed over, block by block. Assumes nothing.
 use mathlib.Core.Path.{_≡_, refl, sym, ap, _∙_}
-use mathlib.Core.Bool.{Bool, true, false, not}
+use mathlib.Core.Bool.{Bool, true, false}
 use mathlib.Core.List.{List, [], _∷_, _++_}
 use Prim.Native.Nat.{ℕ, zero, suc, _+_, _≤_, _<_}
 use native.Mathlib.Omega.{arith}
-use lib.ListN.{length, take, drop, getD, drop-of-length-le}
+use lib.ListN.{length, take, drop, getD, drop-of-length-le, take-append-drop}
+use lib.Seq.{length-take-le, take-add}
 use lib.Dec.{eqb}
-use borrow.Author.Tests.{eq-eqb, ne-eqb, eqb-true}
+use borrow.Author.Tests.{eq-eqb, ne-eqb, eqb-true, not-true}
 use Rattle.laws.specs.Lists.{all}
-use Rattle.laws.proofs.Lists.{drop-step}
-use Rattle.octets.specs.Search.{before}
+use Rattle.laws.proofs.Lists.{drop-step, all-head, all-tail, all-append}
+use Rattle.octets.specs.Search.{differs, before}
+use Rattle.octets.specs.Blocks.{blockLength, Clear}
 
 -- ---- at a place, for a loop
 module _ (b : ℕ) (s : List ℕ) (i : ℕ) where
@@ -27,12 +30,12 @@ module _ (b : ℕ) (s : List ℕ) (i : ℕ) where
 
 -- ---- the bytes divided
 -- b isn't among those before it
-pub before-none : (b : ℕ) (s : List ℕ) → all (λ x. not (eqb x b)) (before b s) ≡ true
+pub before-none : (b : ℕ) (s : List ℕ) → all (differs b) (before b s) ≡ true
 unfolding before all
 before-none b [] = refl
 before-none b (x ∷ s) = go (eqb x b) refl (before-none b s)
   where
-    go : (t : Bool) → eqb x b ≡ t → all (λ y. not (eqb y b)) (before b s) ≡ true → all (λ y. not (eqb y b)) (before b (x ∷ s)) ≡ true
+    go : (t : Bool) → eqb x b ≡ t → all (differs b) (before b s) ≡ true → all (differs b) (before b (x ∷ s)) ≡ true
     go true e ih = rw e
     go false e ih = rw (e, e) ih
 
@@ -65,3 +68,22 @@ before-then b (x ∷ s) = λ h. go (eqb x b) refl (before-then b s) h
         → length (before b (x ∷ s)) < suc (length s) → drop (length (before b (x ∷ s))) (x ∷ s) ≡ b ∷ drop (suc (length (before b (x ∷ s)))) (x ∷ s)
     go true e ih = rw e (λ h. ap (λ (y : ℕ). y ∷ s) (eqb-true x b e))
     go false e ih = rw e (λ h. ih (omega arith))
+
+-- behind bytes that are all others it is looked for in the rest
+before-behind : (b : ℕ) (u t : List ℕ) → all (differs b) u ≡ true → length (before b (u ++ t)) ≡ length u + length (before b t)
+unfolding before
+before-behind b [] t e = omega arith
+before-behind b (x ∷ u) t e = rw (not-true (eqb x b) (all-head (differs b) x u e)) (ap suc (before-behind b u t (all-tail (differs b) x u e)) ∙ omega arith)
+
+pub before-clear : (b : ℕ) (s : List ℕ) (at : ℕ) → Clear b s at → at + length (before b (drop at s)) ≡ length (before b s)
+before-clear b s at c =
+    let n : length (take at s) ≡ at = length-take-le at s (c .inside) in
+    sym (rw (take-append-drop at s, n) at (before-behind b (take at s) (drop at s) (c .clear)))
+
+-- ---- blocks
+pub clear-none : (b : ℕ) (s : List ℕ) → Clear b s 0
+unfolding all
+clear-none b s = record { inside = omega arith; clear = refl }
+
+pub clear-more : (b : ℕ) (s : List ℕ) (at : ℕ) → Clear b s at → at + blockLength ≤ length s → all (differs b) (take blockLength (drop at s)) ≡ true → Clear b s (at + blockLength)
+clear-more b s at c h e = record { inside = h; clear = rw (take-add at blockLength s) (all-append (differs b) (take at s) (take blockLength (drop at s)) (c .clear) e) }

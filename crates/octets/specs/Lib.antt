@@ -1,5 +1,6 @@
 pub mod Bytes
 pub mod Search
+pub mod Blocks
 pub mod Order
 pub mod Decimals
 pub mod Room

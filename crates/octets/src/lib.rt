@@ -3,12 +3,14 @@
 ghost use mathlib.Core.Path.{_≡_};
 ghost use mathlib.Core.Bool.{cond};
 ghost use Prim.Native.Nat.{_+_, _≤_, min};
-ghost use lib.ListN.{length, drop};
+ghost use lib.ListN.{length, take, drop};
+ghost use lib.Dec.{eqb};
 ghost use lib.Seq.{paste};
 ghost use denote.Ref.{ptr};
 ghost use Rattle.octets.specs.Bytes.{isZero, within, isPlain, isLetter, isIdByte, isNameByte, isKeyByte, inClass, capital as capitalOf};
 ghost use Rattle.laws.specs.Lists.{all};
-ghost use Rattle.octets.specs.Search.{before};
+ghost use Rattle.octets.specs.Search.{differs, before};
+ghost use Rattle.octets.specs.Blocks.{blockLength, Clear};
 ghost use Rattle.octets.specs.Order.{compare as compareOf};
 ghost use Rattle.octets.specs.Room.{part as partOf, placeIn, putAt, endOf};
 
@@ -16,6 +18,9 @@ pub mod decimals;
 
 // The byte of a bell, which no channel name holds.
 const BELL: u8 = 7;
+
+// How many bytes are looked at together in the search for one.
+const BLOCK: usize = 32;
 
 // What a byte may be, for `all_in`.
 pub enum Class {
@@ -172,11 +177,49 @@ pub fn zero_from(s: &[u8], from: usize) -> bool
     gathered(s, from) == 0
 }
 
-// The place of the first b, or the end where there is none.
+// 1 for the byte b, 0 for any other.
+fn is_b(x: u8, b: u8) -> u8
+    ensures { λ r. ⌜ r ≡ cond (eqb x b) 1 0 ⌝ }
+{
+    if x == b {
+        return 1;
+    }
+    0
+}
+
+// Whether b isn't among the bytes of a block, which stands at a place: an or over them, and one test.
+fn is_clear(s: &[u8], at: usize, b: u8) -> bool
+    requires { ⌜ at + blockLength ≤ length (now s) ⌝ }
+    ensures { λ r. ⌜ r ≡ all (differs b) (take blockLength (drop at (now (s .entry)))) ⌝ }
+{
+    let mut found = 0u8;
+    let mut i = 0;
+    while i < BLOCK {
+        found = found | is_b(s[at + i], b);
+        i += 1;
+    }
+    found == 0
+}
+
+// Where the blocks end that come first and don't have b.
+fn clear_end(s: &[u8], b: u8) -> usize
+    ensures { λ r. ⌜ Clear b (now (s .entry)) r ⌝ }
+{
+    let mut at = 0;
+    while BLOCK <= s.len() - at {
+        if !is_clear(s, at, b) {
+            return at;
+        }
+        at += BLOCK;
+    }
+    at
+}
+
+// The place of the first b, or the end where there is none. Blocks that don't have it are passed over first.
 pub fn place_of(s: &[u8], b: u8) -> usize
     ensures { λ r. ⌜ r ≡ length (before b (now (s .entry))) ⌝ }
 {
-    let mut i = 0;
+    let mut i = clear_end(s, b);
     while i < s.len() {
         if s[i] == b {
             return i;

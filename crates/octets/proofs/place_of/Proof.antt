@@ -5,7 +5,7 @@ use native.Mathlib.Omega.{arith}
 use lib.ListN.{length, drop}
 use borrow.Author.Needs.{needs}
 use Rattle.octets.specs.Search.{before}
-use Rattle.octets.proofs.Search.{before-past, before-stop, before-go}
+use Rattle.octets.proofs.Search.{before-past, before-stop, before-go, before-clear}
 use Rattle.octets.proofs.place_of.Statement.{statement}
 use Rattle.octets.proofs.place_of.Tie as tie
 
@@ -15,15 +15,18 @@ Inv-loop s b i₀ i = (i ≤ length s) × (i + length (before b (drop i s)) ≡ 
 abbrev μ-loop : tie.MeasureT-loop
 μ-loop s b i₀ i = length s - i
 
+clear-end-requires : tie.Need-clear-end-requires Inv-loop μ-loop
+clear-end-requires c κs = search needs
+
 loop-holds : tie.Need-loop-holds Inv-loop μ-loop
-loop-holds c = omega arith
+loop-holds c = let e = c .clear-end .ensures in (e .inside, before-clear _ _ _ e)
 
 shared-slice-read-if1 : tie.Need-shared-slice-read-if1 Inv-loop μ-loop
 shared-slice-read-if1 c = search needs
 
 returns : tie.Need-returns Inv-loop μ-loop
 returns c =
-    let a = c .before .before .before .before .args in
+    let a = c .before .before .before .before .before .before .args in
     omega (arith, before-stop (a .b) (a .s .now) (c .before .before .before .loop .i) (c .before .before .loop-test .taken) (c .if1 .taken))
 
 add-i : tie.Need-add-i Inv-loop μ-loop
@@ -34,11 +37,11 @@ loop-less c = search needs
 
 loop-again : tie.Need-loop-again Inv-loop μ-loop
 loop-again c =
-    let a = c .before .before .before .before .args in
+    let a = c .before .before .before .before .before .before .args in
     omega (arith, before-go (a .b) (a .s .now) (c .before .before .before .loop .i) (c .before .before .loop-test .taken) (c .if1 .left))
 
 returns-2 : tie.Need-returns-2 Inv-loop μ-loop
-returns-2 c = let a = c .before .before .args in omega (arith, before-past (a .b) (a .s .now) (c .before .loop .i) (c .loop-test .left))
+returns-2 c = let a = c .before .before .before .before .args in omega (arith, before-past (a .b) (a .s .now) (c .before .loop .i) (c .loop-test .left))
 
 pub place-of-spec : {M : Type 1} → statement M
-place-of-spec = tie.close (tie.spec Inv-loop μ-loop loop-holds shared-slice-read-if1 returns add-i loop-less loop-again returns-2)
+place-of-spec = tie.close (tie.spec Inv-loop μ-loop clear-end-requires loop-holds shared-slice-read-if1 returns add-i loop-less loop-again returns-2)
