@@ -4,7 +4,7 @@ use Prim.Native.Nat.{ℕ, _+_, _-_, _*_, _/_}
 use mathlib.Core.List.{List, [], _∷_, _++_}
 use lib.ListN.{length}
 use Rattle.names.specs.Names.{nameLimit, userIdLength}
-use Rattle.message.specs.Grammar.{paramLimit}
+use Rattle.message.specs.Grammar.{lineLimit, paramLimit}
 use Rattle.channel.specs.Limits.{memberLimit, keyLimit, slotCount}
 use Rattle.wording.specs.Wording.{textLimit}
 
@@ -104,6 +104,14 @@ taken = struct table ∷ long ∷ word ∷ word ∷ byte ∷ []
 abbrev pub text : List Kind
 text = array textLimit byte ∷ long ∷ []
 
+-- Feeder: the room for a line, the length of what is kept of it, whether it is dropped
+abbrev pub feeder : List Kind
+feeder = array lineLimit byte ∷ long ∷ byte ∷ []
+
+-- Fed: the state after, how many bytes were used, the room for a line, its length, then the number
+abbrev pub fed : List Kind
+fed = struct feeder ∷ long ∷ array lineLimit byte ∷ long ∷ byte ∷ []
+
 -- ---- all numbers, and how many they are first
 unfoldable pub numbers : List ℕ
 unfolding numbersOf
@@ -123,6 +131,8 @@ numbers =
     ++ numbersOf (numbered long)
     ++ numbersOf (numbered long)
     ++ numbersOf text
+    ++ numbersOf feeder
+    ++ numbersOf fed
 
 unfoldable pub layout : List ℕ
 layout = length numbers ∷ numbers

@@ -5,7 +5,7 @@ ghost use lib.ListN.{getD};
 ghost use Rattle.capi.specs.Layout.{layout};
 
 // How many numbers there are, this one counted.
-const COUNT: usize = 100;
+const COUNT: usize = 118;
 
 // The number k, or 0 past the last: how many there are after it, then of each struct the place and the size of each field, and its own size.
 pub fn number(k: usize) -> usize
@@ -15,7 +15,7 @@ pub fn number(k: usize) -> usize
         return 0;
     }
     let numbers = [
-        99usize,
+        117usize,
         0, // Span.start
         8,
         8, // Span.end
@@ -115,6 +115,24 @@ pub fn number(k: usize) -> usize
         48, // Text.len
         8,
         56, // Text
+        0, // Feeder.bytes
+        512,
+        512, // Feeder.len
+        8,
+        520, // Feeder.dropping
+        1,
+        528, // Feeder
+        0, // Fed.state
+        528,
+        528, // Fed.used
+        8,
+        536, // Fed.line
+        512,
+        1048, // Fed.len
+        8,
+        1056, // Fed.number
+        1,
+        1064, // Fed
     ];
     numbers[k]
 }

@@ -11,6 +11,8 @@ ghost use Rattle.octets.specs.Room.{front};
 ghost use Rattle.octets.specs.Order.{compare as compareOf, isLess};
 ghost use Rattle.message.specs.Reading.{countOf, messageOf};
 ghost use Rattle.message.specs.Parts.{contentBy};
+ghost use Rattle.feed.specs.Lines.{nothing};
+ghost use Rattle.feed.specs.Feeder.{stateOf, feedAnswer};
 ghost use Rattle.writer.specs.Form.{written};
 ghost use Rattle.writer.specs.Writing.{writeRules, answerFor as writeAnswer};
 ghost use Rattle.names.specs.Fold.{sameName};
@@ -28,6 +30,8 @@ ghost use Rattle.capi.specs.Describing.{describeRules};
 ghost use Rattle.capi.specs.Layout.{layout as layoutOf};
 use channel::Merged;
 use channel::Record;
+use feed::Fed;
+use feed::Feeder;
 use glob::Match;
 use journal::Logged;
 use message::Message;
@@ -86,6 +90,22 @@ pub extern "C" fn relay_parts(line: &[u8]) -> Message
     ensures { λ r. ⌜ r ≡ messageOf (now (line .entry)) ⌝ }
 {
     message::parts(line)
+}
+
+// The feeder of a link that no byte has come by.
+#[no_mangle]
+pub extern "C" fn relay_empty_feeder() -> Feeder
+    ensures { λ r. ⌜ r ≡ stateOf nothing ⌝ }
+{
+    Feeder::empty()
+}
+
+// Makes bytes into lines: takes them up to and with the first that yields something, else all.
+#[no_mangle]
+pub extern "C" fn relay_feed(state: Feeder, bytes: &[u8]) -> Fed
+    ensures { λ r. ⌜ r ≡ feedAnswer state (now (bytes .entry)) ⌝ }
+{
+    feed::feed(state, bytes)
 }
 
 // Writes a message to the front of the output.
