@@ -26,6 +26,13 @@ static void print_words(uint8_t number)
     print(relay_bytes_of(words.bytes, words.len));
 }
 
+/* Prints that something is refused, the number and its words. */
+static void print_refusal(uint8_t number)
+{
+    printf("refused by %d, ", number);
+    print_words(number);
+}
+
 /* Prints the links of a set, a comma between them. */
 static void print_links(uint32_t set)
 {
@@ -38,14 +45,14 @@ static void print_links(uint32_t set)
 }
 
 /* Hands a line to the relay and prints what is to be sent, and where. A real program would send it. */
-static void take(relay_table *table, uint32_t link, const char *line)
+static void take(relay_table *table, uint32_t link, relay_bytes line)
 {
     uint8_t out[RELAY_LINE];
-    relay_answer answer = relay_table_take(table, link, text(line), relay_room_of(out, sizeof out));
+    relay_answer answer = relay_table_take(table, link, line, relay_room_of(out, sizeof out));
     if (answer.number != RELAY_ACCEPTED) {
-        printf("refused by %d, ", answer.number);
-        print_words(answer.number);
-        printf(": %s", line);
+        print_refusal(answer.number);
+        printf(": ");
+        print(line);
         return;
     }
     printf("to %" PRIu32 " links, ", answer.count);
@@ -84,15 +91,45 @@ static relay_table morning(void)
     printf(" %d", relay_table_register(&table, 5));
     printf(" and above 31: %d\n", relay_table_register(&table, RELAY_LINKS));
 
-    take(&table, 5, ":2CD SJOIN 1000 #Race +k buoy @2CDAAAAAA\r\n");
-    take(&table, 3, ":1AB SJOIN 1200 #race +nt :@1ABAAAAAA 1ABAAAAAB\r\n");
+    take(&table, 5, text(":2CD SJOIN 1000 #Race +k buoy @2CDAAAAAA\r\n"));
+    take(&table, 3, text(":1AB SJOIN 1200 #race +nt :@1ABAAAAAA 1ABAAAAAB\r\n"));
     print_channels(&table);
-    take(&table, 3, ":1ABAAAAAA part #RACE :gone home\r\n");
-    take(&table, 3, ":1ABAAAAAA PART #race\r\n");
-    take(&table, 4, ":1ABAAAAAB QUIT\r\n");
-    take(&table, 3, ":1ABAAAAAB QUIT\r\n");
+    take(&table, 3, text(":1ABAAAAAA part #RACE :gone home\r\n"));
+    take(&table, 3, text(":1ABAAAAAA PART #race\r\n"));
+    take(&table, 4, text(":1ABAAAAAB QUIT\r\n"));
+    take(&table, 3, text(":1ABAAAAAB QUIT\r\n"));
     print_channels(&table);
     return table;
+}
+
+/* Takes each line that is whole with the bytes that came in by a link; what is unfinished stays in the link's feeder. */
+static void receive(relay_table *table, uint32_t link, relay_feeder *feeder, relay_bytes bytes)
+{
+    relay_fed fed;
+    while (relay_next_line(feeder, &bytes, &fed)) {
+        if (fed.number == RELAY_ACCEPTED) {
+            take(table, link, relay_bytes_of(fed.line, fed.len));
+        } else {
+            print_refusal(fed.number);
+            printf("\n");
+        }
+    }
+    printf("number %d, %zu bytes left, %zu kept\n", fed.number, bytes.len, feeder->len);
+}
+
+/* Bytes as a radio gives them, cut anywhere: a line without CR, one that is too long, and at last a feeder that no bytes reach. */
+static void pieces(relay_table *table)
+{
+    relay_feeder feeder = relay_empty_feeder();
+    uint8_t noise[RELAY_LINE];
+    memset(noise, 'x', sizeof noise);
+    receive(table, 3, &feeder, text(":1AB SJOIN 1300 #ra"));
+    receive(table, 3, &feeder, text("ce + 1ABAAAAAC\r"));
+    receive(table, 3, &feeder, text("\n:1ABAAAAAC QUIT\n:1ABAAAAAC "));
+    receive(table, 3, &feeder, relay_bytes_of(noise, sizeof noise));
+    receive(table, 3, &feeder, text("\r\n:1ABAAAAAC QUIT\r\n"));
+    feeder.len = RELAY_LINE + 1;
+    receive(table, 3, &feeder, text("\r\n"));
 }
 
 /* A channel found by its name, and told as a text; and where there is none, or no room. */
@@ -114,7 +151,7 @@ static void merge(const relay_table *table)
 {
     relay_table apart = relay_empty_table();
     relay_table_register(&apart, 0);
-    take(&apart, 0, ":3EF SJOIN 1000 #race +kl buoys 20 :+2CDAAAAAA @3EFAAAAAA\r\n");
+    take(&apart, 0, text(":3EF SJOIN 1000 #race +kl buoys 20 :+2CDAAAAAA @3EFAAAAAA\r\n"));
     relay_record both = table->slots[0];
     printf("merged: %d\n", relay_record_merge(&both, &apart.slots[0]));
     print_channel(&both);
@@ -175,6 +212,7 @@ int main(void)
     }
     printf("version %s\n", RELAY_VERSION);
     relay_table table = morning();
+    pieces(&table);
     describe(&table);
     merge(&table);
     parts();

@@ -70,6 +70,8 @@ try 'what it prints' as_told
 # A key that is one byte shorter moves no field: it is the size of the field that tells.
 try 'a header with shorter keys is noticed' notices 'RELAY_KEY = 23' 'RELAY_KEY = 22'
 try 'a header that hands back the second of equal keys is noticed' notices 'relay_key_less(a, b) ? b : a' 'relay_key_less(b, a) ? a : b'
+try 'a header with another feeder is noticed' notices 'bool dropping;' 'uint16_t dropping;'
+try 'a header whose loop ends at a line that is too long is noticed' notices 'fed->len != 0 || fed->number == RELAY_LINE_TOO_LONG' 'fed->len != 0'
 try 'the stack that the header says is enough' fits -O2
 try 'the stack that the header says is enough, without optimisation' fits -O0
 try 'too little stack is noticed' overflows

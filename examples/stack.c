@@ -105,6 +105,22 @@ static void lines(void)
     expect(relay_log(3, bytes, room()).number, 0, "log");
 }
 
+/* A line as long as can be, and one that is longer. */
+static void feeds(void)
+{
+    relay_feeder feeder = relay_empty_feeder();
+    relay_bytes bytes = relay_bytes_of(line, 2 * RELAY_LINE), more = text("x");
+    relay_fed fed;
+    memset(line, 'x', 2 * RELAY_LINE);
+    line[RELAY_LINE - 1] = '\n';
+    expect(relay_next_line(&feeder, &bytes, &fed), 1, "a line");
+    expect((int)fed.len, RELAY_LINE, "its length");
+    expect(relay_next_line(&feeder, &bytes, &fed), 0, "an unfinished one");
+    expect((int)feeder.len, RELAY_LINE, "what is kept");
+    expect(relay_next_line(&feeder, &more, &fed), 1, "a longer one");
+    expect(fed.number, RELAY_LINE_TOO_LONG, "its number");
+}
+
 static void others(void)
 {
     expect(relay_same_name(text("#A["), text("#a{")), 1, "same name");
@@ -127,7 +143,7 @@ static void on_stack(void *stack, void (*call)(void))
 
 int main(void)
 {
-    void (*const calls[])(void) = { registers, joins, records, leaves, lines, others };
+    void (*const calls[])(void) = { registers, joins, records, leaves, lines, feeds, others };
     char *memory = mmap(NULL, GUARD + RELAY_STACK, PROT_NONE, MAP_PRIVATE | MAP_ANONYMOUS, -1, 0);
     if (memory == MAP_FAILED || mprotect(memory + GUARD, RELAY_STACK, PROT_READ | PROT_WRITE) != 0) {
         printf("no memory\n");

@@ -6,31 +6,39 @@
  *         cc -Iinclude yours.c target/staticlib/libcapi.a
  *
  * What it is. The relay holds one table: sixteen channels and the registered links, numbered 0 to 31. You hand it each line that comes
- * in by a link; it folds the line into the table and answers the line to send on, and to which links. It reads and writes no socket and
- * no file, has no heap, no globals and no threads: every answer depends on the arguments alone, so calls may run side by side as long
- * as nothing that one of them writes is read or written by another. Allow RELAY_STACK bytes of stack, 128 KB, for a call of any function
- * here, its arguments and its answer included; the benchmark in rust/ prints how much each takes.
+ * in by a link; it folds the line into the table and answers the line to send on, and to which links. A feeder, one for each link, makes
+ * lines of the bytes that come in, however they are cut. The relay reads and writes no socket and no file, has no heap, no globals and no
+ * threads: every answer depends on the arguments alone, so calls may run side by side as long as nothing that one of them writes is read
+ * or written by another. Allow RELAY_STACK bytes of stack, 128 KB, for a call of any function here, its arguments and its answer
+ * included; the benchmark in rust/ prints how much each takes.
  *
- *     relay_table table = relay_empty_table();
- *     uint8_t out[RELAY_LINE];
  *     if (!relay_layout_matches()) abort();            -- once, before the first call
+ *     relay_table table = relay_empty_table();
  *     relay_table_register(&table, 3);
- *     relay_answer answer = relay_table_take(&table, 3, relay_bytes_of(line, length), relay_room_of(out, sizeof out));
- *     if (answer.number == RELAY_ACCEPTED)
- *         for (uint32_t link = 0; link < RELAY_LINKS; link++)
- *             if (answer.set >> link & 1) send_to(link, out, answer.len);
+ *     relay_feeder feeder = relay_empty_feeder();      -- what link 3 has sent of a line that isn't whole yet
+ *
+ *     relay_bytes bytes = relay_bytes_of(got, length); -- whenever some have come in by link 3
+ *     relay_fed fed;
+ *     uint8_t out[RELAY_LINE];
+ *     while (relay_next_line(&feeder, &bytes, &fed)) {
+ *         if (fed.number != RELAY_ACCEPTED) continue;  -- a line over 512 bytes, which is dropped
+ *         relay_answer answer = relay_table_take(&table, 3, relay_bytes_of(fed.line, fed.len), relay_room_of(out, sizeof out));
+ *         if (answer.number == RELAY_ACCEPTED)
+ *             for (uint32_t link = 0; link < RELAY_LINKS; link++)
+ *                 if (answer.set >> link & 1) send_to(link, out, answer.len);
+ *     }
  *
  * What it promises. Any bytes, on any link, with any table, get one answer. Bad input is refused by one of the numbers below, the lowest
- * that applies; then nothing is changed: the table is as before, every lent buffer too, and sets, counts and lengths are 0. What is
- * accepted puts its output at the front of the lent room and leaves the rest of the room as it was. These promises are proved of the
- * library; this header is not part of the proof, so `relay_layout_matches` compares the two.
+ * that applies; then nothing is changed: table and feeder are as before, every lent buffer too, and sets, counts and lengths are 0.
+ * What is accepted puts its output at the front of the lent room and leaves the rest of the room as it was. These promises are proved of
+ * the library; this header is not part of the proof, so `relay_layout_matches` compares the two.
  *
  * What you owe it.
  *  - A pointer is never NULL, not even with the length 0 (`relay_bytes_of` and `relay_room_of` see to that), and as many bytes as the
  *    length says can be read there; of a relay_room they can be written too.
  *  - The room that a call writes doesn't overlap the bytes that it reads, and nothing else writes either during the call.
- *  - A bool is 0 or 1, as C's own are. Everything else may hold any value: tables from disk and lengths that are too large are refused
- *    by a number.
+ *  - A bool is 0 or 1, as C's own are. Everything else may hold any value: tables and feeders from disk and lengths that are too large
+ *    are refused by a number.
  *
  * The words. A link is a connection to another relay. A line is what came in, CR LF included. SPACE is the byte 32.
  */
@@ -72,10 +80,10 @@ enum {
 
 enum {
     RELAY_ACCEPTED = 0,
-    RELAY_NOT_WELL_FORMED = 1,     /* table or record not well formed */
+    RELAY_NOT_WELL_FORMED = 1,     /* table or record not well formed; a feeder that no bytes reach */
     RELAY_OUTPUT_TOO_SHORT = 2,    /* lent output under 512 bytes */
     RELAY_BAD_LINK = 3,            /* link above 31, or, of a line that is taken, not registered */
-    RELAY_LINE_TOO_LONG = 4,       /* line over 512 bytes */
+    RELAY_LINE_TOO_LONG = 4,       /* line over 512 bytes; a feeder yields it in the line's place */
     RELAY_NO_LINE_END = 5,         /* no CR LF at the end */
     RELAY_FORBIDDEN_BYTE = 6,      /* NUL, CR or LF before it */
     RELAY_EMPTY_LINE = 7,          /* only CR LF */
@@ -171,6 +179,42 @@ relay_message relay_parts(relay_bytes line);
  * starts with ':' or holds a SPACE, CR LF at the end. The command is written as it is spelled. Numbers 2, 24, 25.
  */
 relay_written relay_write(relay_bytes text, relay_message message, relay_room out);
+
+/* ---- bytes to lines ---- */
+
+/*
+ * The line under way: what is kept of it until its LF comes. Bytes reach exactly these from the empty one: 0 to 512 bytes kept, none of
+ * them LF, and not dropping; or dropping, and none kept; all room past the length zero. The empty one is all zero.
+ */
+typedef struct relay_feeder {
+    uint8_t bytes[RELAY_LINE];
+    size_t len;
+    bool dropping;  /* the line is too long, and what is left of it is dropped */
+} relay_feeder;
+
+/*
+ * What came of bytes that were fed: the feeder after, how many bytes were used, and what they yielded. It is a line where len is not 0,
+ * with its LF, and its CR if one came, the rest of the room zero; a refusal where the number is 4; else nothing.
+ */
+typedef struct relay_fed {
+    relay_feeder state;
+    size_t used;
+    uint8_t line[RELAY_LINE];
+    size_t len;
+    uint8_t number;
+} relay_fed;
+
+/* Nothing kept: where a link begins, and begins anew. */
+relay_feeder relay_empty_feeder(void);
+
+/*
+ * Feeds bytes as they came in, up to and with the first that yields something, else all of them; `relay_next_line` makes a loop of it.
+ * LF ends a line, and the line is yielded, with or without a CR before it: `relay_read` gives 5 without one. The 513th byte of a line, LF
+ * or not, yields one refusal by 4, and the line is dropped up to and with its LF; the feeder moves on, since 4 is yielded here and not
+ * refused. What is yielded, and what is kept at the end, depends on the bytes alone and never on how they are cut. Number 1 for a feeder
+ * that no bytes reach: it is as given then, and no byte is used.
+ */
+relay_fed relay_feed(relay_feeder state, relay_bytes bytes);
 
 /* ---- names, masks and keys: any bytes ---- */
 
@@ -375,6 +419,22 @@ static inline relay_bytes relay_param(relay_bytes line, size_t k)
     return relay_part(line, relay_parts(line).params[k]);
 }
 
+/* ---- inline: the next line ---- */
+
+/*
+ * As `relay_feed`, for a loop: moves the feeder on, takes the used bytes off the front and says whether something was yielded, a line
+ * where fed->number is 0 and else a refusal by 4. It says no when the bytes are used up; and at once, fed->number being 1, of a feeder
+ * that no bytes reach.
+ */
+static inline bool relay_next_line(relay_feeder *feeder, relay_bytes *bytes, relay_fed *fed)
+{
+    *fed = relay_feed(*feeder, *bytes);
+    *feeder = fed->state;
+    bytes->ptr += fed->used;
+    bytes->len -= fed->used;
+    return fed->len != 0 || fed->number == RELAY_LINE_TOO_LONG;
+}
+
 /* ---- inline: the greater of two keys ---- */
 
 /* The very bytes that were lent, not a copy; the first key where they are equal. */
@@ -471,7 +531,10 @@ static inline bool relay_layout_matches(void)
         RELAY_FIELD(relay_taken, count), RELAY_FIELD(relay_taken, number), sizeof(relay_taken),
         RELAY_FIELD(relay_logged, number), RELAY_FIELD(relay_logged, size), sizeof(relay_logged),
         RELAY_FIELD(relay_found, number), RELAY_FIELD(relay_found, slot), sizeof(relay_found),
-        RELAY_FIELD(relay_text, bytes), RELAY_FIELD(relay_text, len), sizeof(relay_text)
+        RELAY_FIELD(relay_text, bytes), RELAY_FIELD(relay_text, len), sizeof(relay_text),
+        RELAY_FIELD(relay_feeder, bytes), RELAY_FIELD(relay_feeder, len), RELAY_FIELD(relay_feeder, dropping), sizeof(relay_feeder),
+        RELAY_FIELD(relay_fed, state), RELAY_FIELD(relay_fed, used), RELAY_FIELD(relay_fed, line), RELAY_FIELD(relay_fed, len),
+        RELAY_FIELD(relay_fed, number), sizeof(relay_fed)
     };
     const size_t count = sizeof numbers / sizeof numbers[0];
     size_t k;
