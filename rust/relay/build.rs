@@ -1,6 +1,6 @@
 //! Links the core's static library, which `rt staticlib capi` writes. Another folder can be named by
 //! the variable RELAY_LIB_DIR. RELAY_EARLIER_LIB names the file of an earlier library, which is
-//! linked beside it for the benchmark, its symbols renamed.
+//! linked beside it for the benchmark, its symbols renamed. It may lack the feeder's functions.
 
 use std::env;
 use std::ffi::OsString;
@@ -20,18 +20,31 @@ fn main() {
         );
         return;
     }
-    let prefix = match variable("RELAY_EARLIER_LIB") {
+    let (prefix, feeder_prefix) = match variable("RELAY_EARLIER_LIB") {
         None => {
             link(&library, &folder, "capi");
-            ""
+            ("", "")
         }
         Some(earlier) => {
+            let earlier = Path::new(&earlier);
             link_aligned(&library, "capi", "");
-            link_aligned(Path::new(&earlier), "earlier_capi", PREFIX);
-            PREFIX
+            link_aligned(earlier, "earlier_capi", PREFIX);
+            (PREFIX, if has(earlier, "relay_feed") { PREFIX } else { "" })
         }
     };
     println!("cargo::rustc-env=RELAY_EARLIER_PREFIX={prefix}");
+    println!("cargo::rustc-env=RELAY_EARLIER_FEEDER_PREFIX={feeder_prefix}");
+}
+
+/// Whether a library has a function.
+fn has(library: &Path, function: &str) -> bool {
+    let output = Command::new("nm")
+        .args([Path::new("--defined-only"), library])
+        .output()
+        .expect("nm, of the binutils, can be run");
+    assert!(output.status.success(), "nm failed on {}", library.display());
+    let symbol = format!(" T {function}");
+    String::from_utf8_lossy(&output.stdout).lines().any(|line| line.ends_with(&symbol))
 }
 
 /// A variable that, where it changes, has this run again.

@@ -1,10 +1,11 @@
-// The functions of a library, called safely: included once for each library, after `functions!`.
+// The functions of a library, called safely: included once for each library, after `functions!` and
+// `feeder_functions!`.
 
 use crate::ffi::{Bytes, Room};
 use crate::layout;
 use crate::types::{
-    Answer, Found, LineRead, Logged, Matched, Merged, Message, Record, Registered, Table, Taken,
-    Text, Written,
+    Answer, Fed, Feeder, Found, LineRead, Logged, Matched, Merged, Message, Record, Registered,
+    Table, Taken, Text, Written,
 };
 
 /// A number of the library's layout of the structs, 0 past the last.
@@ -52,6 +53,18 @@ pub fn param(line: &[u8], index: usize) -> &[u8] {
 pub fn write(text: &[u8], message: &Message, out: &mut [u8]) -> Written {
     // SAFETY: text and output are lent for the call; the borrows say that they don't overlap.
     unsafe { relay_write(Bytes::of(text), *message, Room::of(out)) }
+}
+
+/// The feeder that keeps nothing.
+pub fn empty_feeder() -> Feeder {
+    // SAFETY: only plain data comes back.
+    unsafe { relay_empty_feeder() }
+}
+
+/// Feeds bytes, up to and with the first that yields something, else all of them.
+pub fn feed(state: &Feeder, bytes: &[u8]) -> Fed {
+    // SAFETY: the bytes are lent for the call.
+    unsafe { relay_feed(*state, Bytes::of(bytes)) }
 }
 
 /// Whether two names are equal.

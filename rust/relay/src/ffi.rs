@@ -31,7 +31,7 @@ impl<'a> Room<'a> {
 }
 
 /// Declares the functions of a library in whose symbols the prefix stands before each name. The
-/// build script takes the names from here.
+/// build script takes the names from here, and from `feeder_functions`.
 macro_rules! functions {
     ($prefix:expr) => {
         extern "C" {
@@ -67,6 +67,18 @@ macro_rules! functions {
             fn relay_log(link: u32, line: Bytes, log: Room) -> Logged;
             #[link_name = concat!($prefix, "relay_layout")]
             fn relay_layout(k: usize) -> usize;
+        }
+    };
+}
+
+/// Declares the functions that make bytes into lines, which an earlier library may lack.
+macro_rules! feeder_functions {
+    ($prefix:expr) => {
+        extern "C" {
+            #[link_name = concat!($prefix, "relay_empty_feeder")]
+            fn relay_empty_feeder() -> Feeder;
+            #[link_name = concat!($prefix, "relay_feed")]
+            fn relay_feed(state: Feeder, bytes: Bytes) -> Fed;
         }
     };
 }

@@ -11,33 +11,87 @@ mod layout;
 mod types;
 
 pub use types::{
-    Answer, Found, LineRead, Links, Logged, Matched, Member, Merged, Message, Record, Registered,
-    Span, Table, Taken, Text, Written,
+    Answer, Fed, Feeder, Found, LineRead, Links, Logged, Matched, Member, Merged, Message, Record,
+    Registered, Span, Table, Taken, Text, Written,
 };
 
 /// The number of an answer that is no refusal.
 pub const ACCEPTED: u8 = 0;
 
+/// The number of a line over 512 bytes, which a feeder yields in the line's place.
+pub const LINE_TOO_LONG: u8 = 4;
+
 /// The library's functions.
 mod current {
     functions!("");
+    feeder_functions!("");
     include!("calls.rs");
 }
 
 pub use current::{
-    command, describe, empty_table, find, greater_key, layout_matches, layout_number, log, matches,
-    merge, param, parts, prefix, process, read, refusal_text, register, same_name, take,
-    unregister, write,
+    command, describe, empty_feeder, empty_table, feed, find, greater_key, layout_matches,
+    layout_number, log, matches, merge, param, parts, prefix, process, read, refusal_text,
+    register, same_name, take, unregister, write,
 };
 
 /// The same functions of an earlier library, for the benchmark: of the one that the variable
-/// RELAY_EARLIER_LIB names when this is built. Without it they are those of the library itself.
+/// RELAY_EARLIER_LIB names when this is built. Without it, and where it lacks the feeder, they are
+/// those of the library itself.
 pub mod earlier {
     /// Whether there is an earlier library.
     pub const IS_GIVEN: bool = !env!("RELAY_EARLIER_PREFIX").is_empty();
 
+    /// Whether there is one that makes bytes into lines.
+    pub const HAS_FEEDER: bool = !env!("RELAY_EARLIER_FEEDER_PREFIX").is_empty();
+
     functions!(env!("RELAY_EARLIER_PREFIX"));
+    feeder_functions!(env!("RELAY_EARLIER_FEEDER_PREFIX"));
     include!("calls.rs");
+
+    /// Whether it lays out as this crate does every struct that its functions have. Without the
+    /// feeder it may lack the last ones of ours.
+    pub fn layout_fits() -> bool {
+        if HAS_FEEDER {
+            layout_matches()
+        } else {
+            layout::begins(layout_number)
+        }
+    }
+}
+
+impl Feeder {
+    /// Nothing kept.
+    pub fn empty() -> Feeder {
+        empty_feeder()
+    }
+
+    /// Feeds bytes up to and with the first that yields something, and takes those off the front:
+    /// `Some` has a line where its number is 0, else the refusal of one by 4; with `None` the bytes
+    /// are used up. A feeder that no bytes reach gets the error 1, and no byte is used.
+    ///
+    /// ```
+    /// # fn main() -> Result<(), u8> {
+    /// let mut feeder = relay::Feeder::empty();
+    /// let mut lines = Vec::new();
+    /// for mut bytes in [b"PING\r".as_slice(), b"\nPART #a\r\nQU", b"IT\n"] {
+    ///     while let Some(fed) = feeder.next_line(&mut bytes)? {
+    ///         lines.push(fed.line().to_vec());
+    ///     }
+    /// }
+    /// assert_eq!(lines, [b"PING\r\n".as_slice(), b"PART #a\r\n", b"QUIT\n"]);
+    /// # Ok(())
+    /// # }
+    /// ```
+    pub fn next_line(&mut self, bytes: &mut &[u8]) -> Result<Option<Fed>, u8> {
+        let fed = feed(self, bytes);
+        *self = fed.state;
+        *bytes = &bytes[fed.used..];
+        match fed.number {
+            ACCEPTED => Ok((fed.len != 0).then_some(fed)),
+            LINE_TOO_LONG => Ok(Some(fed)),
+            number => Err(number),
+        }
+    }
 }
 
 impl Table {

@@ -57,6 +57,35 @@ pub struct Matched {
     pub yes: bool,
 }
 
+/// The line under way: what is kept of it until its LF comes. Any value can be fed; one that no
+/// bytes reach is refused by 1.
+#[repr(C)]
+#[derive(Clone, Copy, Debug, PartialEq, Eq)]
+pub struct Feeder {
+    /// The bytes that are kept, none of them LF, then zeros.
+    pub bytes: [u8; 512],
+    /// The number of bytes that are kept.
+    pub len: usize,
+    /// Whether the line is too long, and what is left of it is dropped.
+    pub dropping: bool,
+}
+
+/// What came of bytes that were fed.
+#[repr(C)]
+#[derive(Clone, Copy, Debug, PartialEq, Eq)]
+pub struct Fed {
+    /// The feeder after, or as given.
+    pub state: Feeder,
+    /// How many of the bytes were used.
+    pub used: usize,
+    /// The line that was yielded, then zeros.
+    pub line: [u8; 512],
+    /// The length of the line, 0 where none was yielded.
+    pub len: usize,
+    /// 4 where the refusal of a line was yielded, 1 for a feeder that no bytes reach, or 0.
+    pub number: u8,
+}
+
 /// A user in a channel.
 #[repr(C)]
 #[derive(Clone, Copy, Debug, PartialEq, Eq)]
@@ -186,6 +215,13 @@ pub struct Text {
     pub bytes: [u8; 48],
     /// The length of the words.
     pub len: usize,
+}
+
+impl Fed {
+    /// The line that was yielded, LF included, or no bytes.
+    pub fn line(&self) -> &[u8] {
+        &self.line[..self.len]
+    }
 }
 
 impl Text {
