@@ -1,4 +1,5 @@
-//! The relay's rules in plain Rust, written from document 01 and from nothing else.
+//! The relay's rules in plain Rust, written from document 01 and, for what was added, from document
+//! 02, and from nothing else.
 //!
 //! The proved core is compared with this model. So nothing here is taken from the core's source or
 //! its definitions, and where two ways were open the one nearer to the paper's words was taken.
@@ -7,6 +8,7 @@
 #![forbid(unsafe_code)]
 
 pub mod channel;
+pub mod feeder;
 pub mod journal;
 pub mod line;
 pub mod mask;
@@ -18,5 +20,6 @@ pub mod sjoin;
 pub mod table;
 
 pub use channel::{Member, Record};
+pub use feeder::Feeder;
 pub use refusal::Refusal;
 pub use table::Table;

@@ -4,13 +4,13 @@
 #[derive(Clone, Copy, Debug, PartialEq, Eq)]
 #[repr(u8)]
 pub enum Refusal {
-    /// table or record not well formed
+    /// table or record not well formed; a feeder's state that no bytes reach
     IllFormed = 1,
     /// lent output under 512 bytes (line writer, commands)
     ShortOutput = 2,
     /// link above 31 (commands, registering, dropping, log), or (commands) not registered
     BadLink = 3,
-    /// line over 512 bytes (reader, log)
+    /// line over 512 bytes (reader, log; the feeder yields it)
     LongLine = 4,
     /// no CR LF at the end
     NoLineEnd = 5,

@@ -1,6 +1,9 @@
 //! The same value in the core's types and in the model's.
 
+use model::feeder;
 use model::line;
+use model::refusal::number_of;
+use model::Refusal;
 
 /// A record of the model in the core's type.
 pub fn core_record(r: &model::Record) -> relay::Record {
@@ -23,6 +26,29 @@ pub fn core_table(t: &model::Table) -> relay::Table {
         slots: std::array::from_fn(|k| core_record(&t.slots[k])),
         links: relay::Links { set: t.links },
     }
+}
+
+/// A feeder of the model in the core's type.
+pub fn core_feeder(f: &model::Feeder) -> relay::Feeder {
+    relay::Feeder { bytes: f.bytes, len: f.len, dropping: f.dropping }
+}
+
+/// The state after bytes were fed and what came of them, of the model, in the core's type.
+pub fn core_fed(after: &model::Feeder, fed: &Result<feeder::Fed, Refusal>) -> relay::Fed {
+    let state = core_feeder(after);
+    let mut answer = relay::Fed { state, used: 0, line: [0; 512], len: 0, number: number_of(fed) };
+    if let Ok(fed) = fed {
+        answer.used = fed.used;
+        match &fed.event {
+            Some(Ok(line)) => {
+                answer.line[..line.len()].copy_from_slice(line);
+                answer.len = line.len();
+            }
+            Some(Err(refusal)) => answer.number = refusal.number(),
+            None => {}
+        }
+    }
+    answer
 }
 
 /// The parts of a message of the model in the core's type.

@@ -25,9 +25,10 @@ pub struct Trial {
 }
 
 /// All of them.
-pub const TRIALS: [Trial; 11] = [
+pub const TRIALS: [Trial; 12] = [
     Trial { name: "read", run: compare::lines::read, numbers: &[0, 4, 5, 6, 7, 8, 9, 10] },
     Trial { name: "write", run: compare::lines::write, numbers: &[0, 2, 24, 25] },
+    Trial { name: "feed", run: compare::feeding::feed, numbers: &[0, 1, 4] },
     Trial { name: "same name", run: compare::texts::same_name, numbers: &[] },
     Trial { name: "match", run: compare::texts::matches, numbers: &[0, 23] },
     Trial { name: "greater key", run: compare::texts::greater_key, numbers: &[] },

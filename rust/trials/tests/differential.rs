@@ -26,6 +26,11 @@ fn write() {
 }
 
 #[test]
+fn feed() {
+    run("feed", 10_000);
+}
+
+#[test]
 fn same_name() {
     run("same name", 100_000);
 }

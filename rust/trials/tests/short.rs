@@ -1,7 +1,10 @@
 //! Every short input there is over the bytes that mean something.
 
 use model::{line, mask, names};
+use trials::compare::feeding::compare_feed;
 use trials::convert::core_message;
+use trials::inputs::feeders;
+use trials::tally::Tally;
 
 /// Calls `f` with each text of that many of the given bytes.
 fn each_text(bytes: &[u8], length: usize, f: &mut dyn FnMut(&[u8])) {
@@ -45,6 +48,22 @@ fn each_byte_in_each_place_of_a_line() {
             compare_read(&changed);
         }
     }
+}
+
+/// Few bytes, fed from the states where they matter.
+#[test]
+fn fed_bytes() {
+    let mut tally = Tally::default();
+    let keeping = |length| feeders::keeping(&vec![b'x'; length]);
+    for start in [0, 1, 509, 510, 511, 512].map(keeping).into_iter().chain([feeders::DROPPING]) {
+        for length in 0..7 {
+            each_text(b"a\r\n", length, &mut |bytes| {
+                let mut state = start;
+                compare_feed(&mut state, bytes, &mut tally);
+            });
+        }
+    }
+    assert_eq!((tally.missing(&[0, 4]), tally.unexpected(&[0, 4])), (vec![], vec![]));
 }
 
 #[test]

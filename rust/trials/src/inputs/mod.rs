@@ -1,7 +1,9 @@
 //! Inputs: valid, with one thing wrong, damaged, and at the limits.
 
+pub mod feeders;
 pub mod lines;
 pub mod masks;
 pub mod messages;
+pub mod streams;
 pub mod tables;
 pub mod words;
