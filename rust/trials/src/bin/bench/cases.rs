@@ -124,6 +124,20 @@ pub fn full() -> Vec<Case> {
     known.chain(new_channels(&with_room)).collect()
 }
 
+/// Lines of every kind in any order, so many bytes of them or a line more.
+pub fn day(bytes: usize) -> Vec<Vec<u8>> {
+    let kinds = small();
+    let mut rng = Rng::new(8);
+    let mut lines = Vec::new();
+    let mut length = 0;
+    while length < bytes {
+        let line = kinds[rng.below(kinds.len())].line.clone();
+        length += line.len();
+        lines.push(line);
+    }
+    lines
+}
+
 /// One line with more and more full channels before its own.
 pub fn by_channels() -> Vec<Case> {
     let line = join("#race", TIME, 1, false);

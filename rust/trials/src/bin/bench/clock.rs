@@ -40,6 +40,19 @@ impl Clock {
         }
     }
 
+    /// The best times of calls that take turns, one call a run.
+    pub fn best<const N: usize>(&self, mut calls: [&mut dyn FnMut(); N]) -> [Duration; N] {
+        let mut best = [Duration::MAX; N];
+        for _ in 0..self.runs {
+            for (best, call) in best.iter_mut().zip(&mut calls) {
+                let start = Instant::now();
+                call();
+                *best = start.elapsed().min(*best);
+            }
+        }
+        best
+    }
+
     fn by_turns(&self, mut core: impl FnMut() -> u8, mut other: impl FnMut() -> u8) -> Times {
         assert_eq!(core(), other(), "core and {OTHER} differ");
         let mut best = Times { core: Duration::MAX, other: Duration::MAX };

@@ -5,18 +5,22 @@
 //! A figure is the best of RUNS runs (101 unless told), in which core and model take turns, in
 //! microseconds a call. Both take the line with a table of their own by its pointer, as an embedding
 //! program does, and both test the whole table. A copy of the table that the line is taken with is
-//! in each figure, since most lines change it.
+//! in each figure, since most lines change it. Bytes made into lines are told in megabytes a second,
+//! beside a splitter that finds LF by C's `memchr`, and as a share of the time of taking the lines.
 //!
-//! With RELAY_EARLIER_LIB=FILE, the path of an earlier libcapi.a, that library takes the model's place.
+//! With RELAY_EARLIER_LIB=FILE, the path of an earlier libcapi.a, that library takes the model's place,
+//! but not the place of its feeder where it has none.
 
 mod cases;
 mod clock;
+mod feeding;
+mod splitter;
 mod stack;
 
 use std::hint::black_box;
 
 use model::refusal::number_of;
-use relay::{earlier, Answer, Table};
+use relay::{earlier, Answer, Feeder, Table};
 use trials::convert::{core_record, core_table};
 
 use cases::{Case, LINK};
@@ -24,7 +28,7 @@ use clock::{Clock, Times, OTHER};
 
 fn main() {
     assert!(relay::layout_matches(), "the library's structs are not laid out as this program's");
-    assert!(earlier::layout_matches(), "the earlier library's structs are laid out otherwise");
+    assert!(earlier::layout_fits(), "the earlier library's structs are laid out otherwise");
     let runs = std::env::args().nth(1).and_then(|arg| arg.parse().ok()).unwrap_or(101);
     let clock = Clock { runs };
     lines(&clock);
@@ -32,6 +36,7 @@ fn main() {
     by_members(&clock);
     masks(&clock);
     others(&clock);
+    feeding(&clock);
     stacks();
 }
 
@@ -148,6 +153,16 @@ fn others(clock: &Clock) {
     row("its day-log record", times);
 }
 
+/// Bytes that come in chunks made into lines, and the time of it beside that of taking the lines.
+fn feeding(clock: &Clock) {
+    let columns = ["core", "memchr", "ratio", feeding::OTHER, "ratio"];
+    let shares = ["share of taking, 1 channel", "share of taking, 16 full"];
+    heading("Bytes made into lines, MB/s, by chunks of", &[&columns[..], &shares].concat());
+    for (size, bytes) in [(1, 1 << 14), (64, 1 << 16), (1_500, 1 << 17), (65_536, 1 << 17)] {
+        println!("| {size} | {} |", feeding::columns(clock, &cases::day(bytes), size));
+    }
+}
+
 /// The stack of each call, with its arguments and its answer.
 fn stacks() {
     heading("Stack of one call, bytes", &["core"]);
@@ -156,6 +171,7 @@ fn stacks() {
     let record = &table.slots[0];
     let line = cases::long_line();
     let parts = relay::parts(&line);
+    let feeder = Feeder::empty();
     let mut out = [0; 517];
     row("taking a line", stack::taken(|| relay::process(&table, LINK, &line, &mut out)));
     row("registering a link", stack::taken(|| relay::register(&table, 9)));
@@ -165,6 +181,7 @@ fn stacks() {
     row("writing a line", stack::taken(|| relay::write(&line, &parts, &mut out)));
     row("its day-log record", stack::taken(|| relay::log(LINK, &line, &mut out)));
     row("matching a mask", stack::taken(|| relay::matches(b"*a*b", &line)));
+    row("making bytes into a line", stack::taken(|| relay::feed(&feeder, &line)));
 }
 
 /// The first two lines of a table.
