@@ -29,8 +29,8 @@
  *     }
  *
  * What it promises. Any bytes, on any link, with any table, get one answer. Bad input is refused by one of the numbers below, the lowest
- * that applies; then nothing is changed: table and feeder are as before, every lent buffer too, and sets, counts and lengths are 0.
- * What is accepted puts its output at the front of the lent room and leaves the rest of the room as it was. These promises are proved of
+ * that applies; then nothing is changed: table and feeder are as before, every lent buffer too, and sets, counts and lengths are 0. (The
+ * 4 that a feeder yields in the place of a line refuses that line and not the call.) What is accepted puts its output at the front of the lent room and leaves the rest of the room as it was. These promises are proved of
  * the library; this header is not part of the proof, so `relay_layout_matches` compares the two.
  *
  * What you owe it.
@@ -54,7 +54,7 @@ extern "C" {
 #endif
 
 /* The version of the whole project, as the file VERSION has it. */
-#define RELAY_VERSION "0.1.0"
+#define RELAY_VERSION "0.2.0"
 
 /* The bytes of stack that are enough for a call. */
 #define RELAY_STACK 131072
@@ -210,8 +210,8 @@ relay_feeder relay_empty_feeder(void);
 /*
  * Feeds bytes as they came in, up to and with the first that yields something, else all of them; `relay_next_line` makes a loop of it.
  * LF ends a line, and the line is yielded, with or without a CR before it: `relay_read` gives 5 without one. The 513th byte of a line, LF
- * or not, yields one refusal by 4, and the line is dropped up to and with its LF; the feeder moves on, since 4 is yielded here and not
- * refused. What is yielded, and what is kept at the end, depends on the bytes alone and never on how they are cut. Number 1 for a feeder
+ * or not, yields one refusal by 4, and the line is dropped up to and with its LF: the line is refused and not the call, and the feeder
+ * moves on. What is yielded, and what is kept at the end, depends on the bytes alone and never on how they are cut. Number 1 for a feeder
  * that no bytes reach: it is as given then, and no byte is used.
  */
 relay_fed relay_feed(relay_feeder state, relay_bytes bytes);

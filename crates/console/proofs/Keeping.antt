@@ -12,7 +12,7 @@ use borrow.Author.Tests.{ne-eqb, lt-ltb, le-ltb, ltb-true, ltb-false, leb-true, 
 use Rattle.octets.specs.declared.Decimal.{Decimal}
 use Rattle.octets.specs.declared.Decimal.the-variants.{Value, Malformed}
 use Rattle.octets.specs.Bytes.{cr, space}
-use Rattle.laws.specs.Joins.{total}
+use Rattle.laws.specs.Joins.{concatenated}
 use Rattle.laws.specs.Lists.{isNil}
 use Rattle.octets.proofs.Digits.{digits-within, decimal-read}
 use Rattle.laws.proofs.Lists.{nil-length}
@@ -32,15 +32,12 @@ kept-behind a b = go (leb (length a) inputLimit) refl
         let h = leb-false (length a) inputLimit e in
         take-append-le inputLimit (kept a) b (omega (arith, length-take inputLimit a)) ∙ take-take inputLimit inputLimit a (omega arith) ∙ sym (take-append-le inputLimit a b (omega (arith, h)))
 
-abbrev joined : ListOf (ListOf ℕ) → ListOf ℕ
-joined pieces = total _++_ [] (λ piece. piece) pieces
-
-pieces-behind : (a : ListOf ℕ) (pieces : ListOf (ListOf ℕ)) → keptAfter (kept a) pieces ≡ kept (a ++ joined pieces)
+pieces-behind : (a : ListOf ℕ) (pieces : ListOf (ListOf ℕ)) → keptAfter (kept a) pieces ≡ kept (a ++ concatenated pieces)
 unfolding keptAfter
 pieces-behind a [] = ap kept (sym (append-nil a))
-pieces-behind a (piece ∷ pieces) = ap (λ (l : ListOf ℕ). keptAfter l pieces) (kept-behind a piece) ∙ pieces-behind (a ++ piece) pieces ∙ ap kept (append-assoc a piece (joined pieces))
+pieces-behind a (piece ∷ pieces) = ap (λ (l : ListOf ℕ). keptAfter l pieces) (kept-behind a piece) ∙ pieces-behind (a ++ piece) pieces ∙ ap kept (append-assoc a piece (concatenated pieces))
 
-pub pieces-kept : (pieces : ListOf (ListOf ℕ)) → keptAfter [] pieces ≡ kept (joined pieces)
+pub pieces-kept : (pieces : ListOf (ListOf ℕ)) → keptAfter [] pieces ≡ kept (concatenated pieces)
 pieces-kept pieces = pieces-behind [] pieces
 
 -- ---- what is longer than a number

@@ -1,17 +1,16 @@
 -- Laws of the answer to a call: behind bytes that yield nothing it is that of the rest, a byte that yields something ends the call, and so each way in which a
 -- line goes on has its answer. Assumes nothing.
-use mathlib.Core.Path.{_≡_, refl, sym, ap, ap₂, _∙_}
-use mathlib.Core.Bool.{true, false}
-use mathlib.Core.List.{List, [], _∷_, _++_, append-nil, append-assoc}
-use Prim.Native.Nat.{ℕ, suc, _+_, _≤_, _<_}
+use mathlib.Core.Path.{_≡_, refl, sym, ap, _∙_}
+use mathlib.Core.Bool.{true}
+use mathlib.Core.List.{List, [], _∷_, _++_, append-nil}
+use Prim.Native.Nat.{ℕ, _+_, _≤_, _<_}
 use native.Mathlib.Omega.{arith}
 use lib.ListN.{length, take, length-append}
 use lib.Seq.{take-append-add}
 use Rattle.refusal.specs.Numbers.{accepted, lineTooLong}
 use Rattle.octets.specs.Bytes.{lf, isNonLf}
-use Rattle.laws.specs.Lists.{all, isNil}
+use Rattle.laws.specs.Lists.{all}
 use Rattle.message.specs.Grammar.{lineLimit}
-use Rattle.feed.specs.declared.Fed.{Fed}
 use Rattle.feed.specs.Lines.{Event, Whole, TooLong, Pending, Unfinished, Dropping, nothing, yielded, after, events, afterAll, used}
 use Rattle.feed.specs.Feeder.{stateOf, fed, answerOf, answerTo}
 use Rattle.feed.specs.Private.{past}
@@ -31,18 +30,18 @@ module _ (p : Pending) (s t : List ℕ) (silent : events p s ≡ []) where
   front : take (used p (s ++ t)) (s ++ t) ≡ s ++ take more t
   front = rw (used-append s t p silent) (take-append-add s t more)
 
-  pub answer-behind : answerTo p (s ++ t) ≡ past (length s) (answerTo (afterAll p s) t)
+  answer-behind : answerTo p (s ++ t) ≡ past (length s) (answerTo (afterAll p s) t)
   unfolding answerTo
   answer-behind =
       rw (front, used-append s t p silent, after-append s (take more t) p, events-append s (take more t) p, silent)
       (sym (past-answer (length s) (afterAll (afterAll p s) (take more t)) more (events (afterAll p s) (take more t))))
 
 -- ---- no byte, and one that yields something
-pub answer-none : (p : Pending) → answerTo p [] ≡ fed (stateOf p) 0 [] accepted
+answer-none : (p : Pending) → answerTo p [] ≡ fed (stateOf p) 0 [] accepted
 unfolding answerTo answerOf used events afterAll
 answer-none p = refl
 
-pub answer-now : (p : Pending) (b : ℕ) (t : List ℕ) (e : Event) → yielded p b ≡ e ∷ [] → answerTo p (b ∷ t) ≡ answerOf (after p b) 1 (e ∷ [])
+answer-now : (p : Pending) (b : ℕ) (t : List ℕ) (e : Event) → yielded p b ≡ e ∷ [] → answerTo p (b ∷ t) ≡ answerOf (after p b) 1 (e ∷ [])
 unfolding answerTo used events afterAll
 answer-now p b t e h = rw (h, h)
 

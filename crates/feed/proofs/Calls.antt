@@ -1,30 +1,32 @@
--- The calls that a caller makes come to the plain run of the bytes joined: a call uses a byte at least, yields what the bytes that it used yield, and leaves the
--- state that they leave; so however the bytes are cut, the calls with one piece after the other are one run. Assumes nothing.
-use mathlib.Core.Path.{_≡_, refl, sym, ap, ap₂, _∙_}
-use mathlib.Core.Bool.{Bool, true, false}
+-- The calls that a caller makes come to the plain run of the bytes joined: a call uses a byte at least, where there is one, yields what the bytes that it used yield,
+-- and leaves the state that they leave; so however the bytes are cut, the calls with one piece after the other are one run. Assumes nothing.
+use mathlib.Core.Path.{_≡_, refl, sym, ap, _∙_}
+use mathlib.Core.Bool.{Bool, true, false, cond}
+use mathlib.Core.Logic.{_⊎_, inl, inr}
 use mathlib.Core.List.{List, [], _∷_, _++_, append-nil}
 use Prim.Native.Nat.{ℕ, zero, suc, _+_, _≤_, _<_}
 use native.Mathlib.Omega.{arith}
-use lib.ListN.{length, take, drop, length-append, length-drop, take-append-drop}
+use lib.ListN.{length, take, drop, length-append, length-drop, take-append-drop, drop-of-length-le}
 use lib.Seq.{take-all}
 use lib.Dec.{eqb}
 use borrow.Author.Tests.{ne-eqb, leb-false}
-use Rattle.refusal.specs.Numbers.{notWellFormed}
+use Rattle.refusal.specs.Numbers.{accepted, lineTooLong}
 use Rattle.octets.specs.Bytes.{lf}
-use Rattle.laws.specs.Lists.{isNil, padded}
+use Rattle.laws.specs.Lists.{isNil}
+use Rattle.laws.specs.Joins.{concatenated}
 use Rattle.laws.proofs.Lists.{take-padded}
 use Rattle.message.specs.Grammar.{lineLimit}
 use Rattle.feed.specs.declared.Feeder.{Feeder}
 use Rattle.feed.specs.Lines.{Event, Whole, TooLong, Pending, Unfinished, Dropping, nothing, isFull, yielded, after, events, afterAll, used}
-use Rattle.feed.specs.Feeder.{stateOf, stateAfter, pendingIn, isReached, fed, answerOf, answerTo, feedAnswer}
-use Rattle.feed.specs.Calls.{Feeding, yields, Run, then, calls, callsWith, callsOver, joined, Feeds}
+use Rattle.feed.specs.Feeder.{stateOf, stateAfter, isReached, answerOf, answerTo, feedAnswer}
+use Rattle.feed.specs.Calls.{Feeding, yields, Run, then, calls, callsOver, Feeds}
 use Rattle.feed.proofs.Runs.{after-append, events-append}
-use Rattle.feed.proofs.States.{Sound, sound-all, sound-after, sound-start, sound-tested, pending-back, tested-reached}
-use Rattle.feed.proofs.Feeding.{answer-refused, answer-taken}
+use Rattle.feed.proofs.States.{Sound, sound-all, sound-after, sound-start, sound-tested, pending-back, reaching, tested-reached}
+use Rattle.feed.proofs.ByState.{answer-refused, answer-taken}
 
 -- ---- one call
 -- a byte is used, where there is one, and no more than there are
-pub used-some : (p : Pending) (b : ℕ) (s : List ℕ) → 1 ≤ used p (b ∷ s)
+used-some : (p : Pending) (b : ℕ) (s : List ℕ) → 1 ≤ used p (b ∷ s)
 unfolding used
 used-some p b s = go (isNil (yielded p b)) refl
   where
@@ -32,7 +34,7 @@ used-some p b s = go (isNil (yielded p b)) refl
     go true e = rw e (omega arith)
     go false e = rw e (omega arith)
 
-pub used-within : (s : List ℕ) (p : Pending) → used p s ≤ length s
+used-within : (s : List ℕ) (p : Pending) → used p s ≤ length s
 unfolding used
 used-within [] p = omega arith
 used-within (b ∷ s) p = go (isNil (yielded p b)) refl (used-within s (after p b))
@@ -78,6 +80,12 @@ answer-state q n [] = (refl, refl)
 answer-state q n (Whole l ∷ es) = (refl, refl)
 answer-state q n (TooLong ∷ es) = (refl, refl)
 
+answer-number : (q : Pending) (n : ℕ) (es : List Event) → (answerOf q n es .number ≡ accepted) ⊎ (answerOf q n es .number ≡ lineTooLong)
+unfolding answerOf
+answer-number q n [] = inl refl
+answer-number q n (Whole l ∷ es) = inl refl
+answer-number q n (TooLong ∷ es) = inr refl
+
 module _ (p : Pending) (s : List ℕ) (sound : Sound p) where
   abbrev front : List ℕ
   front = take (used p s) s
@@ -89,11 +97,21 @@ module _ (p : Pending) (s : List ℕ) (sound : Sound p) where
   pub call-yields : yields (feedAnswer (stateOf p) s) ≡ events p front
   call-yields = rw call-is (used-yields s p sound (afterAll p front) (used p s))
 
-  pub call-state : feedAnswer (stateOf p) s .state ≡ stateOf (afterAll p front)
+  call-state : feedAnswer (stateOf p) s .state ≡ stateOf (afterAll p front)
   call-state = rw call-is (answer-state (afterAll p front) (used p s) (events p front) .0)
 
-  pub call-used : feedAnswer (stateOf p) s .used ≡ used p s
+  call-used : feedAnswer (stateOf p) s .used ≡ used p s
   call-used = rw call-is (answer-state (afterAll p front) (used p s) (events p front) .1)
+
+-- a call that yields nothing used all bytes
+silent-all : (s : List ℕ) (p : Pending) → events p (take (used p s) s) ≡ [] → used p s ≡ length s
+unfolding used events
+silent-all [] p e = refl
+silent-all (b ∷ s) p e = go (yielded p b) refl (silent-all s (after p b))
+  where
+    go : (es : List Event) → yielded p b ≡ es → (events (after p b) (take (used (after p b) s) s) ≡ [] → used (after p b) s ≡ length s) → used p (b ∷ s) ≡ suc (length s)
+    go [] f ih = rw f (ap suc (ih (rw (f, f) at e)))
+    go (x ∷ es) f ih = let z : _≡_ {A = ℕ} 0 1 = cc (rw (f, append-nil (yielded p b)) at e, f) in absurd (omega (arith, z))
 
 -- ---- the calls with one piece
 abbrev run : Pending → List ℕ → Run
@@ -103,37 +121,55 @@ run p s = record { yielded = events p s; state = stateOf (afterAll p s); unused 
 run-then : (p : Pending) (s t : List ℕ) → then (events p s) [] (run (afterAll p s) t) ≡ run p (s ++ t)
 run-then p s t = rw (events-append s t p, after-append s t p)
 
-pub calls-run : (n : ℕ) (s : List ℕ) (p : Pending) → Sound p → length s ≤ n → calls feedAnswer n (stateOf p) s ≡ run p s
-unfolding calls events afterAll
-calls-run zero [] p h = λ le. refl
-calls-run zero (b ∷ s) p h = λ le. absurd (omega arith)
-calls-run (suc n) [] p h = λ le. refl
-calls-run (suc n) (b ∷ s) p h = λ le.
-    let k : ℕ = used p (b ∷ s) in
-    let q : Pending = afterAll p (take k (b ∷ s)) in
-    let less : length (drop k (b ∷ s)) ≤ n = omega (arith, length-drop k (b ∷ s), used-some p b s) in
-    rw (call-yields p (b ∷ s) h, call-state p (b ∷ s) h, call-used p (b ∷ s) h, calls-run n (drop k (b ∷ s)) q (sound-all (take k (b ∷ s)) p h) less)
-    (run-then p (take k (b ∷ s)) (drop k (b ∷ s)) ∙ ap (run p) (take-append-drop k (b ∷ s)))
+-- a call that yields something used a byte
+some-used : (s : List ℕ) (p : Pending) (e : Event) (es : List Event) → events p (take (used p s) s) ≡ e ∷ es → 1 ≤ used p s
+unfolding events used
+some-used [] p e es h = let z : _≡_ {A = ℕ} 0 1 = cc in absurd (omega (arith, z))
+some-used (b ∷ s) p e es h = used-some p b s
+
+calls-run : (n : ℕ) (s : List ℕ) (p : Pending) → Sound p → length s < n → calls feedAnswer n (stateOf p) s ≡ run p s
+unfolding calls
+calls-run zero s p h = λ lt. absurd (omega arith)
+calls-run (suc n) s p h = λ lt. rw (call-yields p s h, call-state p s h, call-used p s h) (go lt (events p (front p s h)) refl (calls-run n))
+  where
+    go : length s < suc n → (es : List Event) → events p (take (used p s) s) ≡ es
+        → ((t : List ℕ) (q : Pending) → Sound q → length t < n → calls feedAnswer n (stateOf q) t ≡ run q t)
+        → cond (isNil (events p (take (used p s) s))) (record { yielded = []; state = stateOf (afterAll p (take (used p s) s)); unused = drop (used p s) s })
+        (then (events p (take (used p s) s)) [] (calls feedAnswer n (stateOf (afterAll p (take (used p s) s))) (drop (used p s) s)))
+        ≡ run p s
+    go lt [] e ih =
+        let all : take (used p s) s ≡ s = take-all (used p s) s (omega (arith, silent-all s p e)) in
+        let none : drop (used p s) s ≡ [] = drop-of-length-le s {i = used p s} (omega (arith, silent-all s p e)) in
+        rw (e, all, none) (ap (λ (es : List Event). record { yielded = es; state = stateOf (afterAll p s); unused = [] }) (sym (rw all at e)))
+    go lt (x ∷ es) e ih =
+        let k : ℕ = used p s in
+        let less : length (drop k s) < n = omega (arith, length-drop k s, some-used s p x es e, used-within s p) in
+        rw (e, ih (drop k s) (afterAll p (take k s)) (sound-all (take k s) p h) less)
+        (ap (λ (l : List Event). then l [] (run (afterAll p (take k s)) (drop k s))) (sym e) ∙ run-then p (take k s) (drop k s) ∙ ap (run p) (take-append-drop k s))
 
 -- ---- one piece after the other
-pub pieces-run : (pieces : List (List ℕ)) (p : Pending) → Sound p → callsOver feedAnswer (stateOf p) pieces ≡ run p (joined pieces)
-unfolding callsOver joined events afterAll
+pieces-run : (pieces : List (List ℕ)) (p : Pending) → Sound p → callsOver feedAnswer (stateOf p) pieces ≡ run p (concatenated pieces)
+unfolding callsOver events afterAll
 pieces-run [] p h = refl
 pieces-run (s ∷ pieces) p h =
-    rw (calls-run (length s) s p h (omega arith), pieces-run pieces (afterAll p s) (sound-all s p h)) (run-then p s (joined pieces))
+    rw (calls-run (suc (length s)) s p h (omega arith), pieces-run pieces (afterAll p s) (sound-all s p h)) (run-then p s (concatenated pieces))
 
 -- ---- the claims hold of ours
 pub feeds : Feeds feedAnswer
 feeds = record {
   refuses = λ f s none. answer-refused f s (untested f none (isReached f) refl);
-  runs = λ before pieces. pieces-run pieces (afterAll nothing before) (sound-start before) ∙ ap (λ (q : Pending). record { yielded = events (afterAll nothing before) (joined pieces); state = stateOf q; unused = [] }) (sym (after-append before (joined pieces) nothing));
+  numbers = λ earlier s. rw (call-is (afterAll nothing earlier) s (sound-start earlier)) (answer-number (afterAll (afterAll nothing earlier) _) (used (afterAll nothing earlier) s) (events (afterAll nothing earlier) _));
+  within = λ earlier s. rw (call-used (afterAll nothing earlier) s (sound-start earlier)) (used-within s (afterAll nothing earlier));
+  runs = λ earlier pieces.
+      pieces-run pieces (afterAll nothing earlier) (sound-start earlier)
+      ∙ ap (λ (q : Pending). record { yielded = events (afterAll nothing earlier) (concatenated pieces); state = stateOf q; unused = [] }) (sym (after-append earlier (concatenated pieces) nothing));
 }
   where
-    untested : (f : Feeder) → ((before : List ℕ) → f ≡ stateAfter before → ⊥) → (t : Bool) → isReached f ≡ t → isReached f ≡ false
-    untested f none true e = let r = tested-reached f e in absurd (none (r .0) (r .1))
+    untested : (f : Feeder) → ((earlier : List ℕ) → f ≡ stateAfter earlier → ⊥) → (t : Bool) → isReached f ≡ t → isReached f ≡ false
+    untested f none true e = absurd (none (reaching f) (tested-reached f e))
     untested f none false e = e
 
--- "never on the cuts": pieces that are the same bytes, joined, come to the same, and so to what one piece comes to
-pub cuts : (before : List ℕ) (pieces others : List (List ℕ)) → joined pieces ≡ joined others → callsOver feedAnswer (stateAfter before) pieces ≡ callsOver feedAnswer (stateAfter before) others
-cuts before pieces others e =
-    pieces-run pieces (afterAll nothing before) (sound-start before) ∙ ap (run (afterAll nothing before)) e ∙ sym (pieces-run others (afterAll nothing before) (sound-start before))
+-- "Never on the cuts": by the claims, pieces that are the same bytes, joined, come to the same.
+pub cuts : (feed : Feeding) → Feeds feed → (earlier : List ℕ) (pieces others : List (List ℕ)) → concatenated pieces ≡ concatenated others
+    → callsOver feed (stateAfter earlier) pieces ≡ callsOver feed (stateAfter earlier) others
+cuts feed f earlier pieces others e = f .runs earlier pieces ∙ rw e (sym (f .runs earlier others))

@@ -1,23 +1,26 @@
--- The plain run, held against the bytes told of all at once: any bytes divide into lines and a rest, and what is yielded and kept is told of these, line by
--- line. So no byte is lost, and none counts twice. Assumes nothing.
+-- The calls, held against the bytes told all at once: any bytes divide into lines and a rest, and what is yielded and kept is told of these, line by line. So no byte
+-- is lost, and none counts twice. Assumes nothing.
 use mathlib.Core.Path.{_≡_, refl, sym, ap, ap₂, _∙_}
-use mathlib.Core.Bool.{Bool, true, false, not}
+use mathlib.Core.Bool.{Bool, true, false}
 use mathlib.Core.Logic.{_⊎_, inl, inr}
 use mathlib.Core.List.{List, [], _∷_, _++_, map, append-nil, append-assoc, List·Memᴰ, List·Memᴰ·cases-cons, List·Memᴰ·not-nil, List·Memᴰ·head, List·Memᴰ·tail}
 use Prim.Native.Nat.{ℕ, suc, _+_, _≤_, _<_}
 use native.Mathlib.Omega.{arith}
-use lib.ListN.{length, take, drop, getD, length-append, length-take, length-drop, take-append-drop}
+use lib.ListN.{length, take, drop, getD, length-append}
 use lib.Seq.{split-at, length-take-le}
 use lib.Dec.{eqb, leb}
-use borrow.Author.Tests.{eqb-true, le-leb, lt-leb, leb-true, leb-false}
+use borrow.Author.Tests.{eqb-true, leb-true, leb-false}
 use Rattle.octets.specs.Bytes.{lf, isNonLf}
 use Rattle.laws.specs.Lists.{all}
+use Rattle.laws.specs.Joins.{concatenated}
 use Rattle.laws.proofs.Lists.{all-cons, all-take, all-drop, all-at}
 use Rattle.message.specs.Grammar.{lineLimit}
-use Rattle.feed.specs.Lines.{Event, Whole, TooLong, Pending, Unfinished, Dropping, nothing, yielded, after, events, afterAll}
-use Rattle.feed.specs.Calls.{joined}
-use Rattle.feed.specs.Division.{Ended, Divided, told, overdue, keptOf}
+use Rattle.feed.specs.Lines.{Event, TooLong, Pending, Unfinished, Dropping, nothing, yielded, events, afterAll}
+use Rattle.feed.specs.Feeder.{stateOf, feedAnswer}
+use Rattle.feed.specs.Calls.{callsOver}
+use Rattle.feed.specs.Division.{Ended, Divided, eventOf, overdue, keptOf}
 use Rattle.feed.proofs.Runs.{after-append, events-append, keeps-silent, keeps, drops-silent, drops, full-yields, full-drops, ends, line-yields}
+use Rattle.feed.proofs.Calls.{feeds}
 
 -- What some bytes come to.
 record Comes (s : List ℕ) (es : List Event) (p : Pending) : Type 0 where
@@ -65,14 +68,14 @@ lf-comes : (u : List ℕ) (es fs : List Event) (p : Pending) → Comes u es p �
 unfolding events afterAll
 lf-comes u es fs p c e = comes-then u (lf ∷ []) es fs p nothing c (append-nil (yielded p lf) ∙ e) (ends p)
 
-body-comes : (u : List ℕ) → all isNonLf u ≡ true → Comes (u ++ (lf ∷ [])) (told (u ++ (lf ∷ [])) ∷ []) nothing
+body-comes : (u : List ℕ) → all isNonLf u ≡ true → Comes (u ++ (lf ∷ [])) (eventOf (u ++ (lf ∷ [])) ∷ []) nothing
 unfolding yielded
 body-comes u clean = go (leb (length (u ++ (lf ∷ []))) lineLimit) refl (leb (length u) lineLimit) refl
   where
     size : length (u ++ (lf ∷ [])) ≡ length u + 1
     size = length-append u (lf ∷ [])
 
-    go : (t : Bool) → leb (length (u ++ (lf ∷ []))) lineLimit ≡ t → (v : Bool) → leb (length u) lineLimit ≡ v → Comes (u ++ (lf ∷ [])) (told (u ++ (lf ∷ [])) ∷ []) nothing
+    go : (t : Bool) → leb (length (u ++ (lf ∷ []))) lineLimit ≡ t → (v : Bool) → leb (length u) lineLimit ≡ v → Comes (u ++ (lf ∷ [])) (eventOf (u ++ (lf ∷ [])) ∷ []) nothing
     go true f v g =
         let room : length u < lineLimit = omega (arith, size, leb-true (length (u ++ (lf ∷ []))) lineLimit f) in
         rw f (lf-comes u [] _ (Unfinished u) (short-comes u clean (omega arith)) (line-yields u room))
@@ -81,28 +84,30 @@ body-comes u clean = go (leb (length (u ++ (lf ∷ []))) lineLimit) refl (leb (l
         rw f (lf-comes u [] _ (Unfinished u) (short-comes u clean (omega arith)) (full-yields u full lf))
     go false f false g = rw f (lf-comes u (TooLong ∷ []) [] Dropping (long-comes u clean (leb-false (length u) lineLimit g)) refl)
 
-line-comes : (line : List ℕ) → Ended line → Comes line (told line ∷ []) nothing
+line-comes : (line : List ℕ) → Ended line → Comes line (eventOf line ∷ []) nothing
 line-comes line e = rw (e .ends) (body-comes (e .body) (e .one))
 
 -- ---- all of them
 abbrev Lines : List (List ℕ) → Type 0
 Lines lines = (line : List ℕ) → List·Memᴰ line lines → Ended line
 
-lines-come : (lines : List (List ℕ)) (rest : List ℕ) → Lines lines → all isNonLf rest ≡ true → Comes (joined lines ++ rest) (map told lines ++ overdue rest) (keptOf rest)
-unfolding joined
+lines-come : (lines : List (List ℕ)) (rest : List ℕ) → Lines lines → all isNonLf rest ≡ true → Comes (concatenated lines ++ rest) (map eventOf lines ++ overdue rest) (keptOf rest)
 lines-come [] rest e h = rest-comes rest h
 lines-come (line ∷ lines) rest e h =
     let c = lines-come lines rest (λ l m. e l (List·Memᴰ·tail m)) h in
-    rw (append-assoc line (joined lines) rest)
-    (comes-then line (joined lines ++ rest) (told line ∷ []) (map told lines ++ overdue rest) nothing (keptOf rest) (line-comes line (e line (List·Memᴰ·head refl))) (c .yields) (c .leaves))
+    rw (append-assoc line (concatenated lines) rest)
+    (comes-then line (concatenated lines ++ rest) (eventOf line ∷ []) (map eventOf lines ++ overdue rest) nothing (keptOf rest) (line-comes line (e line (List·Memᴰ·head refl))) (c .yields) (c .leaves))
 
-divided-comes : (s : List ℕ) (lines : List (List ℕ)) (rest : List ℕ) → Divided s lines rest → Comes s (map told lines ++ overdue rest) (keptOf rest)
+divided-comes : (s : List ℕ) (lines : List (List ℕ)) (rest : List ℕ) → Divided s lines rest → Comes s (map eventOf lines ++ overdue rest) (keptOf rest)
 divided-comes s lines rest d = rw (sym (d .whole)) (lines-come lines rest (d .ended) (d .unended))
 
--- From any state that bytes reach: those that came before, and these, are in one line, one refused line, or what is kept, each once.
-pub accounted : (before s : List ℕ) (lines : List (List ℕ)) (rest : List ℕ) → Divided (before ++ s) lines rest
-    → (events nothing before ++ events (afterAll nothing before) s ≡ map told lines ++ overdue rest) × (afterAll nothing (before ++ s) ≡ keptOf rest)
-accounted before s lines rest d = let c = divided-comes (before ++ s) lines rest d in (sym (events-append before s nothing) ∙ c .yields, c .leaves)
+-- The calls with any pieces, from the empty state on: every byte is in one line, one refused line, or what is kept.
+pub accounted : (pieces : List (List ℕ)) (lines : List (List ℕ)) (rest : List ℕ) → Divided (concatenated pieces) lines rest
+    → callsOver feedAnswer (stateOf nothing) pieces ≡ record { yielded = map eventOf lines ++ overdue rest; state = stateOf (keptOf rest); unused = [] }
+unfolding afterAll
+accounted pieces lines rest d =
+    let c = divided-comes (concatenated pieces) lines rest d in
+    feeds .runs [] pieces ∙ rw (c .yields, c .leaves)
 
 -- ---- any bytes are so divided
 line-more : (line : List ℕ) (lines : List (List ℕ)) → Ended line → Lines lines → Lines (line ∷ lines)
@@ -117,7 +122,7 @@ longer : (b : ℕ) (line : List ℕ) → isNonLf b ≡ true → Ended line → E
 longer b line other e = record { body = b ∷ e .body; ends = ap (λ (l : List ℕ). b ∷ l) (e .ends); one = all-cons isNonLf b (e .body) other (e .one) }
 
 pub divides : (s : List ℕ) → (lines : List (List ℕ)) × (rest : List ℕ) × Divided s lines rest
-unfolding joined all
+unfolding all
 divides [] = ([], [], record { whole = refl; ended = λ line m. absurd (List·Memᴰ·not-nil m); unended = refl })
 divides (b ∷ s) = let d = divides s in go (eqb b lf) refl (d .0) (d .1) (d .2)
   where

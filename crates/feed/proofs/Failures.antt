@@ -1,35 +1,35 @@
 -- Each useless feeder fails the claims: the bytes on which it does, and what is wrong there. Assumes nothing.
 use mathlib.Core.Path.{_≡_, refl, sym, ap, _∙_}
-use mathlib.Core.Bool.{true, false}
-use mathlib.Core.List.{List, [], _∷_, _++_}
-use Prim.Native.Nat.{ℕ}
+use mathlib.Core.Logic.{⊎-elim}
+use mathlib.Core.List.{List, [], _∷_}
+use Prim.Native.Nat.{ℕ, _≤_}
 use native.Mathlib.Omega.{arith}
-use lib.ListN.{length, take}
+use lib.ListN.{length}
+use Rattle.refusal.specs.Numbers.{accepted, notWellFormed, lineTooLong}
 use Rattle.refusal.specs.Rules.{firstOf}
 use Rattle.octets.specs.Bytes.{lf}
 use Rattle.laws.specs.Lists.{all, padded}
-use Rattle.message.specs.Grammar.{lineLimit}
-use Rattle.feed.specs.declared.Feeder.{Feeder}
-use Rattle.feed.specs.Lines.{Event, Whole, TooLong, Pending, Unfinished, Dropping, nothing, yielded, continued, after, events, afterAll, used}
+use Rattle.laws.specs.Joins.{concatenated}
+use Rattle.feed.specs.Lines.{Event, Whole, TooLong, nothing, yielded, continued, after, events, afterAll, used}
 use Rattle.feed.specs.Feeder.{stateOf, stateAfter, pendingIn, reachedTests, isReached, answerOf, answerTo, feedAnswer}
-use Rattle.feed.specs.Calls.{Feeding, yields, Run, calls, callsOver, joined, Feeds}
-use Rattle.feed.specs.Useless.{silent, forgetful, repeating}
-use Rattle.feed.proofs.States.{longLine, dropping-reached, reached-tested}
+use Rattle.feed.specs.Calls.{Feeding, yields, Run, calls, callsOver, Feeds}
+use Rattle.feed.specs.Useless.{silent, forgetful, wiping, repeating, blaming, overstating}
+use Rattle.feed.proofs.States.{longLine, dropping-reached}
 
 -- what a feeder yields, of pieces behind some bytes
 abbrev yieldedBy : Feeding → List ℕ → List (List ℕ) → List Event
-yieldedBy feed before pieces = callsOver feed (stateAfter before) pieces .yielded
+yieldedBy feed earlier pieces = callsOver feed (stateAfter earlier) pieces .yielded
 
 -- what the claims have it yield
-claimed : (feed : Feeding) → Feeds feed → (before : List ℕ) (pieces : List (List ℕ)) → yieldedBy feed before pieces ≡ events (afterAll nothing before) (joined pieces)
-claimed feed f before pieces = ap (λ (r : Run). r .yielded) (f .runs before pieces)
+claimed : (feed : Feeding) → Feeds feed → (earlier : List ℕ) (pieces : List (List ℕ)) → yieldedBy feed earlier pieces ≡ events (afterAll nothing earlier) (concatenated pieces)
+claimed feed f earlier pieces = ap (λ (r : Run). r .yielded) (f .runs earlier pieces)
 
 -- ---- one that yields nothing: LF alone is a line
-abbrev pub alone : List (List ℕ)
+abbrev alone : List (List ℕ)
 alone = (lf ∷ []) ∷ []
 
-alone-line : events (afterAll nothing []) (joined alone) ≡ Whole (lf ∷ []) ∷ []
-unfolding joined events afterAll yielded
+alone-line : events (afterAll nothing []) (concatenated alone) ≡ Whole (lf ∷ []) ∷ []
+unfolding events afterAll yielded
 alone-line = refl
 
 silent-alone : yieldedBy silent [] alone ≡ []
@@ -42,12 +42,12 @@ silent-fails f =
     let z : _≡_ {A = ℕ} 0 1 = cc in
     absurd (omega (arith, z))
 
--- ---- one that keeps nothing: a line in two pieces
-abbrev pub apart : List (List ℕ)
+-- ---- one that drops what is kept: a line in two pieces
+abbrev apart : List (List ℕ)
 apart = (97 ∷ []) ∷ (lf ∷ []) ∷ []
 
-apart-line : events (afterAll nothing []) (joined apart) ≡ Whole (97 ∷ lf ∷ []) ∷ []
-unfolding joined events afterAll after continued yielded
+apart-line : events (afterAll nothing []) (concatenated apart) ≡ Whole (97 ∷ lf ∷ []) ∷ []
+unfolding events afterAll after continued yielded
 apart-line = refl
 
 forgetful-apart : yieldedBy forgetful [] apart ≡ Whole (lf ∷ []) ∷ []
@@ -60,13 +60,24 @@ forgetful-fails f =
     let z : _≡_ {A = List ℕ} [] (lf ∷ []) = cc in
     absurd (omega (arith, ap (λ (l : List ℕ). length l) z))
 
+-- and one that drops it only where it is called without bytes, as behind each line that ends a piece: a byte, and no more
+wiping-keeps : callsOver wiping (stateAfter (97 ∷ [])) ([] ∷ []) .state .len ≡ 0
+unfolding callsOver calls yields isReached reachedTests stateOf pendingIn feedAnswer firstOf answerTo answerOf used events yielded afterAll after continued padded all
+wiping-keeps = refl
+
+pub wiping-fails : Feeds wiping → ⊥
+unfolding stateOf afterAll after continued
+wiping-fails f =
+    let e : _≡_ {A = ℕ} 0 1 = sym wiping-keeps ∙ ap (λ (r : Run). r .state .len) (f .runs (97 ∷ []) ([] ∷ [])) in
+    absurd (omega (arith, e))
+
 -- ---- one that gives a second 4 for one long line: LF behind 513 other bytes
-long-end : events (afterAll nothing longLine) (joined alone) ≡ []
-unfolding joined events yielded
+long-end : events (afterAll nothing longLine) (concatenated alone) ≡ []
+unfolding events yielded
 long-end = rw dropping-reached
 
 repeating-again : yieldedBy repeating longLine alone ≡ TooLong ∷ []
-unfolding callsOver calls yields isReached reachedTests stateOf padded all
+unfolding callsOver calls yields isReached reachedTests stateOf pendingIn feedAnswer firstOf answerTo answerOf used events yielded afterAll after padded all
 repeating-again = rw dropping-reached
 
 pub repeating-fails : Feeds repeating → ⊥
@@ -74,3 +85,12 @@ repeating-fails f =
     let e : TooLong ∷ [] ≡ [] = sym repeating-again ∙ claimed repeating f longLine alone ∙ long-end in
     let z : _≡_ {A = ℕ} 0 1 = cc in
     absurd (omega (arith, z))
+
+-- ---- one that gives 1 to the empty state
+pub blaming-fails : Feeds blaming → ⊥
+blaming-fails f = ⊎-elim (λ (e : notWellFormed ≡ accepted). absurd (omega (arith, e))) (λ (e : notWellFormed ≡ lineTooLong). absurd (omega (arith, e))) (f .numbers [] [])
+
+-- ---- one that says that it used a byte of none
+pub overstating-fails : Feeds overstating → ⊥
+unfolding isReached reachedTests stateOf afterAll padded all
+overstating-fails f = let e : 1 ≤ 0 = f .within [] [] in absurd (omega (arith, e))

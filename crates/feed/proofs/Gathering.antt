@@ -1,14 +1,12 @@
 -- What the search for LF tells of the answer to a call. Of the bytes s that follow an unfinished line w, the first k are looked at: as many as the line has room
--- for, and one. The first LF among them ends the line, or is its 513th byte; without one the line goes on, or has a 513th byte. Assumes nothing.
-use mathlib.Core.Path.{_≡_, refl, sym, ap, ap₂, _∙_}
-use mathlib.Core.Bool.{Bool, true, false, not}
+-- for, and one, or all where they are fewer. The first LF among them ends the line, or is its 513th byte; without one the line goes on, or has a 513th byte. Assumes nothing.
+use mathlib.Core.Path.{_≡_, sym, ap, ap₂, _∙_}
+use mathlib.Core.Bool.{true}
 use mathlib.Core.List.{List, [], _∷_, _++_, append-assoc}
 use Prim.Native.Nat.{ℕ, suc, _+_, _-_, _≤_, _<_, min}
-use native.Mathlib.Numerals.{add-one}
 use native.Mathlib.Omega.{arith}
-use lib.ListN.{length, take, drop, getD, length-append, length-take, length-drop, take-append-drop}
-use lib.Seq.{take-all, take-suc, take-length, length-take-le, take-take, take-at, getD-take, append-snoc, split-at}
-use lib.Dec.{eqb}
+use lib.ListN.{length, take, drop, getD, length-append, take-append-drop}
+use lib.Seq.{take-all, take-length, length-take-le, take-take, take-at, getD-take, append-snoc, split-at}
 use Rattle.refusal.specs.Numbers.{accepted, lineTooLong}
 use Rattle.octets.specs.Bytes.{lf, isNonLf}
 use Rattle.octets.specs.Search.{before}

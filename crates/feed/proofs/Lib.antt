@@ -1,13 +1,13 @@
--- Laws of the feeder, for its functions and for the crates above.
-pub mod Runs
-pub mod Answers
-pub mod Tests
+-- The theorems of the feeder, for the crates above, and the laws that they and the functions of this crate rest on.
 pub mod States
-pub mod Rooms
-pub mod Gathering
-pub mod Feeding
 pub mod Calls
 pub mod Division
 pub mod Yielded
 pub mod Failures
 pub mod Witnesses
+mod Runs
+mod Answers
+mod Tests
+mod Rooms
+mod Gathering
+mod ByState

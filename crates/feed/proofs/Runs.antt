@@ -1,19 +1,19 @@
 -- Laws of the plain run: it goes on from what is kept, a call's bytes behind some that yield nothing are counted from there, bytes other than LF are kept
 -- while there is room and dropped where the line is too long. Assumes nothing.
 use mathlib.Core.Path.{_≡_, refl, sym, ap, _∙_}
-use mathlib.Core.Bool.{Bool, true, false, not}
-use mathlib.Core.List.{List, [], _∷_, _++_, append-nil, append-assoc}
+use mathlib.Core.Bool.{true, false}
+use mathlib.Core.List.{List, [], _∷_, _++_, append-nil, append-assoc, append-eq-nil-iff}
 use Prim.Native.Nat.{ℕ, suc, _+_, _≤_, _<_}
 use native.Mathlib.Omega.{arith}
-use lib.ListN.{length, take, length-append}
+use lib.ListN.{length, length-append}
 use lib.Seq.{append-snoc}
-use lib.Dec.{eqb, leb}
-use borrow.Author.Tests.{le-leb, lt-leb, leb-true, not-true}
+use lib.Dec.{eqb}
+use borrow.Author.Tests.{le-leb, lt-leb, not-true}
 use Rattle.octets.specs.Bytes.{lf, isNonLf}
-use Rattle.laws.specs.Lists.{all, isNil}
+use Rattle.laws.specs.Lists.{all}
 use Rattle.laws.proofs.Lists.{all-head, all-tail}
 use Rattle.message.specs.Grammar.{lineLimit}
-use Rattle.feed.specs.Lines.{Event, Whole, TooLong, Pending, Unfinished, Dropping, nothing, isFull, yielded, continued, after, events, afterAll, used}
+use Rattle.feed.specs.Lines.{Whole, TooLong, Pending, Unfinished, Dropping, nothing, yielded, continued, after, events, afterAll, used}
 
 -- ---- some bytes behind others
 pub after-append : (s t : List ℕ) (p : Pending) → afterAll p (s ++ t) ≡ afterAll (afterAll p s) t
@@ -26,19 +26,12 @@ unfolding events afterAll
 events-append [] t p = refl
 events-append (b ∷ s) t p = rw (events-append s t (after p b)) (sym (append-assoc (yielded p b) (events (after p b) s) (events (afterAll (after p b) s) t)))
 
--- what yields nothing, joined, yields nothing in its parts
-nil-left : {A : Type 0} (l m : List A) → l ++ m ≡ [] → l ≡ []
-nil-left [] m e = refl
-nil-left (x ∷ l) m e = let z : _≡_ {A = ℕ} 0 1 = cc in absurd (omega (arith, z))
-
-nil-right : {A : Type 0} (l m : List A) → l ++ m ≡ [] → m ≡ []
-nil-right [] m e = e
-nil-right (x ∷ l) m e = let z : _≡_ {A = ℕ} 0 1 = cc in absurd (omega (arith, z))
-
 pub used-append : (s t : List ℕ) (p : Pending) → events p s ≡ [] → used p (s ++ t) ≡ length s + used (afterAll p s) t
 unfolding events afterAll used
 used-append [] t p e = omega arith
-used-append (b ∷ s) t p e = rw (nil-left (yielded p b) (events (after p b) s) e) (ap suc (used-append s t (after p b) (nil-right (yielded p b) (events (after p b) s) e)) ∙ omega arith)
+used-append (b ∷ s) t p e =
+    let parts = append-eq-nil-iff {p = yielded p b} {q = events (after p b) s} .0 e in
+    rw (parts .0) (ap suc (used-append s t (after p b) (parts .1)) ∙ omega arith)
 
 -- ---- bytes other than LF
 not-lf : (b : ℕ) → isNonLf b ≡ true → eqb b lf ≡ false

@@ -4,12 +4,12 @@
 use mathlib.Core.Path.{_≡_, refl, sym, ap, _∙_}
 use mathlib.Core.Bool.{Bool, true, false, not, cond, _&&_}
 use mathlib.Core.List.{List, [], _∷_, _++_}
-use Prim.Native.Nat.{ℕ, suc, _+_, _≤_, _<_}
+use Prim.Native.Nat.{ℕ, _≤_}
 use native.Mathlib.Omega.{arith}
-use lib.ListN.{length, take, drop, getD, replicate, length-append, length-take, length-replicate}
+use lib.ListN.{length, take, getD, replicate, length-append, length-replicate}
 use lib.Seq.{length-take-le}
-use lib.Dec.{eqb, leb}
-use borrow.Author.Tests.{eq-eqb, eqb-true, le-leb, leb-true, leb-false, lt-leb, ltb-true, not-true, not-false}
+use lib.Dec.{eqb}
+use borrow.Author.Tests.{eq-eqb, eqb-true, le-leb, leb-true, leb-false, not-true, not-false}
 use Rattle.octets.specs.Bytes.{lf, isZero, isNonLf}
 use Rattle.laws.specs.Lists.{all, padded}
 use Rattle.laws.proofs.Lists.{Passed, all-passed, all-cons, all-append, all-from, all-replicate, all-padded, length-padded, take-padded, padded-take}
@@ -77,7 +77,7 @@ module _ (f : Feeder) (reached : isReached f ≡ true) where
   unfolding isReached
   tests = all-passed (reachedTests f) reached
 
-  pub room-whole : length (f .bytes) ≡ lineLimit
+  room-whole : length (f .bytes) ≡ lineLimit
   unfolding reachedTests
   room-whole = eqb-true (length (f .bytes)) lineLimit (tests .0)
 
@@ -88,7 +88,7 @@ module _ (f : Feeder) (reached : isReached f ≡ true) where
   pub kept-length : length (take (f .len) (f .bytes)) ≡ f .len
   kept-length = length-take-le (f .len) (f .bytes) (omega (arith, room-whole, kept-small))
 
-  pub kept-clean : all isNonLf (take (f .len) (f .bytes)) ≡ true
+  kept-clean : all isNonLf (take (f .len) (f .bytes)) ≡ true
   unfolding reachedTests
   kept-clean = tests .1 .1 .0
 
@@ -96,7 +96,7 @@ module _ (f : Feeder) (reached : isReached f ≡ true) where
   unfolding reachedTests
   kept-padded = padded-take 0 (f .len) lineLimit (f .bytes) room-whole (λ k p q. eqb-true (getD (f .bytes) k 0) 0 (all-from isZero (f .len) (f .bytes) 0 (tests .1 .1 .1 .0) k p (omega (arith, room-whole))))
 
-  pub dropping-empty : f .dropping ≡ true → f .len ≡ 0
+  dropping-empty : f .dropping ≡ true → f .len ≡ 0
   unfolding reachedTests
   dropping-empty d = eqb-true (f .len) 0 (not-false (isZero (f .len)) (rw d at (not-true (f .dropping && not (isZero (f .len))) (tests .1 .1 .1 .1 .0))))
 
@@ -121,9 +121,6 @@ module _ (f : Feeder) (reached : isReached f ≡ true) where
       go false e = rw e (kept-clean, omega (arith, kept-length, kept-small))
 
 -- ---- and some bytes reach it
-kept-reached : (w : List ℕ) → Sound (Unfinished w) → afterAll nothing w ≡ Unfinished w
-kept-reached w h = keeps w [] (h .0) (omega (arith, h .1))
-
 abbrev pub longLine : List ℕ
 longLine = replicate lineLimit 0 ++ (0 ∷ [])
 
@@ -134,14 +131,20 @@ dropping-reached =
     after-append (replicate lineLimit 0) (0 ∷ []) nothing
     ∙ rw (keeps (replicate lineLimit 0) [] clean (omega (arith, length-replicate {A = ℕ} lineLimit 0))) (full-drops (replicate lineLimit 0) (length-replicate {A = ℕ} lineLimit 0) 0 refl)
 
-pending-reached : (p : Pending) → Sound p → (s : List ℕ) × (afterAll nothing s ≡ p)
-pending-reached (Unfinished w) h = (w, kept-reached w h)
-pending-reached Dropping h = (longLine, dropping-reached)
+-- the bytes that reach a state: its own, or zeros
+unfoldable pub reaching : Feeder → List ℕ
+reaching f = cond (f .dropping) longLine (take (f .len) (f .bytes))
 
-pub tested-reached : (f : Feeder) → isReached f ≡ true → (s : List ℕ) × (f ≡ stateAfter s)
-tested-reached f h =
-    let r = pending-reached (pendingIn f) (sound-back f h) in
-    (r .0, sym (ap stateOf (r .1) ∙ state-back f h))
+reaching-pending : (f : Feeder) → isReached f ≡ true → afterAll nothing (reaching f) ≡ pendingIn f
+unfolding reaching pendingIn
+reaching-pending f h = go (f .dropping) refl
+  where
+    go : (t : Bool) → f .dropping ≡ t → afterAll nothing (cond (f .dropping) longLine (take (f .len) (f .bytes))) ≡ cond (f .dropping) Dropping (Unfinished (take (f .len) (f .bytes)))
+    go true e = rw e dropping-reached
+    go false e = rw e (keeps (take (f .len) (f .bytes)) [] (kept-clean f h) (omega (arith, kept-length f h, kept-small f h)))
+
+pub tested-reached : (f : Feeder) → isReached f ≡ true → f ≡ stateAfter (reaching f)
+tested-reached f h = sym (ap stateOf (reaching-pending f h) ∙ state-back f h)
 
 pub reached-tested : (s : List ℕ) → isReached (stateAfter s) ≡ true
 reached-tested s = sound-tested (afterAll nothing s) (sound-start s)

@@ -1,24 +1,29 @@
 -- What is yielded, read: every line has one LF, at its end, and 1 to 512 bytes; the reader gives it 5 exactly if no CR stands before the LF, and never 4.
 -- Assumes nothing.
 use mathlib.Core.Path.{_≡_, refl, sym, ap, _∙_}
-use mathlib.Core.Bool.{Bool, true, false, not, _&&_, and-true}
+use mathlib.Core.Bool.{Bool, true, false, not, and-true}
 use mathlib.Core.Logic.{_⊎_, inl, inr}
 use mathlib.Core.List.{List, [], _∷_, _++_, List·Memᴰ, List·Memᴰ·append-cases, List·Memᴰ·eq-of-singleton, List·Memᴰ·not-nil}
-use Prim.Native.Nat.{ℕ, suc, _+_, _-_, _≤_, _<_}
+use Prim.Native.Nat.{ℕ, suc, _+_, _-_, _<_}
 use native.Mathlib.Omega.{arith}
-use lib.ListN.{length, getD, length-append}
+use lib.ListN.{length, take, getD, length-append}
 use lib.Seq.{getD-at}
-use lib.Dec.{eqb, leb}
+use lib.Dec.{eqb}
 use borrow.Author.Tests.{eq-eqb, eqb-true, leb-false}
 use Rattle.refusal.specs.Numbers.{lineTooLong, noLineEnd}
-use Rattle.octets.specs.Bytes.{cr, lf, isNonLf}
+use Rattle.octets.specs.Bytes.{lf, isNonLf}
 use Rattle.laws.specs.Lists.{all}
 use Rattle.message.specs.Grammar.{lineLimit}
 use Rattle.message.specs.Reading.{endsLine, numberFor}
 use Rattle.message.proofs.Readings.{ends-short, ends-by, number-small, number-ending}
-use Rattle.feed.specs.Lines.{Event, Whole, TooLong, Pending, Unfinished, Dropping, nothing, isFull, yielded, after, events, afterAll}
+use Rattle.feed.specs.Lines.{Whole, TooLong, Pending, Unfinished, Dropping, isFull, yielded, after, events, used}
+use Rattle.feed.specs.declared.Feeder.{Feeder}
+use Rattle.feed.specs.Feeder.{pendingIn, isReached, feedAnswer}
+use Rattle.feed.specs.Calls.{yields}
 use Rattle.feed.specs.Division.{Ended, Fitting, hasCr}
-use Rattle.feed.proofs.States.{Sound, sound-after, sound-start}
+use Rattle.feed.proofs.ByState.{answer-refused}
+use Rattle.feed.proofs.Calls.{call-yields}
+use Rattle.feed.proofs.States.{Sound, sound-after, state-back, sound-back}
 
 -- ---- a line that is yielded
 fitting : (w : List ℕ) → all isNonLf w ≡ true → length w < lineLimit → Fitting (w ++ (lf ∷ []))
@@ -46,8 +51,16 @@ run-fitting (b ∷ s) p h line m = go (List·Memᴰ·append-cases (yielded p b) 
     go (inl here) ih = byte-fitting p b h line here
     go (inr there) ih = ih there
 
-pub yielded-fitting : (before s line : List ℕ) → List·Memᴰ (Whole line) (events (afterAll nothing before) s) → Fitting line
-yielded-fitting before s line m = run-fitting s (afterAll nothing before) (sound-start before) line m
+pub yielded-fitting : (f : Feeder) (s line : List ℕ) → List·Memᴰ (Whole line) (yields (feedAnswer f s)) → Fitting line
+unfolding yields
+yielded-fitting f s line m = go (isReached f) refl
+  where
+    go : (t : Bool) → isReached f ≡ t → Fitting line
+    go true e =
+        let p : Pending = pendingIn f in
+        let is : yields (feedAnswer f s) ≡ events p (take (used p s) s) = ap (λ (g : Feeder). yields (feedAnswer g s)) (sym (state-back f e)) ∙ call-yields p s (sound-back f e) in
+        run-fitting (take (used p s) s) p (sound-back f e) line (rw is at m)
+    go false e = absurd (List·Memᴰ·not-nil (rw (answer-refused f s e) at m))
 
 -- ---- the reader
 -- CR LF ends it exactly if CR stands before the LF

@@ -1,4 +1,4 @@
--- Some bytes told of all at once, and not byte by byte: lines, each up to and with its LF, and what stands behind the last LF. The plain run is held against this
+-- Some bytes told all at once, and not byte by byte: lines, each up to and with its LF, and what stands behind the last LF. The calls are held against this
 -- (`accounted`, proofs/Division.antt): every byte is in one line, one refused line, or what is kept.
 use Prim.Native.Nat.{ℕ, _-_, _≤_}
 use mathlib.Core.Path.{_≡_}
@@ -8,9 +8,9 @@ use lib.ListN.{length, getD}
 use lib.Dec.{eqb, leb}
 use Rattle.octets.specs.Bytes.{cr, lf, isNonLf}
 use Rattle.laws.specs.Lists.{all}
+use Rattle.laws.specs.Joins.{concatenated}
 use Rattle.message.specs.Grammar.{lineLimit}
 use Rattle.feed.specs.Lines.{Event, Whole, TooLong, Pending, Unfinished, Dropping}
-use Rattle.feed.specs.Calls.{joined}
 
 -- A line has one LF, at its end.
 pub record Ended (line : List ℕ) : Type 0 where
@@ -18,25 +18,25 @@ pub record Ended (line : List ℕ) : Type 0 where
   pub ends : line ≡ body ++ (lf ∷ [])
   pub one : all isNonLf body ≡ true
 
--- Every line that is yielded is one of 1 to 512 bytes.
+-- A line of 1 to 512 bytes. Every line that is yielded is one (`yielded-fitting`, proofs/Yielded.antt).
 pub record Fitting (line : List ℕ) : Type 0 where
   pub ended : Ended line
   pub some : 1 ≤ length line
   pub fits : length line ≤ lineLimit
 
--- CR stands before the LF: a line's last byte but one; a line of one byte has none
+-- of a line that ends with LF: CR stands before it; in a line of one byte none does
 abbrev pub hasCr : List ℕ → Bool
 hasCr line = eqb (getD line (length line - 2) 0) cr
 
 -- The bytes s are these lines and, behind them, the rest, which has no LF.
 pub record Divided (s : List ℕ) (lines : List (List ℕ)) (rest : List ℕ) : Type 0 where
-  pub whole : joined lines ++ rest ≡ s
+  pub whole : concatenated lines ++ rest ≡ s
   pub ended : (line : List ℕ) → List·Memᴰ line lines → Ended line
   pub unended : all isNonLf rest ≡ true
 
 -- a line yields itself, or the refusal, if it has a 513th byte
-abbrev pub told : List ℕ → Event
-told line = cond (leb (length line) lineLimit) (Whole line) TooLong
+abbrev pub eventOf : List ℕ → Event
+eventOf line = cond (leb (length line) lineLimit) (Whole line) TooLong
 
 -- the rest yields nothing, or the refusal already
 abbrev pub overdue : List ℕ → List Event

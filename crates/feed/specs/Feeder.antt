@@ -46,7 +46,7 @@ isReached f = all (λ t. t) (reachedTests f)
 abbrev pub fed : Feeder → ℕ → List ℕ → ℕ → Fed
 fed f n line number = record { state = f; used = n; line = padded lineLimit 0 line; len = length line; number = number }
 
--- the answer of a call that used n bytes, by what they yielded: no line and no number, a line, or 4
+-- the answer of a call that used n bytes, by what they yielded: no line and no number, a line, or 4; they yield once at most
 unfoldable pub answerOf : Pending → ℕ → List Event → Fed
 answerOf p n [] = fed (stateOf p) n [] accepted
 answerOf p n (Whole line ∷ es) = fed (stateOf p) n line accepted

@@ -9,7 +9,7 @@ ghost use Rattle.laws.specs.Lists.{padded};
 ghost use Rattle.message.specs.Grammar.{lineLimit};
 ghost use Rattle.feed.specs.Lines.{Unfinished, Dropping, nothing};
 ghost use Rattle.feed.specs.Feeder.{stateOf, isReached, fed as fedOf, answerTo, feedAnswer};
-ghost use Rattle.feed.specs.Private.{Keeps, kept, past};
+ghost use Rattle.feed.specs.Private.{isClean, KeepsLine, heldBytes, past};
 use message::LINE_LIMIT;
 use octets::Class;
 use octets::all_in;
@@ -22,7 +22,7 @@ use refusal::ACCEPTED;
 use refusal::LINE_TOO_LONG;
 use refusal::NOT_WELL_FORMED;
 
-// What is kept of the line under way: the bytes of an unfinished line, unused room zero; or none, where the line is too long and is dropped up to its LF.
+// What is kept of the line under way: the bytes of an unfinished line, unused room zero; or none, where the line is too long and is dropped up to and with its LF.
 #[repr(C)]
 pub struct Feeder {
     pub bytes: [u8; LINE_LIMIT],
@@ -54,18 +54,24 @@ pub struct Fed {
     pub number: u8,
 }
 
+// Whether the first bytes of a room hold no LF, and the others are zero.
+fn is_clean(bytes: &[u8; LINE_LIMIT], len: usize) -> bool
+    ensures { λ r. ⌜ r ≡ isClean (now (bytes .entry)) len ⌝ }
+{
+    if !all_in(part(bytes, 0, len), Class::NonLf) {
+        return false;
+    }
+    zero_from(bytes, len)
+}
+
 // Whether some bytes reach the state from the empty one.
 pub fn is_reached(state: Feeder) -> bool
     ensures { λ r. ⌜ r ≡ isReached state ⌝ }
 {
-    let bytes = state.bytes;
     if LINE_LIMIT < state.len {
         return false;
     }
-    if !all_in(part(&bytes, 0, state.len), Class::NonLf) {
-        return false;
-    }
-    if !zero_from(&bytes, state.len) {
+    if !is_clean(&state.bytes, state.len) {
         return false;
     }
     if state.dropping {
@@ -98,20 +104,20 @@ fn unlined(state: Feeder, used: usize, number: u8) -> Fed
     }
 }
 
-// The room of an unfinished line with more bytes, for which there is room.
+// The bytes of an unfinished line with more behind them, which fit.
 fn extended(state: Feeder, more: &[u8]) -> [u8; LINE_LIMIT]
-    requires { ⌜ Keeps state × (state .len + length (now more) ≤ lineLimit) ⌝ }
-    ensures { λ r. ⌜ r ≡ padded lineLimit 0 (kept state ++ now (more .entry)) ⌝ }
+    requires { ⌜ KeepsLine state × (state .len + length (now more) ≤ lineLimit) ⌝ }
+    ensures { λ r. ⌜ r ≡ padded lineLimit 0 (heldBytes state ++ now (more .entry)) ⌝ }
 {
     let mut bytes = state.bytes;
     put(&mut bytes, state.len, more);
     bytes
 }
 
-// What is yielded by the bytes from a place on, behind an unfinished line. No more of them are looked at than the line has room for, and one.
+// The answer to the bytes from a place on, behind an unfinished line. No more of them are looked at than the line has room for, and one.
 fn gather(state: Feeder, bytes: &[u8], at: usize) -> Fed
-    requires { ⌜ Keeps state × (at ≤ length (now bytes)) ⌝ }
-    ensures { λ r. ⌜ r ≡ past at (answerTo (Unfinished (kept state)) (drop at (now (bytes .entry)))) ⌝ }
+    requires { ⌜ KeepsLine state × (at ≤ length (now bytes)) ⌝ }
+    ensures { λ r. ⌜ r ≡ past at (answerTo (Unfinished (heldBytes state)) (drop at (now (bytes .entry)))) ⌝ }
 {
     let room = LINE_LIMIT - state.len;
     let stop = at + lesser(bytes.len() - at, room + 1);
@@ -142,8 +148,8 @@ fn gather(state: Feeder, bytes: &[u8], at: usize) -> Fed
     }
 }
 
-// Takes bytes up to and with the first that yields something, else all of them. A line that is dropped yields nothing, so what stands behind its LF is gathered
-// by the same call.
+// Takes bytes up to and with the first that yields something, else all of them. What is left of a line that is dropped yields nothing more, so what stands behind
+// its LF is gathered by the same call.
 pub fn feed(state: Feeder, bytes: &[u8]) -> Fed
     ensures { λ r. ⌜ r ≡ feedAnswer state (now (bytes .entry)) ⌝ }
 {

@@ -147,8 +147,8 @@ module _ (n : ℕ) (p : List ℕ) (h : length p ≤ n) where
   put-padded = put-front room p (omega (arith, length-replicate {A = ℕ} n 0)) ∙ front-padded
 
 -- and more of them behind those
-pub put-more : (n : ℕ) (p q : List ℕ) → length p + length q ≤ n → putAt (padded n 0 p) (length p) q ≡ padded n 0 (p ++ q)
-put-more n p q h =
+pub put-padded-behind : (n : ℕ) (p q : List ℕ) → length p + length q ≤ n → putAt (padded n 0 p) (length p) q ≡ padded n 0 (p ++ q)
+put-padded-behind n p q h =
     ap (λ (l : List ℕ). putAt l (length p) q) (sym (front-padded n p (omega arith)))
     ∙ put-behind (replicate n 0) p q (omega (arith, length-replicate {A = ℕ} n 0))
     ∙ front-padded n (p ++ q) (omega (arith, length-append p q))

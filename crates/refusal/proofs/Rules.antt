@@ -37,17 +37,17 @@ first-none r rs ne e = go (r .applies) refl
     go false h = (h, sym (skip r rs h) ∙ e)
 
 -- ---- a number that no rule has
-abbrev pub lacks : ℕ → List Rule → Bool
-lacks n [] = true
-lacks n (r ∷ rs) = not (eqb (r .number) n) && lacks n rs
+abbrev pub lacksNumber : ℕ → List Rule → Bool
+lacksNumber n [] = true
+lacksNumber n (r ∷ rs) = not (eqb (r .number) n) && lacksNumber n rs
 
 -- isn't given
-pub first-lacks : (n : ℕ) (rs : List Rule) → (n ≡ accepted → ⊥) → lacks n rs ≡ true → eqb (firstOf rs) n ≡ false
+pub first-lacks : (n : ℕ) (rs : List Rule) → (n ≡ accepted → ⊥) → lacksNumber n rs ≡ true → eqb (firstOf rs) n ≡ false
 unfolding firstOf
 first-lacks n [] ne e = ne-eqb accepted n (λ h. ne (sym h))
 first-lacks n (r ∷ rs) ne e = go (r .applies) refl (eqb (r .number) n) refl (first-lacks n rs ne)
   where
-    go : (t : Bool) → r .applies ≡ t → (u : Bool) → eqb (r .number) n ≡ u → (lacks n rs ≡ true → eqb (firstOf rs) n ≡ false) → eqb (firstOf (r ∷ rs)) n ≡ false
+    go : (t : Bool) → r .applies ≡ t → (u : Bool) → eqb (r .number) n ≡ u → (lacksNumber n rs ≡ true → eqb (firstOf rs) n ≡ false) → eqb (firstOf (r ∷ rs)) n ≡ false
     go t h true f ih = absurd (true≢false (sym e ∙ rw f))
     go true h false f ih = rw h f
     go false h false f ih = rw h (ih (rw f at e))
@@ -55,7 +55,7 @@ first-lacks n (r ∷ rs) ne e = go (r .applies) refl (eqb (r .number) n) refl (f
 -- ---- two lists of rules, one after the other
 -- no rule's number is `accepted`
 abbrev pub numbered : List Rule → Bool
-numbered rs = lacks accepted rs
+numbered rs = lacksNumber accepted rs
 
 -- the first rule's number, and those of the others
 numbers : (r : Rule) (rs : List Rule) → numbered (r ∷ rs) ≡ true → (r .number ≡ accepted → ⊥) × (numbered rs ≡ true)

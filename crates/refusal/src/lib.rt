@@ -1,10 +1,10 @@
-// The numbers by which bad input is refused, each with the words of document 01's table ("given exactly when").
+// The numbers by which bad input is refused, each with the words of document 01's table ("given exactly when") and those of 02's requests.
 // No other source file writes such a number as a literal. The definitions have the same names in specs/Numbers.antt.
 
 // Nothing is refused: this one isn't in the table.
 pub const ACCEPTED: u8 = 0;
 
-// table or record not well formed
+// table or record not well formed; a feeder's state that no bytes reach
 pub const NOT_WELL_FORMED: u8 = 1;
 
 // lent output under 512 bytes (line writer, commands)
@@ -13,7 +13,7 @@ pub const OUTPUT_TOO_SHORT: u8 = 2;
 // link above 31 (commands, registering, dropping, log), or (commands) not registered
 pub const BAD_LINK: u8 = 3;
 
-// line over 512 bytes (reader, log)
+// line over 512 bytes (reader, log); the feeder yields it for such a line
 pub const LINE_TOO_LONG: u8 = 4;
 
 // no CR LF at the end

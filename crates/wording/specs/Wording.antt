@@ -52,7 +52,7 @@ n says w = record { number = n; words = w }
 
 unfoldable pub table : List Entry
 table =
-    notWellFormed says "table or record not well formed"
+    notWellFormed says "table, record or feeder not well formed"
     ∷ outputTooShort says "output under 512 bytes"
     ∷ badLink says "link above 31, or not registered"
     ∷ lineTooLong says "line over 512 bytes"

@@ -58,7 +58,7 @@ pub fn words(number: u8) -> Text
     ensures { λ r. ⌜ r ≡ textOf number ⌝ }
 {
     match number {
-        NOT_WELL_FORMED => held(b"table or record not well formed"),
+        NOT_WELL_FORMED => held(b"table, record or feeder not well formed"),
         OUTPUT_TOO_SHORT => held(b"output under 512 bytes"),
         BAD_LINK => held(b"link above 31, or not registered"),
         LINE_TOO_LONG => held(b"line over 512 bytes"),

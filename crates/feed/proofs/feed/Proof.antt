@@ -1,11 +1,11 @@
 -- `feed` meets its contract: a state that fails the test is refused; an unfinished line is gathered; a line that is dropped goes on to its LF, and what stands
 -- behind that is gathered from the empty state. Assumes nothing.
-use mathlib.Core.Path.{_≡_, refl, sym, ap, _∙_}
-use mathlib.Core.Bool.{true, false}
+use mathlib.Core.Path.{_≡_, sym, ap, _∙_}
+use mathlib.Core.Bool.{true}
 use mathlib.Core.List.{List, []}
-use Prim.Native.Nat.{ℕ, _+_, _<_}
+use Prim.Native.Nat.{ℕ, _<_}
 use native.Mathlib.Omega.{arith}
-use lib.ListN.{length, drop}
+use lib.ListN.{length}
 use borrow.Author.Needs.{needs}
 use borrow.Author.Tests.{not-true, not-false}
 use Rattle.refusal.specs.Numbers.{accepted}
@@ -13,7 +13,7 @@ use Rattle.octets.specs.Bytes.{lf}
 use Rattle.octets.proofs.Search.{before-within}
 use Rattle.feed.specs.declared.Feeder.{Feeder}
 use Rattle.feed.specs.Feeder.{isReached, fed}
-use Rattle.feed.proofs.Feeding.{feeds-refused, feeds-kept, feeds-dropped, feeds-resumed, empty-keeps}
+use Rattle.feed.proofs.ByState.{feeds-refused, feeds-kept, feeds-dropped, feeds-resumed, empty-keeps}
 use Rattle.feed.proofs.feed.Statement.{statement}
 use Rattle.feed.proofs.feed.Tie as tie
 
@@ -43,12 +43,12 @@ returns c =
     feeds-refused (a .state) (a .bytes .now) (sym (c .before .before .is-reached .ensures) ∙ not-true _ (c .before .if1 .taken)) _ (c .unlined .ensures)
 
 gather-requires : tie.Need-gather-requires
-gather-requires c κs = (record { reached = reached (c .before .before); still = not-true _ (c .if2 .taken) }, omega arith)
+gather-requires c κs = (record { reached = reached (c .before .before); undropped = not-true _ (c .if2 .taken) }, omega arith)
 
 returns-2 : tie.Need-returns-2
 returns-2 c =
     let p = c .before .before .before in
-    feeds-kept (state p) (bytes p) (record { reached = reached p; still = not-true _ (c .before .if2 .taken) }) _ (c .gather .ensures)
+    feeds-kept (state p) (bytes p) (record { reached = reached p; undropped = not-true _ (c .before .if2 .taken) }) _ (c .gather .ensures)
 
 place-of-requires : tie.Need-place-of-requires
 place-of-requires c κs = search needs

@@ -1,5 +1,5 @@
 -- `gather` meets its contract: the first LF among the bytes that it looks at, or that there is none, decides how the line goes on (`Gathering`). Assumes nothing.
-use mathlib.Core.Path.{_≡_, refl, sym, ap, _∙_}
+use mathlib.Core.Path.{_≡_, sym, ap, _∙_}
 use mathlib.Core.List.{List, [], _++_}
 use Prim.Native.Nat.{ℕ, _+_, _-_, _≤_, _<_, min}
 use native.Mathlib.Omega.{arith}
@@ -15,7 +15,7 @@ use Rattle.feed.specs.declared.Feeder.{Feeder}
 use Rattle.feed.specs.declared.Fed.{Fed}
 use Rattle.feed.specs.Lines.{Unfinished, nothing}
 use Rattle.feed.specs.Feeder.{stateOf, fed, answerTo}
-use Rattle.feed.specs.Private.{Keeps, kept, past}
+use Rattle.feed.specs.Private.{KeepsLine, heldBytes, past}
 use Rattle.feed.proofs.States.{kept-length, kept-small}
 use Rattle.feed.proofs.Gathering.{goes-on, too-long, line-over, line-room, line-whole}
 use Rattle.feed.proofs.gather.Statement.{statement}
@@ -40,20 +40,20 @@ looked c = c .before .before .lesser .result
 abbrev found : tie.After-place-of → ℕ
 found c = c .place-of .result
 
-keeps : (c : tie.After-place-of) → Keeps (state c)
+keeps : (c : tie.After-place-of) → KeepsLine (state c)
 keeps c = c .before .before .before .before .before .pre .0
 
 inside : (c : tie.After-place-of) → at c ≤ length (bytes c)
 inside c = c .before .before .before .before .before .pre .1
 
-length-kept : (c : tie.After-place-of) → length (kept (state c)) ≡ state c .len
-length-kept c = kept-length (state c) (keeps c .reached)
+held-length : (c : tie.After-place-of) → length (heldBytes (state c)) ≡ state c .len
+held-length c = kept-length (state c) (keeps c .reached)
 
-small : (c : tie.After-place-of) → length (kept (state c)) ≤ lineLimit
-small c = omega (arith, length-kept c, kept-small (state c) (keeps c .reached))
+small : (c : tie.After-place-of) → length (heldBytes (state c)) ≤ lineLimit
+small c = omega (arith, held-length c, kept-small (state c) (keeps c .reached))
 
-reach : (c : tie.After-place-of) → looked c ≡ min (length (rest c)) (lineLimit - length (kept (state c)) + 1)
-reach c = omega (arith, c .before .before .lesser .ensures, length-drop (at c) (bytes c), length-kept c)
+reach : (c : tie.After-place-of) → looked c ≡ min (length (rest c)) (lineLimit - length (heldBytes (state c)) + 1)
+reach c = omega (arith, c .before .before .lesser .ensures, length-drop (at c) (bytes c), held-length c)
 
 ahead : (c : tie.After-place-of) → c .before .part .result .now ≡ take (looked c) (rest c)
 ahead c = c .before .part .ensures .0 ∙ part-next (bytes c) (at c) (looked c)
@@ -65,7 +65,7 @@ bounded : (c : tie.After-place-of) → (found c ≤ looked c) × (at c + looked 
 bounded c = omega (arith, is c, before-within lf (take (looked c) (rest c)), length-take (looked c) (rest c), reach c, length-drop (at c) (bytes c), inside c)
 
 -- the answer of a call that passed over the bytes before
-behind : (c : tie.After-place-of) (r : Fed) → answerTo (Unfinished (kept (state c))) (rest c) ≡ r → past (at c) r ≡ past (at c) (answerTo (Unfinished (kept (state c))) (rest c))
+behind : (c : tie.After-place-of) (r : Fed) → answerTo (Unfinished (heldBytes (state c))) (rest c) ≡ r → past (at c) r ≡ past (at c) (answerTo (Unfinished (heldBytes (state c))) (rest c))
 behind c r e = ap (past (at c)) (sym e)
 
 -- LF is among them
@@ -73,11 +73,11 @@ some : (c : tie.Else1) → found (c .before) < looked (c .before)
 some c = omega (arith, bounded (c .before), c .if1 .left)
 
 -- and isn't the 513th byte
-early : (c : tie.Else3) → found (c .before .before) ≡ lineLimit - length (kept (state (c .before .before))) → ⊥
-early c e = c .if3 .left (e ∙ ap (λ (n : ℕ). lineLimit - n) (length-kept (c .before .before)))
+early : (c : tie.Else3) → found (c .before .before) ≡ lineLimit - length (heldBytes (state (c .before .before))) → ⊥
+early c e = c .if3 .left (e ∙ ap (λ (n : ℕ). lineLimit - n) (held-length (c .before .before)))
 
-room-left : (c : tie.Else3) → length (kept (state (c .before .before))) + found (c .before .before) < lineLimit
-room-left c = let p = c .before .before in line-room (kept (state p)) (rest p) (looked p) (found p) (small p) (reach p) (is p) (some (c .before)) (early c)
+room-left : (c : tie.Else3) → length (heldBytes (state (c .before .before))) + found (c .before .before) < lineLimit
+room-left c = let p = c .before .before in line-room (heldBytes (state p)) (rest p) (looked p) (found p) (small p) (reach p) (is p) (some (c .before)) (early c)
 
 -- and ends with it
 line-bytes : (c : tie.After-part2) → let p : tie.After-place-of = c .before .before .before .before in c .part2 .result .now ≡ take (found p + 1) (rest p)
@@ -122,7 +122,7 @@ returns c =
     let p = c .before .before .before .before in
     c .unlined .ensures
     ∙ rw (c .before .dropping .ensures)
-    (behind p _ (too-long (kept (state p)) (rest p) (looked p) (found p) (small p) (reach p) (is p) (omega (arith, c .before .before .before .if1 .taken)) (omega (arith, c .before .before .if2 .taken, length-kept p))))
+    (behind p _ (too-long (heldBytes (state p)) (rest p) (looked p) (found p) (small p) (reach p) (is p) (omega (arith, c .before .before .before .if1 .taken)) (omega (arith, c .before .before .if2 .taken, held-length p))))
 
 extended-requires : tie.Need-extended-requires
 extended-requires c κs =
@@ -140,8 +140,8 @@ unfolding stateOf
 returns-2 c =
     let left = c .before .before .before in
     let p = left .before .before in
-    let on = goes-on (kept (state p)) (rest p) (looked p) (found p) (small p) (reach p) (is p) (omega (arith, left .before .if1 .taken)) (omega (arith, left .if2 .left, length-kept p)) in
-    let n : state p .len + found p ≡ length (kept (state p) ++ rest p) = omega (arith, length-append (kept (state p)) (rest p), length-kept p, on .1) in
+    let on = goes-on (heldBytes (state p)) (rest p) (looked p) (found p) (small p) (reach p) (is p) (omega (arith, left .before .if1 .taken)) (omega (arith, left .if2 .left, held-length p)) in
+    let n : state p .len + found p ≡ length (heldBytes (state p) ++ rest p) = omega (arith, length-append (heldBytes (state p)) (rest p), held-length p, on .1) in
     c .unlined2 .ensures ∙ rw (c .before .before .extended .ensures, ahead p, on .0, n) (behind p _ (on .2))
 
 add-behind : tie.Need-add-behind
@@ -159,7 +159,7 @@ returns-3 c =
     let p = over .before .before in
     c .unlined3 .ensures
     ∙ rw (c .before .empty .ensures)
-    (ap (λ (n : ℕ). fed (stateOf nothing) n [] lineTooLong) (omega arith) ∙ behind p _ (line-over (kept (state p)) (rest p) (looked p) (found p) (small p) (reach p) (is p) (some (over .before)) (over .if3 .taken ∙ omega (arith, length-kept p))))
+    (ap (λ (n : ℕ). fed (stateOf nothing) n [] lineTooLong) (omega arith) ∙ behind p _ (line-over (heldBytes (state p)) (rest p) (looked p) (found p) (small p) (reach p) (is p) (some (over .before)) (over .if3 .taken ∙ omega (arith, held-length p))))
 
 empty-requires-2 : tie.Need-empty-requires-2
 empty-requires-2 c κs = search needs
@@ -171,23 +171,23 @@ extended-requires-2 : tie.Need-extended-requires-2
 extended-requires-2 c κs =
     let within = c .before .before in
     let p = within .before .before in
-    (keeps p, omega (arith, ap (λ (l : List ℕ). length l) (line-bytes c), length-take (found p + 1) (rest p), room-left within, length-kept p))
+    (keeps p, omega (arith, ap (λ (l : List ℕ). length l) (line-bytes c), length-take (found p + 1) (rest p), room-left within, held-length p))
 
 add-t11 : tie.Need-add-t11
-add-t11 c = let within = c .before .before .before .before in omega (arith, room-left within, length-kept (within .before .before))
+add-t11 c = let within = c .before .before .before .before in omega (arith, room-left within, held-length (within .before .before))
 
 add-t12 : tie.Need-add-t12
-add-t12 c = let within = c .before .before .before .before in omega (arith, room-left within, length-kept (within .before .before))
+add-t12 c = let within = c .before .before .before .before in omega (arith, room-left within, held-length (within .before .before))
 
 returns-4 : tie.Need-returns-4
 returns-4 c =
     let within = c .before .before .before .before in
     let p = within .before .before in
-    let line : List ℕ = kept (state p) ++ take (found p + 1) (rest p) in
-    let n : state p .len + found p + 1 ≡ length line = omega (arith, length-append (kept (state p)) (take (found p + 1) (rest p)), length-take (found p + 1) (rest p), length-drop (at p) (bytes p), bounded p, some (within .before), length-kept p) in
+    let line : List ℕ = heldBytes (state p) ++ take (found p + 1) (rest p) in
+    let n : state p .len + found p + 1 ≡ length line = omega (arith, length-append (heldBytes (state p)) (take (found p + 1) (rest p)), length-take (found p + 1) (rest p), length-drop (at p) (bytes p), bounded p, some (within .before), held-length p) in
     rw (c .before .before .before .empty2 .ensures, c .before .extended2 .ensures, line-bytes (c .before .before), n)
     (ap (λ (k : ℕ). fed (stateOf nothing) k line accepted) (omega arith)
-    ∙ behind p _ (line-whole (kept (state p)) (rest p) (looked p) (found p) (small p) (reach p) (is p) (some (within .before)) (early within)))
+    ∙ behind p _ (line-whole (heldBytes (state p)) (rest p) (looked p) (found p) (small p) (reach p) (is p) (some (within .before)) (early within)))
 
 pub gather-spec : {M : Type 1} → statement M
 gather-spec =

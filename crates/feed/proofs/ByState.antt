@@ -3,17 +3,16 @@
 use mathlib.Core.Path.{_≡_, refl, sym, ap, ap₂, _∙_}
 use mathlib.Core.Bool.{true, false, not}
 use mathlib.Core.List.{List, [], _∷_, _++_}
-use Prim.Native.Nat.{ℕ, suc, _+_, _≤_, _<_}
+use Prim.Native.Nat.{ℕ, _+_, _<_}
 use native.Mathlib.Numerals.{add-one}
 use native.Mathlib.Nat.{zero-add}
 use native.Mathlib.Omega.{arith}
 use lib.ListN.{length, take, drop, take-append-drop}
 use lib.Seq.{take-length}
-use lib.Dec.{eqb}
 use Rattle.refusal.specs.Numbers.{accepted, notWellFormed}
-use Rattle.refusal.specs.Rules.{Rule, _when_, firstOf, ascend, ascendFrom, placeIn}
+use Rattle.refusal.specs.Rules.{_when_, ascend, ascendFrom, placeIn}
 use Rattle.refusal.proofs.Rules.{skip, stop, first-nil}
-use Rattle.octets.specs.Bytes.{lf, isNonLf}
+use Rattle.octets.specs.Bytes.{lf}
 use Rattle.octets.specs.Search.{before}
 use Rattle.octets.proofs.Search.{before-none, before-front, before-then}
 use Rattle.laws.specs.Lists.{all}
@@ -21,7 +20,7 @@ use Rattle.feed.specs.declared.Feeder.{Feeder}
 use Rattle.feed.specs.declared.Fed.{Fed}
 use Rattle.feed.specs.Lines.{Pending, Unfinished, Dropping, nothing}
 use Rattle.feed.specs.Feeder.{stateOf, pendingIn, isReached, fed, answerTo, feedRules, feedAnswer}
-use Rattle.feed.specs.Private.{Keeps, kept, past}
+use Rattle.feed.specs.Private.{KeepsLine, heldBytes, past}
 use Rattle.feed.proofs.States.{sound-tested, state-back, pending-kept, pending-dropping}
 use Rattle.feed.proofs.Answers.{answer-dropping, answer-resumed}
 
@@ -47,9 +46,9 @@ module _ (f : Feeder) (s : List ℕ) where
   feeds-refused e r is = is ∙ sym (answer-refused e)
 
   -- ---- an unfinished line
-  pub feeds-kept : Keeps f → (r : Fed) → r ≡ past 0 (answerTo (Unfinished (kept f)) s) → r ≡ feedAnswer f s
+  pub feeds-kept : KeepsLine f → (r : Fed) → r ≡ past 0 (answerTo (Unfinished (heldBytes f)) s) → r ≡ feedAnswer f s
   feeds-kept k r is =
-      is ∙ past-none (answerTo (Unfinished (kept f)) s) ∙ sym (answer-taken (k .reached) ∙ ap (λ (p : Pending). answerTo p s) (pending-kept f (k .still)))
+      is ∙ past-none (answerTo (Unfinished (heldBytes f)) s) ∙ sym (answer-taken (k .reached) ∙ ap (λ (p : Pending). answerTo p s) (pending-kept f (k .undropped)))
 
   -- ---- a line that is dropped
   module _ (reached : isReached f ≡ true) (drops : f .dropping ≡ true) where
@@ -71,6 +70,6 @@ module _ (f : Feeder) (s : List ℕ) where
         is ∙ sym (dropped ∙ ap (answerTo Dropping) parts ∙ answer-resumed (before lf s) (drop (n + 1) s) (before-none lf s))
 
 -- ---- the empty state
-pub empty-keeps : (f : Feeder) → f ≡ stateOf nothing → Keeps f × (kept f ≡ [])
+pub empty-keeps : (f : Feeder) → f ≡ stateOf nothing → KeepsLine f × (heldBytes f ≡ [])
 unfolding stateOf all
-empty-keeps f e = rw e (record { reached = sound-tested nothing (refl, omega arith); still = refl }, refl)
+empty-keeps f e = rw e (record { reached = sound-tested nothing (refl, omega arith); undropped = refl }, refl)
