@@ -30,8 +30,9 @@
  *
  * What it promises. Any bytes, on any link, with any table, get one answer. Bad input is refused by one of the numbers below, the lowest
  * that applies; then nothing is changed: table and feeder are as before, every lent buffer too, and sets, counts and lengths are 0. (The
- * 4 that a feeder yields in the place of a line refuses that line and not the call.) What is accepted puts its output at the front of the lent room and leaves the rest of the room as it was. These promises are proved of
- * the library; this header is not part of the proof, so `relay_layout_matches` compares the two.
+ * 4 that a feeder yields in the place of a line refuses that line and not the call.) What is accepted puts its output at the front of the
+ * lent room and leaves the rest of the room as it was. These promises are proved of the library; this header is not part of the proof, so
+ * `relay_layout_matches` compares the two.
  *
  * What you owe it.
  *  - A pointer is never NULL, not even with the length 0 (`relay_bytes_of` and `relay_room_of` see to that), and as many bytes as the

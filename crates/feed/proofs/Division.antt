@@ -35,19 +35,20 @@ comes-then s t es fs p q c e f = record {
 }
 
 -- ---- bytes without LF
+-- 512 of them at most
+short-comes : (u : List ℕ) → all isNonLf u ≡ true → length u ≤ lineLimit → Comes u [] (Unfinished u)
+short-comes u clean h = record { yields = keeps-silent u [] clean (omega arith); leaves = keeps u [] clean (omega arith) }
+
 -- 512, one more, and any
 full-comes : (u : List ℕ) (b : ℕ) (t : List ℕ) → length u ≡ lineLimit → all isNonLf u ≡ true → isNonLf b ≡ true → all isNonLf t ≡ true → Comes (u ++ b ∷ t) (TooLong ∷ []) Dropping
 unfolding events afterAll
 full-comes u b t size clean other more =
     comes-then u (b ∷ t) [] (TooLong ∷ []) (Unfinished u) Dropping
-    (record { yields = keeps-silent u [] clean (omega arith); leaves = keeps u [] clean (omega arith) })
+    (short-comes u clean (omega arith))
     (rw (full-yields u size b, full-drops u size b other, drops-silent t more))
     (rw (full-drops u size b other) (drops t more))
 
 module _ (u : List ℕ) (clean : all isNonLf u ≡ true) where
-  short-comes : length u ≤ lineLimit → Comes u [] (Unfinished u)
-  short-comes h = record { yields = keeps-silent u [] clean (omega arith); leaves = keeps u [] clean (omega arith) }
-
   -- a 513th among them
   long-comes : lineLimit < length u → Comes u (TooLong ∷ []) Dropping
   long-comes h =
@@ -59,7 +60,7 @@ module _ (u : List ℕ) (clean : all isNonLf u ≡ true) where
   rest-comes = go (leb (length u) lineLimit) refl
     where
       go : (t : Bool) → leb (length u) lineLimit ≡ t → Comes u (overdue u) (keptOf u)
-      go true e = rw e (short-comes (leb-true (length u) lineLimit e))
+      go true e = rw e (short-comes u clean (leb-true (length u) lineLimit e))
       go false e = rw e (long-comes (leb-false (length u) lineLimit e))
 
 -- ---- a line

@@ -100,10 +100,11 @@ module _ (f : Feeder) (reached : isReached f ≡ true) where
   unfolding reachedTests
   dropping-empty d = eqb-true (f .len) 0 (not-false (isZero (f .len)) (rw d at (not-true (f .dropping && not (isZero (f .len))) (tests .1 .1 .1 .1 .0))))
 
-  -- is that of its own pending line
+  -- it is known by its fields
   alike : {b : List ℕ} {n : ℕ} {d : Bool} → b ≡ f .bytes → n ≡ f .len → d ≡ f .dropping → record { bytes = b; len = n; dropping = d } ≡ f
   alike p q r = rw (p, q, r)
 
+  -- it is that of its own pending line
   pub state-back : stateOf (pendingIn f) ≡ f
   unfolding stateOf
   state-back = go (f .dropping) refl
@@ -112,6 +113,7 @@ module _ (f : Feeder) (reached : isReached f ≡ true) where
       go true e = ap stateOf (pending-dropping f e) ∙ alike (ap (λ (n : ℕ). padded lineLimit 0 (take n (f .bytes))) (sym (dropping-empty e)) ∙ kept-padded) (sym (dropping-empty e)) (sym e)
       go false e = ap stateOf (pending-kept f e) ∙ alike kept-padded kept-length (sym e)
 
+  -- which is sound
   pub sound-back : Sound (pendingIn f)
   unfolding pendingIn
   sound-back = go (f .dropping) refl
@@ -121,6 +123,7 @@ module _ (f : Feeder) (reached : isReached f ≡ true) where
       go false e = rw e (kept-clean, omega (arith, kept-length, kept-small))
 
 -- ---- and some bytes reach it
+-- 513 zeros
 abbrev pub longLine : List ℕ
 longLine = replicate lineLimit 0 ++ (0 ∷ [])
 
