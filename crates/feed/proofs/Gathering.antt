@@ -36,14 +36,14 @@ module _ (w s : List ℕ) (k found : ℕ) (small : length w ≤ lineLimit) (reac
         rw e at (before-none lf ahead)
 
     -- the line goes on
-    pub goes-on : found ≤ lineLimit - length w → (ahead ≡ s) × (found ≡ length s) × (answerTo (Unfinished w) s ≡ fed (stateOf (Unfinished (w ++ s))) found [] accepted)
+    pub goes-on : length w + found ≤ lineLimit → (ahead ≡ s) × (found ≡ length s) × (answerTo (Unfinished w) s ≡ fed (stateOf (Unfinished (w ++ s))) found [] accepted)
     goes-on h =
         let whole : ahead ≡ s = take-all k s (omega arith) in
         let n : found ≡ length s = omega arith in
         (whole, n, answer-kept w s (rw whole at all-clear) (omega arith) ∙ ap (λ (m : ℕ). fed (stateOf (Unfinished (w ++ s))) m [] accepted) (sym n))
 
     -- the last of them is the 513th byte
-    pub too-long : lineLimit - length w < found → answerTo (Unfinished w) s ≡ fed (stateOf Dropping) found [] lineTooLong
+    pub too-long : lineLimit < length w + found → answerTo (Unfinished w) s ≡ fed (stateOf Dropping) found [] lineTooLong
     too-long h =
         let room : ℕ = lineLimit - length w in
         let inside : room < length s = omega arith in
@@ -78,17 +78,17 @@ module _ (w s : List ℕ) (k found : ℕ) (small : length w ≤ lineLimit) (reac
         ap (take (found + 1)) (split ∙ sym (append-snoc clear lf rest))
         ∙ take-at (clear ++ (lf ∷ [])) rest (found + 1) (omega (arith, length-append clear (lf ∷ [])))
 
-    pub line-over : found ≡ lineLimit - length w → answerTo (Unfinished w) s ≡ fed (stateOf nothing) (found + 1) [] lineTooLong
+    pub line-over : length w + found ≡ lineLimit → answerTo (Unfinished w) s ≡ fed (stateOf nothing) (found + 1) [] lineTooLong
     line-over h =
         ap (answerTo (Unfinished w)) split
         ∙ answer-over w clear (before-none lf ahead) rest (omega arith)
         ∙ ap (λ (n : ℕ). fed (stateOf nothing) (n + 1) [] lineTooLong) (sym is)
 
     -- LF before the 513th byte: the line has room for it
-    pub line-room : (found ≡ lineLimit - length w → ⊥) → length w + found < lineLimit
-    line-room h = let n : found ≤ lineLimit - length w = omega arith in omega (arith, h)
+    pub line-room : (length w + found ≡ lineLimit → ⊥) → length w + found < lineLimit
+    line-room h = let n : length w + found ≤ lineLimit = omega arith in omega (arith, h)
 
-    pub line-whole : (found ≡ lineLimit - length w → ⊥) → answerTo (Unfinished w) s ≡ fed (stateOf nothing) (found + 1) (w ++ take (found + 1) s) accepted
+    pub line-whole : (length w + found ≡ lineLimit → ⊥) → answerTo (Unfinished w) s ≡ fed (stateOf nothing) (found + 1) (w ++ take (found + 1) s) accepted
     line-whole h =
         ap (answerTo (Unfinished w)) split
         ∙ answer-line w clear (before-none lf ahead) rest (omega arith)

@@ -119,31 +119,34 @@ fn gather(state: Feeder, bytes: &[u8], at: usize) -> Fed
     requires { ⌜ KeepsLine state × (at ≤ length (now bytes)) ⌝ }
     ensures { λ r. ⌜ r ≡ past at (answerTo (Unfinished (heldBytes state)) (drop at (now (bytes .entry)))) ⌝ }
 {
-    let room = LINE_LIMIT - state.len;
+    let held = state.len;
+    let room = LINE_LIMIT - held;
     let stop = at + lesser(bytes.len() - at, room + 1);
     let ahead = part(bytes, at, stop);
     let found = place_of(ahead, b'\n');
     let end = at + found;
+    let len = held + found;
     if end == stop {
-        if room < found {
+        if LINE_LIMIT < len {
             return unlined(dropping(), end, LINE_TOO_LONG);
         }
         let kept = Feeder {
             bytes: extended(state, ahead),
-            len: state.len + found,
+            len,
             dropping: false,
         };
         return unlined(kept, end, ACCEPTED);
     }
     let behind = end + 1;
-    if found == room {
+    if len == LINE_LIMIT {
         return unlined(Feeder::empty(), behind, LINE_TOO_LONG);
     }
+    let whole = len + 1;
     Fed {
         state: Feeder::empty(),
         used: behind,
         line: extended(state, part(bytes, at, behind)),
-        len: state.len + found + 1,
+        len: whole,
         number: ACCEPTED,
     }
 }

@@ -187,6 +187,11 @@ module _ {A : Type 0} (x : A) where
   unfolding padded
   length-padded n l = length-take-le n (l ++ replicate n x) (omega (arith, length-append l (replicate n x), length-replicate n x))
 
+  -- nothing padded is all padding
+  pub padded-none : (n : ℕ) → padded n x [] ≡ replicate n x
+  unfolding padded
+  padded-none n = take-replicate n n (omega arith)
+
   -- a list that is no longer stands at the front
   pub take-padded : (n : ℕ) (l : List A) → length l ≤ n → take (length l) (padded n x l) ≡ l
   unfolding padded

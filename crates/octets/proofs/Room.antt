@@ -18,6 +18,7 @@ pub part-front : (s : List ℕ) (n : ℕ) → part s 0 n ≡ take n s
 unfolding part
 part-front s n = let e : n - 0 ≡ n = omega arith in rw e
 
+-- the next n bytes from a place on
 pub part-next : (s : List ℕ) (start n : ℕ) → part s start (start + n) ≡ take n (drop start s)
 unfolding part
 part-next s start n = let e : start + n - start ≡ n = omega arith in rw e

@@ -1,4 +1,4 @@
-// Bytes: their classes, the place of one, byte strings compared, numbers in decimal, a part of a lent slice, bytes put into lent room, and capital letters.
+// Bytes: their classes, zero bytes, the place of one, byte strings compared, numbers in decimal, a part of a lent slice, bytes put into lent room, and capital letters.
 // Every function takes any bytes and refuses nothing.
 ghost use mathlib.Core.Path.{_≡_};
 ghost use mathlib.Core.Bool.{cond};
@@ -178,7 +178,7 @@ pub fn zero_from(s: &[u8], from: usize) -> bool
 }
 
 // 1 for the byte b, 0 for any other.
-fn is_b(x: u8, b: u8) -> u8
+fn hit(x: u8, b: u8) -> u8
     ensures { λ r. ⌜ r ≡ cond (eqb x b) 1 0 ⌝ }
 {
     if x == b {
@@ -195,7 +195,7 @@ fn is_clear(s: &[u8], at: usize, b: u8) -> bool
     let mut found = 0u8;
     let mut i = 0;
     while i < BLOCK {
-        found = found | is_b(s[at + i], b);
+        found = found | hit(s[at + i], b);
         i += 1;
     }
     found == 0

@@ -23,13 +23,13 @@ use Rattle.feed.proofs.gather.Tie as tie
 
 -- ---- what is known once LF is looked for
 abbrev state : tie.After-place-of → Feeder
-state c = c .before .before .before .before .before .args .state
+state c = c .before .before .before .before .args .state
 
 abbrev at : tie.After-place-of → ℕ
-at c = c .before .before .before .before .before .args .at
+at c = c .before .before .before .before .args .at
 
 abbrev bytes : tie.After-place-of → List ℕ
-bytes c = c .before .before .before .before .before .args .bytes .now
+bytes c = c .before .before .before .before .args .bytes .now
 
 abbrev rest : tie.After-place-of → List ℕ
 rest c = drop (at c) (bytes c)
@@ -41,10 +41,10 @@ abbrev found : tie.After-place-of → ℕ
 found c = c .place-of .result
 
 keeps : (c : tie.After-place-of) → KeepsLine (state c)
-keeps c = c .before .before .before .before .before .pre .0
+keeps c = c .before .before .before .before .pre .0
 
 inside : (c : tie.After-place-of) → at c ≤ length (bytes c)
-inside c = c .before .before .before .before .before .pre .1
+inside c = c .before .before .before .before .pre .1
 
 held-length : (c : tie.After-place-of) → length (heldBytes (state c)) ≡ state c .len
 held-length c = kept-length (state c) (keeps c .reached)
@@ -61,6 +61,10 @@ ahead c = c .before .part .ensures .0 ∙ part-next (bytes c) (at c) (looked c)
 is : (c : tie.After-place-of) → found c ≡ length (before lf (take (looked c) (rest c)))
 is c = c .place-of .ensures ∙ ap (λ (l : List ℕ). length (before lf l)) (ahead c)
 
+-- the length of the line up to there, as the code has it
+lengths : (c : tie.After-place-of) → length (heldBytes (state c)) + found c ≡ state c .len + found c
+lengths c = ap (λ (n : ℕ). n + found c) (held-length c)
+
 bounded : (c : tie.After-place-of) → (found c ≤ looked c) × (at c + looked c ≤ length (bytes c))
 bounded c = omega (arith, is c, before-within lf (take (looked c) (rest c)), length-take (looked c) (rest c), reach c, length-drop (at c) (bytes c), inside c)
 
@@ -73,8 +77,8 @@ some : (c : tie.Else1) → found (c .before) < looked (c .before)
 some c = omega (arith, bounded (c .before), c .if1 .left)
 
 -- and isn't the 513th byte
-early : (c : tie.Else3) → found (c .before .before) ≡ lineLimit - length (heldBytes (state (c .before .before))) → ⊥
-early c e = c .if3 .left (e ∙ ap (λ (n : ℕ). lineLimit - n) (held-length (c .before .before)))
+early : (c : tie.Else3) → length (heldBytes (state (c .before .before))) + found (c .before .before) ≡ lineLimit → ⊥
+early c e = c .if3 .left (sym (lengths (c .before .before)) ∙ e)
 
 room-left : (c : tie.Else3) → length (heldBytes (state (c .before .before))) + found (c .before .before) < lineLimit
 room-left c = let p = c .before .before in line-room (heldBytes (state p)) (rest p) (looked p) (found p) (small p) (reach p) (is p) (some (c .before)) (early c)
@@ -88,7 +92,7 @@ line-bytes c =
 
 -- ---- the needs
 sub-room : tie.Need-sub-room
-sub-room c = kept-small (c .before .before .args .state) (c .before .before .pre .0 .reached)
+sub-room c = kept-small (c .before .args .state) (c .before .pre .0 .reached)
 
 sub-lesser : tie.Need-sub-lesser
 sub-lesser c = search needs
@@ -111,6 +115,9 @@ place-of-requires c κs = search needs
 add-end : tie.Need-add-end
 add-end c = omega (arith, bounded c)
 
+add-len : tie.Need-add-len
+add-len c = omega (arith, bounded c, kept-small (state c) (keeps c .reached))
+
 dropping-requires : tie.Need-dropping-requires
 dropping-requires c κs = search needs
 
@@ -119,18 +126,16 @@ unlined-requires c κs = search needs
 
 returns : tie.Need-returns
 returns c =
-    let p = c .before .before .before .before in
+    let over = c .before .before in
+    let p = over .before .before in
     c .unlined .ensures
     ∙ rw (c .before .dropping .ensures)
-    (behind p _ (too-long (heldBytes (state p)) (rest p) (looked p) (found p) (small p) (reach p) (is p) (omega (arith, c .before .before .before .if1 .taken)) (omega (arith, c .before .before .if2 .taken, held-length p))))
+    (behind p _ (too-long (heldBytes (state p)) (rest p) (looked p) (found p) (small p) (reach p) (is p) (omega (arith, over .before .if1 .taken)) (omega (arith, over .if2 .taken, lengths p))))
 
 extended-requires : tie.Need-extended-requires
 extended-requires c κs =
     let p = c .before .before in
-    (keeps p, omega (arith, ap (λ (l : List ℕ). length l) (ahead p), length-take (looked p) (rest p), c .before .if1 .taken, c .if2 .left, kept-small (state p) (keeps p .reached)))
-
-add-t19 : tie.Need-add-t19
-add-t19 c = search needs
+    (keeps p, omega (arith, ap (λ (l : List ℕ). length l) (ahead p), length-take (looked p) (rest p), c .before .if1 .taken, c .if2 .left))
 
 unlined-requires-2 : tie.Need-unlined-requires-2
 unlined-requires-2 c κs = search needs
@@ -138,11 +143,11 @@ unlined-requires-2 c κs = search needs
 returns-2 : tie.Need-returns-2
 unfolding stateOf
 returns-2 c =
-    let left = c .before .before .before in
-    let p = left .before .before in
-    let on = goes-on (heldBytes (state p)) (rest p) (looked p) (found p) (small p) (reach p) (is p) (omega (arith, left .before .if1 .taken)) (omega (arith, left .if2 .left, held-length p)) in
-    let n : state p .len + found p ≡ length (heldBytes (state p) ++ rest p) = omega (arith, length-append (heldBytes (state p)) (rest p), held-length p, on .1) in
-    c .unlined2 .ensures ∙ rw (c .before .before .extended .ensures, ahead p, on .0, n) (behind p _ (on .2))
+    let within = c .before .before in
+    let p = within .before .before in
+    let on = goes-on (heldBytes (state p)) (rest p) (looked p) (found p) (small p) (reach p) (is p) (omega (arith, within .before .if1 .taken)) (omega (arith, within .if2 .left, lengths p)) in
+    let n : state p .len + found p ≡ length (heldBytes (state p) ++ rest p) = omega (arith, length-append (heldBytes (state p)) (rest p), lengths p, on .1) in
+    c .unlined2 .ensures ∙ rw (c .before .extended .ensures, ahead p, on .0, n) (behind p _ (on .2))
 
 add-behind : tie.Need-add-behind
 add-behind c = omega (arith, bounded (c .before), some c)
@@ -159,7 +164,10 @@ returns-3 c =
     let p = over .before .before in
     c .unlined3 .ensures
     ∙ rw (c .before .empty .ensures)
-    (ap (λ (n : ℕ). fed (stateOf nothing) n [] lineTooLong) (omega arith) ∙ behind p _ (line-over (heldBytes (state p)) (rest p) (looked p) (found p) (small p) (reach p) (is p) (some (over .before)) (over .if3 .taken ∙ omega (arith, held-length p))))
+    (ap (λ (n : ℕ). fed (stateOf nothing) n [] lineTooLong) (omega arith) ∙ behind p _ (line-over (heldBytes (state p)) (rest p) (looked p) (found p) (small p) (reach p) (is p) (some (over .before)) (lengths p ∙ over .if3 .taken)))
+
+add-whole : tie.Need-add-whole
+add-whole c = omega (arith, room-left c, lengths (c .before .before))
 
 empty-requires-2 : tie.Need-empty-requires-2
 empty-requires-2 c κs = search needs
@@ -173,19 +181,13 @@ extended-requires-2 c κs =
     let p = within .before .before in
     (keeps p, omega (arith, ap (λ (l : List ℕ). length l) (line-bytes c), length-take (found p + 1) (rest p), room-left within, held-length p))
 
-add-t11 : tie.Need-add-t11
-add-t11 c = let within = c .before .before .before .before in omega (arith, room-left within, held-length (within .before .before))
-
-add-t12 : tie.Need-add-t12
-add-t12 c = let within = c .before .before .before .before in omega (arith, room-left within, held-length (within .before .before))
-
 returns-4 : tie.Need-returns-4
 returns-4 c =
-    let within = c .before .before .before .before in
+    let within = c .before .before .before in
     let p = within .before .before in
     let line : List ℕ = heldBytes (state p) ++ take (found p + 1) (rest p) in
     let n : state p .len + found p + 1 ≡ length line = omega (arith, length-append (heldBytes (state p)) (take (found p + 1) (rest p)), length-take (found p + 1) (rest p), length-drop (at p) (bytes p), bounded p, some (within .before), held-length p) in
-    rw (c .before .before .before .empty2 .ensures, c .before .extended2 .ensures, line-bytes (c .before .before), n)
+    rw (c .before .before .empty2 .ensures, c .extended2 .ensures, line-bytes (c .before), n)
     (ap (λ (k : ℕ). fed (stateOf nothing) k line accepted) (omega arith)
     ∙ behind p _ (line-whole (heldBytes (state p)) (rest p) (looked p) (found p) (small p) (reach p) (is p) (some (within .before)) (early within)))
 
@@ -201,20 +203,19 @@ gather-spec =
     part-requires
     place-of-requires
     add-end
+    add-len
     dropping-requires
     unlined-requires
     returns
     extended-requires
-    add-t19
     unlined-requires-2
     returns-2
     add-behind
     empty-requires
     unlined-requires-3
     returns-3
+    add-whole
     empty-requires-2
     part-requires-2
     extended-requires-2
-    add-t11
-    add-t12
     returns-4)

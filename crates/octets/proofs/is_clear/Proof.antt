@@ -38,14 +38,14 @@ abbrev μ-loop : tie.MeasureT-loop
 loop-holds : tie.Need-loop-holds Inv-loop μ-loop
 loop-holds c = refl
 
-add-is-b : tie.Need-add-is-b Inv-loop μ-loop
-add-is-b c = search needs
+add-hit : tie.Need-add-hit Inv-loop μ-loop
+add-hit c = search needs
 
-shared-slice-read-is-b : tie.Need-shared-slice-read-is-b Inv-loop μ-loop
-shared-slice-read-is-b c = search needs
+shared-slice-read-hit : tie.Need-shared-slice-read-hit Inv-loop μ-loop
+shared-slice-read-hit c = search needs
 
-is-b-requires : tie.Need-is-b-requires Inv-loop μ-loop
-is-b-requires c κs = search needs
+hit-requires : tie.Need-hit-requires Inv-loop μ-loop
+hit-requires c κs = search needs
 
 add-i : tie.Need-add-i Inv-loop μ-loop
 add-i c = search needs
@@ -61,8 +61,8 @@ loop-again c =
     let small : l .i < blockLength = c .before .before .loop-test .taken in
     let inside : l .i < length (block (a .s .now) (a .at)) = omega (arith, block-length (a .s .now) (a .at) (start .pre)) in
     l .inv
-    ∙ or-step (differs (a .b)) (block (a .s .now) (a .at)) (l .i) (l .found) (c .is-b .result) 0 inside
-    (rw (c .is-b .ensures) (other (eqb (getD (a .s .now) (a .at + l .i) 0) (a .b)) ∙ ap (differs (a .b)) (sym (block-at (a .s .now) (a .at) (l .i) small))))
+    ∙ or-step (differs (a .b)) (block (a .s .now) (a .at)) (l .i) (l .found) (c .hit .result) 0 inside
+    (rw (c .hit .ensures) (other (eqb (getD (a .s .now) (a .at + l .i) 0) (a .b)) ∙ ap (differs (a .b)) (sym (block-at (a .s .now) (a .at) (l .i) small))))
 
 returns : tie.Need-returns Inv-loop μ-loop
 returns c =
@@ -72,4 +72,4 @@ returns c =
     sym (l .inv ∙ or-past (differs (a .b)) (block (a .s .now) (a .at)) (l .i) (l .found) (omega (arith, block-length (a .s .now) (a .at) (start .pre), c .loop-test .left)))
 
 pub is-clear-spec : {M : Type 1} → statement M
-is-clear-spec = tie.close (tie.spec Inv-loop μ-loop loop-holds add-is-b shared-slice-read-is-b is-b-requires add-i loop-less loop-again returns)
+is-clear-spec = tie.close (tie.spec Inv-loop μ-loop loop-holds add-hit shared-slice-read-hit hit-requires add-i loop-less loop-again returns)
