@@ -21,6 +21,7 @@ ghost use Rattle.channel.specs.Record.{decode};
 ghost use Rattle.channel.specs.Merging.{mergeAnswer};
 ghost use Rattle.table.specs.Table.{emptyTable, registerAnswer, unregisterAnswer};
 ghost use Rattle.sjoin.specs.Telling.{described};
+ghost use Rattle.relay.specs.Arrivals.{arrival};
 ghost use Rattle.relay.specs.Relay.{processAnswer, sent};
 ghost use Rattle.journal.specs.Journal.{logRules, recordOf, answerFor as logAnswer};
 ghost use Rattle.wording.specs.Wording.{textOf};
@@ -235,8 +236,8 @@ pub extern "C" fn relay_find(t: Table, name: &[u8]) -> ChannelFound
 // Takes a line that came from a link: the table after, and the line that goes out at the front of the output.
 #[no_mangle]
 pub extern "C" fn relay_process(t: Table, link: u32, line: &[u8], out: &mut [u8]) -> Taken
-    ensures answer { λ r. ⌜ r ≡ processAnswer t link (now (line .entry)) (length (now (out .entry))) ⌝ }
-    ensures output { λ _. ⌜ now (out .exit) ≡ front (sent t link (now (line .entry)) (length (now (out .entry)))) (now (out .entry)) ⌝ }
+    ensures answer { λ r. ⌜ r ≡ processAnswer t (arrival link (now (line .entry))) (length (now (out .entry))) ⌝ }
+    ensures output { λ _. ⌜ now (out .exit) ≡ front (sent t (arrival link (now (line .entry))) (length (now (out .entry)))) (now (out .entry)) ⌝ }
 {
     relay::process(t, link, line, out)
 }

@@ -7,24 +7,25 @@ use Rattle.refusal.specs.Numbers.{accepted}
 use Rattle.refusal.proofs.Rules.{first-listed}
 use Rattle.octets.specs.Room.{front}
 use Rattle.table.specs.declared.Table.{Table}
+use Rattle.relay.specs.Arrivals.{Arrival}
 use Rattle.relay.specs.Relay.{processRules, refused, processAnswer, sent}
 use Rattle.relay.proofs.Taking.{rules-ascend}
 use Rattle.relay.proofs.Answering.{answer-refused, sent-nothing}
 use Rattle.convergence.specs.Demands.{ruled, Listed, Demand1}
 use Rattle.convergence.specs.Ours.{ours}
 
-module _ (t : Table) (link : ℕ) (line out : List ℕ) (bad : ruled t link line out ≡ accepted → ⊥) where
-  answered : processAnswer t link line (length out) ≡ refused t (ruled t link line out)
-  answered = sym (answer-refused t link line (length out) (ruled t link line out) refl bad)
+module _ (t : Table) (a : Arrival) (out : List ℕ) (bad : ruled t a out ≡ accepted → ⊥) where
+  answered : processAnswer t a (length out) ≡ refused t (ruled t a out)
+  answered = sym (answer-refused t a (length out) (ruled t a out) refl bad)
 
-  untouched : front (sent t link line (length out)) out ≡ out
-  untouched = ap (λ (w : List ℕ). front w out) (sent-nothing t link line (length out) (ruled t link line out) refl bad)
+  untouched : front (sent t a (length out)) out ≡ out
+  untouched = ap (λ (w : List ℕ). front w out) (sent-nothing t a (length out) (ruled t a out) refl bad)
 
-  refuses : ours t link line out ≡ (refused t (ruled t link line out), out)
+  refuses : ours t a out ≡ (refused t (ruled t a out), out)
   refuses = λ i. (answered i, untouched i)
 
-  listed : Listed (ours t link line out .0 .number)
-  listed = rw answered (first-listed (processRules t link line (length out)) (rules-ascend t link line (length out)) bad)
+  listed : Listed (ours t a out .0 .number)
+  listed = rw answered (first-listed (processRules t a (length out)) (rules-ascend t a (length out)) bad)
 
 pub demand1 : Demand1 ours
-demand1 = record { one = λ t link line out. (ours t link line out, refl, λ b e. sym e); refuses = refuses; listed = listed }
+demand1 = record { one = λ t a out. (ours t a out, refl, λ b e. sym e); refuses = refuses; listed = listed }

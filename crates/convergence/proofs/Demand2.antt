@@ -10,29 +10,30 @@ use Rattle.octets.specs.Room.{front}
 use Rattle.message.specs.Reading.{isRead, contentOf}
 use Rattle.links.proofs.Sets.{has-relay}
 use Rattle.table.specs.declared.Table.{Table}
-use Rattle.table.proofs.WellFormed.{slots-good}
+use Rattle.table.specs.Network.{networkOf}
+use Rattle.relay.specs.Arrivals.{Arrival}
 use Rattle.relay.specs.Relay.{relayed, taken}
-use Rattle.relay.proofs.Relayed.{relayed-reads}
+use Rattle.relay.proofs.Taking.{relayed-reads}
 use Rattle.relay.proofs.Answering.{passed, answer-accepted, sent-line}
 use Rattle.convergence.specs.Demands.{ruled, Accepts, Demand2}
 use Rattle.convergence.specs.Ours.{ours}
 
-accepts : (t : Table) (link : ℕ) (line out : List ℕ) → ruled t link line out ≡ accepted → Accepts t link line out (taken t link line) (front (relayed (t .slots) line) out)
-accepts t link line out good =
-    let w = relayed (t .slots) line in
-    let p = passed t link line (length out) good in
-    let r = relayed-reads (t .slots) line (slots-good t (p .0)) (p .2) in
+accepts : (t : Table) (a : Arrival) (out : List ℕ) → ruled t a out ≡ accepted → Accepts t a out (taken t a) (front (relayed (networkOf t) a) out)
+accepts t a out good =
+    let w = relayed (networkOf t) a in
+    let p = passed t a (length out) good in
+    let r = relayed-reads (networkOf t) a (p .2) (p .0) in
     let e : take (length w) (front w out) ≡ w = take-append-seam w (drop (length w) out) in
     record {
       number = refl;
       table = refl;
-      links = has-relay (t .links) link;
+      links = has-relay (t .links) (a .link);
       count = refl;
       len = refl;
       output = refl;
-      reads = ap isRead e ∙ r .0;
-      message = ap contentOf e ∙ r .1;
+      reads = ap isRead e ∙ r .read;
+      message = ap contentOf e ∙ r .message;
     }
 
 pub demand2 : Demand2 ours
-demand2 t link line out good = rw (answer-accepted t link line (length out) good, sent-line t link line (length out) good) (accepts t link line out good)
+demand2 t a out good = rw (answer-accepted t a (length out) good, sent-line t a (length out) good) (accepts t a out good)

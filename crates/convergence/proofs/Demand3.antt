@@ -40,7 +40,7 @@ unfolding goodLines
 good-proper start empty [] c i = absurd (List·Memᴰ·not-nil i)
 good-proper start empty (j ∷ js) c i = go (isGood start j) refl (good-proper start empty js c) i
   where
-    go : (b : Bool) → isGood start j ≡ b → (List·Memᴰ c (good start js) → Proper c) → List·Memᴰ c (map channelOf (cond b (j .line ∷ goodLines start js) (goodLines start js))) → Proper c
+    go : (b : Bool) → isGood start j ≡ b → (List·Memᴰ c (good start js) → Proper c) → List·Memᴰ c (map channelOf (cond b (j .arrival .line ∷ goodLines start js) (goodLines start js))) → Proper c
     go true e ih (List·Memᴰ·head p) = rw p (line-is start empty j (eqb-true (numberAt start j) accepted e) .1)
     go true e ih (List·Memᴰ·tail m) = ih m
     go false e ih m = ih m

@@ -30,14 +30,17 @@ use Rattle.channel.proofs.Blank.{empty-free}
 use Rattle.channel.proofs.Plains.{plain-time}
 use Rattle.links.specs.Links.{hasLink, setBelow, lessLink, relaySet, linksFrom, linksIn}
 use Rattle.table.specs.declared.Table.{Table}
+use Rattle.table.specs.Network.{networkOf, withNetwork, withSlots}
 use Rattle.table.specs.Table.{isFree}
 use Rattle.table.proofs.Alone.{free-slot}
 use Rattle.table.proofs.Changing.{well-used}
 use Rattle.sjoin.specs.Telling.{sjoin}
 use Rattle.relay.specs.declared.Taken.{Taken}
-use Rattle.relay.specs.Relay.{slotsBy, withSlots}
+use Rattle.relay.specs.Arrivals.{arrival}
+use Rattle.relay.specs.Relay.{networkBy}
 use Rattle.relay.proofs.Answering.{answer-accepted}
-use Rattle.relay.proofs.Joining.{slots-joined, opened}
+use Rattle.relay.proofs.Taking.{network-joined}
+use Rattle.relay.proofs.Joined.{command-join, opened}
 use Rattle.convergence.specs.Demands.{Taking, Merging, ruled, ruledMerge, Merges, Accepts, Demand2, Join, goodLines, takeJoin, tableAfter, channelOf, Kept, plainRecord, holding, firstSlot, Demand3}
 use Rattle.convergence.specs.Ours.{ours}
 use Rattle.convergence.specs.Useless.{refusing, constant, unaltering, firstOnly, countedAs, firstRecord, neverRefusing}
@@ -90,12 +93,14 @@ unfolding emptyRecord encode
 start-time = refl
 
 -- after one line is taken
-taken-slots : (l : List ℕ) → map capital (contentOf l .command) ≡ sjoin → slotsBy (start links .slots) l ≡ set (start links .slots) 0 (encode (channelOf l))
-taken-slots l e = slots-joined (start links .slots) l e ∙ opened (start links .slots) (channelOf l) 0 (free-slot (channelOf l .name) (slotCount - 1))
+taken-network : (link : ℕ) (l : List ℕ) → map capital (contentOf l .command) ≡ sjoin
+    → networkBy (networkOf (start links)) (arrival link l) ≡ withSlots (networkOf (start links)) (set (start links .slots) 0 (encode (channelOf l)))
+taken-network link l e =
+    network-joined (networkOf (start links)) (arrival link l) (command-join l e) ∙ opened (networkOf (start links)) (channelOf l) 0 (free-slot (channelOf l .name) (slotCount - 1))
 
-taken-time : (l : List ℕ) → map capital (contentOf l .command) ≡ sjoin → firstTime (withSlots (start links) (slotsBy (start links .slots) l)) ≡ channelOf l .time
+taken-time : (link : ℕ) (l : List ℕ) → map capital (contentOf l .command) ≡ sjoin → firstTime (withNetwork (start links) (networkBy (networkOf (start links)) (arrival link l))) ≡ channelOf l .time
 unfolding encode
-taken-time l e = rw (taken-slots l e)
+taken-time link l e = rw (taken-network link l e)
 
 -- where the plain record of lines is held
 record-time : (l : List ℕ) (s : List (List ℕ)) → plainRecord (l ∷ s) .time ≡ earliest (channelOf l) (map channelOf s)
@@ -131,14 +136,14 @@ both-held = rw both-good (held-time later (earlier ∷ []) ∙ omega (arith, lat
 -- a line that the rules accept, and that isn't taken as demand 2 says
 abbrev pub Fails2 : Taking → ℕ → List ℕ → Type 0
 Fails2 taking link line =
-    (ruled (start links) link line room ≡ accepted) × (Accepts (start links) link line room (taking (start links) link line room .0) (taking (start links) link line room .1) → ⊥)
+    (ruled (start links) (arrival link line) room ≡ accepted) × (Accepts (start links) (arrival link line) room (taking (start links) (arrival link line) room .0) (taking (start links) (arrival link line) room .1) → ⊥)
 
 -- joins that meet the premises of demand 3, and that leave another table than it says
 abbrev pub Fails3 : Taking → List Join → Type 0
 Fails3 taking js = Kept (goodLines (start links) js) × (tableAfter taking (start links) js ≡ holding (start links) (goodLines (start links) js) → ⊥)
 
 fails-2 : (taking : Taking) (link : ℕ) (line : List ℕ) → Fails2 taking link line → Demand2 taking → ⊥
-fails-2 taking link line f d = f .1 (d (start links) link line room (f .0))
+fails-2 taking link line f d = f .1 (d (start links) (arrival link line) room (f .0))
 
 fails-3 : (taking : Taking) (js : List Join) → Fails3 taking js → (merging : Merging) → Demand3 taking merging → ⊥
 fails-3 taking js f merging d = f .1 (d .leaves (start links) js refl (f .0))
@@ -161,9 +166,9 @@ module _ (answer : Taken) (after : List ℕ) where
       go true e =
           inr (
             earlier-number links 0 on-0,
-            λ a. omega (arith, eqb-true (firstTime (answer .table)) 1200 e, ap firstTime (a .table), taken-time earlier earlier-command, earlier-time),
+            λ a. omega (arith, eqb-true (firstTime (answer .table)) 1200 e, ap firstTime (a .table), taken-time 0 earlier earlier-command, earlier-time),
           )
-      go false e = inl (later-number links 3 on-3, λ a. eqb-false (firstTime (answer .table)) 1200 e (ap firstTime (a .table) ∙ taken-time later later-command ∙ later-time))
+      go false e = inl (later-number links 3 on-3, λ a. eqb-false (firstTime (answer .table)) 1200 e (ap firstTime (a .table) ∙ taken-time 3 later later-command ∙ later-time))
 
   pub constant-joins : Fails3 (constant answer after) (laterFrom 3 ∷ []) ⊎ Fails3 (constant answer after) (earlierFrom 0 ∷ [])
   unfolding tableAfter
@@ -184,7 +189,7 @@ module _ (answer : Taken) (after : List ℕ) where
 
 -- ---- a table that never alters
 pub unaltering-later : Fails2 unaltering 3 later
-unaltering-later = (later-number links 3 on-3, λ a. omega (arith, ap firstTime (a .table), taken-time later later-command, later-time, start-time))
+unaltering-later = (later-number links 3 on-3, λ a. omega (arith, ap firstTime (a .table), taken-time 3 later later-command, later-time, start-time))
 
 pub unaltering-join : Fails3 unaltering (laterFrom 3 ∷ [])
 unfolding tableAfter
@@ -199,28 +204,28 @@ unaltering-fails-3 = fails-3 unaltering (laterFrom 3 ∷ []) unaltering-join
 -- ---- the first join alone folded
 -- the table after `later`
 abbrev next : Table
-next = withSlots (start links) (slotsBy (start links .slots) later)
+next = withNetwork (start links) (networkBy (networkOf (start links)) (arrival 3 later))
 
 start-free : all isFree (start links .slots) ≡ true
 start-free = all-replicate isFree emptyRecord slotCount (eq-eqb (emptyRecord .count) 0 empty-free)
 
 next-used : all isFree (next .slots) ≡ false
 unfolding all encode incoming
-next-used = rw (taken-slots later later-command, later-tells)
+next-used = rw (taken-network 3 later later-command, later-tells)
 
 first-takes : takeJoin firstOnly (start links) (laterFrom 3) .table ≡ next
 first-takes =
-    ap (λ (free : Bool). cond free (ours (start links) 3 later room) (unaltering (start links) 3 later room) .0 .table) start-free
-    ∙ ap (λ (a : Taken). a .table) (answer-accepted (start links) 3 later (length room) (later-number links 3 on-3))
+    ap (λ (free : Bool). cond free (ours (start links) (arrival 3 later) room) (unaltering (start links) (arrival 3 later) room) .0 .table) start-free
+    ∙ ap (λ (a : Taken). a .table) (answer-accepted (start links) (arrival 3 later) (length room) (later-number links 3 on-3))
 
 first-leaves : takeJoin firstOnly next (earlierFrom 0) .table ≡ next
-first-leaves = ap (λ (free : Bool). cond free (ours next 0 earlier room) (unaltering next 0 earlier room) .0 .table) next-used
+first-leaves = ap (λ (free : Bool). cond free (ours next (arrival 0 earlier) room) (unaltering next (arrival 0 earlier) room) .0 .table) next-used
 
 pub first-joins : Fails3 firstOnly (laterFrom 3 ∷ earlierFrom 0 ∷ [])
 unfolding tableAfter
 first-joins =
     let e : firstTime (tableAfter firstOnly (start links) (laterFrom 3 ∷ earlierFrom 0 ∷ [])) ≡ 1200 =
-    ap firstTime (ap (λ (t : Table). takeJoin firstOnly t (earlierFrom 0) .table) first-takes ∙ first-leaves) ∙ taken-time later later-command ∙ later-time in
+    ap firstTime (ap (λ (t : Table). takeJoin firstOnly t (earlierFrom 0) .table) first-takes ∙ first-leaves) ∙ taken-time 3 later later-command ∙ later-time in
     (rw both-good both-kept, λ a. omega (arith, e, ap firstTime a, both-held))
 
 pub first-fails : (merging : Merging) → Demand3 firstOnly merging → ⊥
@@ -244,8 +249,8 @@ module _ (n : ℕ) (d : Demand2 (countedAs n)) where
   counts set link on =
       let good = later-number set link on in
       sym (ap (λ (k : ℕ). cond (eqb k accepted) n 0) good)
-      ∙ d (start set) link later room good .count
-      ∙ ap (λ (a : Taken). length (linksIn (a .set))) (answer-accepted (start set) link later (length room) good)
+      ∙ d (start set) (arrival link later) room good .count
+      ∙ ap (λ (a : Taken). length (linksIn (a .set))) (answer-accepted (start set) (arrival link later) (length room) good)
 
 pub counted-fails : (n : ℕ) → Demand2 (countedAs n) → ⊥
 counted-fails n d = omega (arith, counts n d links 3 on-3 ∙ two-others, counts n d 1 0 alone ∙ no-other)

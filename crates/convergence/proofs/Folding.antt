@@ -28,15 +28,19 @@ use Rattle.channel.proofs.Plains.{length-everyone}
 use Rattle.channel.proofs.Merges.{folded, folded-name, folded-snoc, length-folded}
 use Rattle.table.specs.declared.Table.{Table}
 use Rattle.table.specs.declared.Slot.the-variants.{Held, Free}
+use Rattle.table.specs.Network.{Network, networkOf, withNetwork, withSlots}
 use Rattle.table.specs.Table.{goodTable}
 use Rattle.table.specs.Slots.{slotFor}
 use Rattle.table.proofs.Alone.{free-good, free-slot, alone-good, held-first, encoded-holds}
 use Rattle.sjoin.specs.Telling.{sjoin}
 use Rattle.relay.specs.declared.Taken.{Taken}
-use Rattle.relay.specs.Relay.{slotsBy, withSlots}
-use Rattle.relay.proofs.Used.{free-rules}
+use Rattle.relay.specs.Arrivals.{Arrival, said}
+use Rattle.relay.specs.Joining.{joined}
+use Rattle.relay.specs.Relay.{networkBy}
+use Rattle.relay.proofs.Results.{free-rules}
+use Rattle.relay.proofs.Taking.{network-joined}
 use Rattle.relay.proofs.Answering.{answer-refused, answer-accepted}
-use Rattle.relay.proofs.Joining.{earlierRules, entered, join-refused, join-entered, slots-joined, opened, merged, merge-room}
+use Rattle.relay.proofs.Joined.{command-join, earlierRules, entered, join-refused, join-entered, opened, merged, merge-room}
 use Rattle.convergence.specs.Demands.{Join, Empty, numberAt, isGood, goodLines, takeJoin, numbersOf, tableAfter, channelOf, Kept}
 use Rattle.convergence.specs.Ours.{ours}
 
@@ -47,7 +51,7 @@ good start js = map channelOf (goodLines start js)
 -- the start after these channels, merged in their order into the first slot
 abbrev pub after : Table → List Channel → Table
 after start [] = start
-after start (l ∷ s) = withSlots start (set (start .slots) 0 (encode (folded l s)))
+after start (l ∷ s) = withNetwork start (withSlots (networkOf start) (set (start .slots) 0 (encode (folded l s))))
 
 -- what holds of them: what they come to is proper, and their name is known
 abbrev pub Sound : List ℕ → List Channel → Type 0
@@ -86,7 +90,7 @@ module _ (start : Table) (empty : Empty start) where
   -- ---- one join
   -- its number by the rules that don't depend on the slots
   abbrev entry : Join → ℕ
-  entry j = firstOf (earlierRules (start .links) (j .link) (j .line) (length (j .output)))
+  entry j = firstOf (earlierRules (start .links) (j .arrival) (length (j .output)))
 
   -- at the start those decide: the channel is new, and a line names no more users than a record holds
   pub start-number : (j : Join) → numberAt start j ≡ entry j
@@ -95,40 +99,48 @@ module _ (start : Table) (empty : Empty start) where
       go : (b : Bool) → eqb (entry j) accepted ≡ b → numberAt start j ≡ entry j
       go true b =
           let e : entry j ≡ accepted = eqb-true (entry j) accepted b in
-          let p = entered (j .line) (j .reads) (start .links) (j .link) (length (j .output)) e in
-          let k = channelOf (j .line) in
-          join-entered (j .line) (j .reads) start (free-good start empty) (j .link) (length (j .output)) e ∙ free-rules (start .slots) k (p .1) 0 (new-slot (k .name)) ∙ sym e
-      go false b = join-refused (j .line) (j .reads) start (free-good start empty) (j .link) (length (j .output)) (eqb-false (entry j) accepted b)
+          let p = entered (j .arrival) (j .reads) (start .links) (length (j .output)) e in
+          let k = channelOf (j .arrival .line) in
+          join-entered (j .arrival) (j .reads) start (free-good start empty) (length (j .output)) e ∙ free-rules (networkOf start) k (p .1) 0 (new-slot (k .name)) ∙ sym e
+      go false b = join-refused (j .arrival) (j .reads) start (free-good start empty) (length (j .output)) (eqb-false (entry j) accepted b)
 
   -- a good line is SJOIN, and what it tells of is proper
-  pub line-is : (j : Join) → numberAt start j ≡ accepted → (map capital (contentOf (j .line) .command) ≡ sjoin) × Proper (channelOf (j .line))
-  line-is j g = entered (j .line) (j .reads) (start .links) (j .link) (length (j .output)) (sym (start-number j) ∙ g)
+  pub line-is : (j : Join) → numberAt start j ≡ accepted → (map capital (said (j .arrival) .command) ≡ sjoin) × Proper (channelOf (j .arrival .line))
+  line-is j g = entered (j .arrival) (j .reads) (start .links) (length (j .output)) (sym (start-number j) ∙ g)
+
+  -- what it tells of comes into the network
+  joins : (n : Network) (j : Join) → map capital (said (j .arrival) .command) ≡ sjoin → networkBy n (j .arrival) ≡ joined n (channelOf (j .arrival .line))
+  joins n j is = network-joined n (j .arrival) (command-join (j .arrival .line) is)
 
   -- a join that isn't good has the number that it has at the start
   bad-number : (name : List ℕ) (q : List Channel) → Sound name q → (j : Join) → (numberAt start j ≡ accepted → ⊥) → numberAt (after start q) j ≡ numberAt start j
   bad-number name [] h j bad = refl
   bad-number name (l ∷ s) h j bad =
-      join-refused (j .line) (j .reads) (after start (l ∷ s)) (after-good name (l ∷ s) h) (j .link) (length (j .output)) (λ e. bad (start-number j ∙ e)) ∙ sym (start-number j)
+      join-refused (j .arrival) (j .reads) (after start (l ∷ s)) (after-good name (l ∷ s) h) (length (j .output)) (λ e. bad (start-number j ∙ e)) ∙ sym (start-number j)
 
   -- a good one is accepted and merged
-  step : (name : List ℕ) (q : List Channel) (j : Join) → Sound name q → numberAt start j ≡ accepted → map fold (channelOf (j .line) .name) ≡ name
-      → length (everyone (q ++ channelOf (j .line) ∷ [])) ≤ memberLimit
-      → (numberAt (after start q) j ≡ accepted) × (withSlots (after start q) (slotsBy (after start q .slots) (j .line)) ≡ after start (q ++ channelOf (j .line) ∷ [])) × Sound name (q ++ channelOf (j .line) ∷ [])
+  step : (name : List ℕ) (q : List Channel) (j : Join) → Sound name q → numberAt start j ≡ accepted → map fold (channelOf (j .arrival .line) .name) ≡ name
+      → length (everyone (q ++ channelOf (j .arrival .line) ∷ [])) ≤ memberLimit
+      → (numberAt (after start q) j ≡ accepted) × (withNetwork (after start q) (networkBy (networkOf (after start q)) (j .arrival)) ≡ after start (q ++ channelOf (j .arrival .line) ∷ [])) × Sound name (q ++ channelOf (j .arrival .line) ∷ [])
   unfolding folded
   step name [] j h g e f =
-      let k = channelOf (j .line) in
+      let k = channelOf (j .arrival .line) in
       let p = line-is j g in
-      (g, ap (withSlots start) (slots-joined (start .slots) (j .line) (p .0) ∙ opened (start .slots) k 0 (new-slot (k .name))), (p .1, e, p .1 .ascending))
+      (g, ap (withNetwork start) (joins (networkOf start) j (p .0) ∙ opened (networkOf start) k 0 (new-slot (k .name))), (p .1, e, p .1 .ascending))
   step name (l ∷ s) j h g e f =
-      let k = channelOf (j .line) in
+      let k = channelOf (j .arrival .line) in
       let t = after start (l ∷ s) in
       let p = line-is j g in
       let at : slotFor (t .slots) (k .name) ≡ Held 0 = held-slot l k s (h .0) (h .1 ∙ sym e) in
       let is : merge (decode (getD (t .slots) 0 emptyRecord)) k ≡ folded l (s ++ k ∷ []) = ap (λ (c : Channel). merge c k) (held-is l s (h .0)) ∙ sym (folded-snoc l k s) in
       let few : length (folded l (s ++ k ∷ []) .members) ≤ memberLimit = omega (arith, length-folded l (s ++ k ∷ []) (h .2), f) in
       let room : length (merge (decode (getD (t .slots) 0 emptyRecord)) k .members) ≤ memberLimit = rw is few in (
-        join-entered (j .line) (j .reads) t (after-good name (l ∷ s) h) (j .link) (length (j .output)) (sym (start-number j) ∙ g) ∙ merge-room (t .slots) k 0 at room,
-        ap (withSlots start) (slots-joined (t .slots) (j .line) (p .0) ∙ merged (t .slots) k 0 at ∙ ap (λ (c : Channel). set (t .slots) 0 (encode c)) is ∙ set-set (start .slots) 0 _ _),
+        join-entered (j .arrival) (j .reads) t (after-good name (l ∷ s) h) (length (j .output)) (sym (start-number j) ∙ g) ∙ merge-room (networkOf t) k 0 at room,
+        ap (withNetwork start)
+            (joins (networkOf t) j (p .0)
+            ∙ merged (networkOf t) k 0 at
+            ∙ ap (λ (c : Channel). withSlots (networkOf t) (set (t .slots) 0 (encode c))) is
+            ∙ ap (withSlots (networkOf start)) (set-set (start .slots) 0 _ _)),
         (rw (folded-snoc l k s) (proper-merge (folded l s) k (h .0) (p .1) (rw (← folded-snoc l k s) few)), h .1, h .2),
       )
 
@@ -153,10 +165,10 @@ module _ (start : Table) (empty : Empty start) where
   walk name (j ∷ js) q h a = go (isGood start j) refl (walk name js) a
     where
       k : Channel
-      k = channelOf (j .line)
+      k = channelOf (j .arrival .line)
 
       lines : Bool → List Channel
-      lines b = map channelOf (cond b (j .line ∷ goodLines start js) (goodLines start js))
+      lines b = map channelOf (cond b (j .arrival .line ∷ goodLines start js) (goodLines start js))
 
       go : (b : Bool) → isGood start j ≡ b → ((r : List Channel) → Sound name r → Ahead name r (good start js) → Walked name js r (good start js))
           → Ahead name q (lines b) → Walked name (j ∷ js) q (lines b)
@@ -165,13 +177,13 @@ module _ (start : Table) (empty : Empty start) where
           let same : (q ++ k ∷ []) ++ good start js ≡ q ++ k ∷ good start js = append-assoc q (k ∷ []) (good start js) in
           let room : length (everyone ((q ++ k ∷ []) ++ good start js)) ≤ memberLimit = rw same (f .1) in
           let w = step name q j h g (f .0 k (List·Memᴰ·head refl)) (omega (arith, length-everyone (q ++ k ∷ []) (good start js), room)) in
-          let t = answer-accepted (after start q) (j .link) (j .line) (length (j .output)) (w .0) in
+          let t = answer-accepted (after start q) (j .arrival) (length (j .output)) (w .0) in
           onward name j js q (q ++ k ∷ []) (good start js) (k ∷ good start js) (ap (λ (a : Taken). a .number) t ∙ sym g) (ap (λ (a : Taken). a .table) t ∙ w .1) same
           (ih (q ++ k ∷ []) (w .2) (λ c i. f .0 c (List·Memᴰ·tail i), room))
       go false e ih f =
           let g : numberAt start j ≡ accepted → ⊥ = eqb-false (numberAt start j) accepted e in
           let same : numberAt (after start q) j ≡ numberAt start j = bad-number name q h j g in
-          let t = sym (answer-refused (after start q) (j .link) (j .line) (length (j .output)) _ refl (λ z. g (sym same ∙ z))) in
+          let t = sym (answer-refused (after start q) (j .arrival) (length (j .output)) _ refl (λ z. g (sym same ∙ z))) in
           onward name j js q q (good start js) (good start js) (ap (λ (a : Taken). a .number) t ∙ same) (ap (λ (a : Taken). a .table) t) refl (ih q h f)
 
   -- ---- the whole list

@@ -36,7 +36,8 @@ use Rattle.sjoin.specs.Entries.{past, idOf, statusOf, isEntry, memberOf, goodEn
 use Rattle.sjoin.specs.Join.{argumentsIn, isSource, goodCount, goodTime, joinRules, channelIn}
 use Rattle.sjoin.specs.Telling.{sjoin}
 use Rattle.sjoin.proofs.Examples.{line, line-tells}
-use Rattle.relay.proofs.Joining.{IsJoin}
+use Rattle.relay.specs.Arrivals.{arrival}
+use Rattle.relay.proofs.Joined.{IsJoin}
 use Rattle.convergence.specs.Demands.{Join, numberAt, channelOf, Kept}
 use Rattle.convergence.proofs.Folding.{start-number}
 
@@ -116,7 +117,7 @@ abbrev pub start : ℕ → Table
 start set = record { slots = replicate slotCount emptyRecord; links = links set }
 
 abbrev pub from : (l : List ℕ) → IsJoin l → ℕ → Join
-from l is link = record { line = l; link = link; output = room; reads = is }
+from l is link = record { arrival = arrival link l; output = room; reads = is }
 
 pub earlier-command : map capital (contentOf earlier .command) ≡ sjoin
 earlier-command = ap (λ (l : List (List ℕ)). getD l 0 []) commands

@@ -13,6 +13,7 @@ use Rattle.channel.specs.declared.Record.{Record}
 use Rattle.links.specs.Links.{linksIn}
 use Rattle.table.specs.declared.Table.{Table}
 use Rattle.relay.specs.declared.Taken.{Taken}
+use Rattle.relay.specs.Arrivals.{Arrival}
 use Rattle.convergence.specs.Demands.{Taking, Merging, ruled, ruledMerge, Accepts, Demand1, Demand2, Merges}
 use Rattle.convergence.specs.Ours.{ours, ourMerging}
 use Rattle.convergence.proofs.Demand1.{demand1}
@@ -28,23 +29,23 @@ module _ {A : Type 0} (n : ℕ) where
       go true e = good (eqb-true n accepted e)
       go false e = bad (eqb-false n accepted e)
 
-module _ (t : Table) (link : ℕ) (line out : List ℕ) where
+module _ (t : Table) (a : Arrival) (out : List ℕ) where
   -- an accepted answer is settled
-  settled : (x y : Taken) (v w : List ℕ) → Accepts t link line out x v → Accepts t link line out y w → _≡_ {A = Taken × List ℕ} (x, v) (y, w)
-  settled x y v w a b =
-      let number : x .number ≡ y .number = a .number ∙ sym (b .number) in
-      let table : x .table ≡ y .table = a .table ∙ sym (b .table) in
-      let set : x .set ≡ y .set = same-bits (x .set) (y .set) (λ k. a .links k ∙ sym (b .links k)) in
-      let count : x .count ≡ y .count = a .count ∙ ap (λ (s : ℕ). length (linksIn s)) set ∙ sym (b .count) in
-      let len : x .len ≡ y .len = a .len ∙ sym (b .len) in
-      let output : v ≡ w = a .output ∙ sym (b .output) in
+  settled : (x y : Taken) (v w : List ℕ) → Accepts t a out x v → Accepts t a out y w → _≡_ {A = Taken × List ℕ} (x, v) (y, w)
+  settled x y v w p q =
+      let number : x .number ≡ y .number = p .number ∙ sym (q .number) in
+      let table : x .table ≡ y .table = p .table ∙ sym (q .table) in
+      let set : x .set ≡ y .set = same-bits (x .set) (y .set) (λ k. p .links k ∙ sym (q .links k)) in
+      let count : x .count ≡ y .count = p .count ∙ ap (λ (s : ℕ). length (linksIn s)) set ∙ sym (q .count) in
+      let len : x .len ≡ y .len = p .len ∙ sym (q .len) in
+      let output : v ≡ w = p .output ∙ sym (q .output) in
       λ i. (record { number = number i; table = table i; set = set i; count = count i; len = len i }, output i)
 
-  pub only : (taking : Taking) → Demand1 taking → Demand2 taking → taking t link line out ≡ ours t link line out
+  pub only : (taking : Taking) → Demand1 taking → Demand2 taking → taking t a out ≡ ours t a out
   only taking one two =
-      by-number (ruled t link line out)
-      (λ good. settled _ _ _ _ (two t link line out good) (demand2 t link line out good))
-      (λ bad. one .refuses t link line out bad ∙ sym (demand1 .refuses t link line out bad))
+      by-number (ruled t a out)
+      (λ good. settled _ _ _ _ (two t a out good) (demand2 t a out good))
+      (λ bad. one .refuses t a out bad ∙ sym (demand1 .refuses t a out bad))
 
 pub only-merging : (merging : Merging) → Merges merging → (a b : Record) → merging a b ≡ ourMerging a b
 only-merging merging m a b =

@@ -20,7 +20,9 @@ use Rattle.channel.specs.Merging.{merge, mergeAnswer}
 use Rattle.channel.specs.Plain.{earliest, counts, entries, everyone, statusIn, statusAt, plain}
 use Rattle.channel.proofs.Examples.{2cd, 1ab, stored, incoming}
 use Rattle.links.specs.Links.{hasLink}
-use Rattle.relay.specs.Relay.{withSlots, refused}
+use Rattle.table.specs.Network.{networkOf, withNetwork, withSlots}
+use Rattle.relay.specs.Arrivals.{arrival}
+use Rattle.relay.specs.Relay.{refused}
 use Rattle.convergence.specs.Demands.{ruled, ruledMerge, Accepts, Join, numberAt, goodLines, numbersOf, tableAfter, Kept, plainRecord, holding, firstSlot, Among, Alike}
 use Rattle.convergence.specs.Ours.{ours}
 use Rattle.convergence.proofs.Demand1.{demand1}
@@ -40,18 +42,18 @@ unfolding hasBit
 on-second = (refl, refl, refl)
 
 -- ---- demand 1: a line that isn't read
-unread-bad : ruled (start 41) 3 unread room ≡ accepted → ⊥
+unread-bad : ruled (start 41) (arrival 3 unread) room ≡ accepted → ⊥
 unread-bad e = omega (arith, e, unread-number 41 3 (on-first .1))
 
-unread-refused : ours (start 41) 3 unread room ≡ (refused (start 41) emptyPrefix, room)
-unread-refused = demand1 .refuses (start 41) 3 unread room unread-bad ∙ ap (λ (n : ℕ). (refused (start 41) n, room)) (unread-number 41 3 (on-first .1))
+unread-refused : ours (start 41) (arrival 3 unread) room ≡ (refused (start 41) emptyPrefix, room)
+unread-refused = demand1 .refuses (start 41) (arrival 3 unread) room unread-bad ∙ ap (λ (n : ℕ). (refused (start 41) n, room)) (unread-number 41 3 (on-first .1))
 
 -- ---- demand 2: a line by the rules
-later-ruled : ruled (start 41) 3 later room ≡ accepted
+later-ruled : ruled (start 41) (arrival 3 later) room ≡ accepted
 later-ruled = later-number 41 3 (on-first .1)
 
-later-taken : Accepts (start 41) 3 later room (ours (start 41) 3 later room .0) (ours (start 41) 3 later room .1)
-later-taken = demand2 (start 41) 3 later room later-ruled
+later-taken : Accepts (start 41) (arrival 3 later) room (ours (start 41) (arrival 3 later) room .0) (ours (start 41) (arrival 3 later) room .1)
+later-taken = demand2 (start 41) (arrival 3 later) room later-ruled
 
 -- ---- demand 3: a list with good joins and bad ones
 -- not read, on a link that isn't registered, at time 0
@@ -96,7 +98,7 @@ js-plain : plain incoming (stored ∷ third ∷ []) ≡ after
 unfolding plain earliest counts everyone entries statusIn statusAt sameBy insert put unite compare greater withMode stored incoming third after 1ab 2cd
 js-plain = refl
 
-js-left : tableAfter ours (start 41) js ≡ withSlots (start 41) (set (start 41 .slots) 0 (encode after))
+js-left : tableAfter ours (start 41) js ≡ withNetwork (start 41) (withSlots (networkOf (start 41)) (set (start 41 .slots) 0 (encode after)))
 unfolding holding plainRecord
 js-left = demand3 .leaves (start 41) js refl js-kept ∙ rw (js-good, later-tells, earlier-tells, equal-tells, js-plain)
 

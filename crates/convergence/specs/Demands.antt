@@ -24,15 +24,17 @@ use Rattle.channel.specs.Merging.{merge, mergeRules}
 use Rattle.channel.specs.Plain.{everyone, plain}
 use Rattle.links.specs.Links.{hasLink, linksIn}
 use Rattle.table.specs.declared.Table.{Table}
+use Rattle.table.specs.Network.{networkOf, withNetwork, withSlots}
 use Rattle.sjoin.specs.Join.{channelIn}
 use Rattle.sjoin.specs.Telling.{sjoin}
 use Rattle.relay.specs.declared.Taken.{Taken}
-use Rattle.relay.specs.Relay.{processRules, slotsBy, relayed, messageAfter, commandIn, withSlots, refused}
+use Rattle.relay.specs.Arrivals.{Arrival}
+use Rattle.relay.specs.Relay.{networkBy, messageBy, relayed, processRules, refused}
 
 -- ---- what varies
--- How a line is taken: a table, the link that the line came on, the line and the lent output give an answer and the output after.
+-- How a line is taken: a table, the line with the link that it came by, and the lent output give an answer and the output after.
 abbrev pub Taking : Type 0
-Taking = Table → ℕ → List ℕ → List ℕ → Taken × List ℕ
+Taking = Table → Arrival → List ℕ → Taken × List ℕ
 
 -- How two records are merged: they give a number and a record.
 abbrev pub Merging : Type 0
@@ -40,8 +42,8 @@ Merging = Record → Record → Merged
 
 -- ---- the rules
 -- the number that the rules give a line; `accepted` is none
-abbrev pub ruled : Table → ℕ → List ℕ → List ℕ → ℕ
-ruled t link line out = firstOf (processRules t link line (length out))
+abbrev pub ruled : Table → Arrival → List ℕ → ℕ
+ruled t a out = firstOf (processRules t a (length out))
 
 -- the number that they give two records that are to be merged
 abbrev pub ruledMerge : Record → Record → ℕ
@@ -60,11 +62,11 @@ One {A} P = (a : A) × P a × ((b : A) → P b → b ≡ a)
 -- before." The line is lent too, but shared, and no call can write it. What the other functions refuse stands in their contracts.
 pub record Demand1 (taking : Taking) : Type 0 where
   -- each input has one answer: by construction, since a taking is a function
-  pub one : (t : Table) (link : ℕ) (line out : List ℕ) → One (λ answer. taking t link line out ≡ answer)
+  pub one : (t : Table) (a : Arrival) (out : List ℕ) → One (λ answer. taking t a out ≡ answer)
   -- where the rules give a number: that number, the table as before, relay set 0, count 0, length 0, the output as before
-  pub refuses : (t : Table) (link : ℕ) (line out : List ℕ) → (ruled t link line out ≡ accepted → ⊥) → taking t link line out ≡ (refused t (ruled t link line out), out)
+  pub refuses : (t : Table) (a : Arrival) (out : List ℕ) → (ruled t a out ≡ accepted → ⊥) → taking t a out ≡ (refused t (ruled t a out), out)
   -- and the number is from the list
-  pub listed : (t : Table) (link : ℕ) (line out : List ℕ) → (ruled t link line out ≡ accepted → ⊥) → Listed (taking t link line out .0 .number)
+  pub listed : (t : Table) (a : Arrival) (out : List ℕ) → (ruled t a out ≡ accepted → ⊥) → Listed (taking t a out .0 .number)
 
 -- Of a merging demand 1 asks the same, and a refused merge answers its first record as given. All else is merged by the rule of SJOIN (document 01: "Two whole
 -- records merge by the same rule, the first one's spelling kept"). Demand 3 says nothing of a refused merge, and of an accepted one only where both records were
@@ -79,20 +81,20 @@ pub record Merges (merging : Merging) : Type 0 where
 
 -- ---- demand 2
 -- The answer to a line that is taken, and the output after.
-pub record Accepts (t : Table) (link : ℕ) (line out : List ℕ) (answer : Taken) (after : List ℕ) : Type 0 where
+pub record Accepts (t : Table) (a : Arrival) (out : List ℕ) (answer : Taken) (after : List ℕ) : Type 0 where
   pub number : answer .number ≡ accepted
-  -- the slots change as SJOIN, PART and QUIT say, and nothing else of the table does
-  pub table : answer .table ≡ withSlots t (slotsBy (t .slots) line)
+  -- the network changes as SJOIN, PART and QUIT say, and the links stay
+  pub table : answer .table ≡ withNetwork t (networkBy (networkOf t) a)
   -- the relay set: every registered link except the source, and no other bit
-  pub links : (k : ℕ) → hasBit (answer .set) k ≡ hasLink (t .links .set) k && not (eqb k link)
+  pub links : (k : ℕ) → hasBit (answer .set) k ≡ hasLink (t .links .set) k && not (eqb k (a .link))
   -- the number of links in it
   pub count : answer .count ≡ length (linksIn (answer .set))
   -- the line that goes out, in the writer's form, stands at the front of the output, the rest unchanged
-  pub len : answer .len ≡ length (relayed (t .slots) line)
-  pub output : after ≡ front (relayed (t .slots) line) out
+  pub len : answer .len ≡ length (relayed (networkOf t) a)
+  pub output : after ≡ front (relayed (networkOf t) a) out
   -- and what was written reads as the message that goes out
   pub reads : isRead (take (answer .len) after) ≡ true
-  pub message : contentOf (take (answer .len) after) ≡ messageAfter (commandIn line) (t .slots) (contentOf line)
+  pub message : contentOf (take (answer .len) after) ≡ messageBy (networkOf t) a
 
 -- "Lines are read by RFC 1459's grammar and written back in one fixed form that reads as the same message. Channel joins, parts and quits change the table as
 -- TS6 and the plan say, and go to every registered link except the source." Every line by the rules is accepted. That any line is read by the grammar and any
@@ -100,16 +102,15 @@ pub record Accepts (t : Table) (link : ℕ) (line out : List ℕ) (answer : Take
 -- (writer/proofs/Rounds.antt). `Witnesses` of proofs/ has lines that are accepted.
 abbrev pub Demand2 : Taking → Type 0
 Demand2 taking =
-    (t : Table) (link : ℕ) (line out : List ℕ) → ruled t link line out ≡ accepted → Accepts t link line out (taking t link line out .0) (taking t link line out .1)
+    (t : Table) (a : Arrival) (out : List ℕ) → ruled t a out ≡ accepted → Accepts t a out (taking t a out .0) (taking t a out .1)
 
 -- ---- demand 3: joins
 -- A join: one taking of a line that reads as SJOIN, in any case of letters, or isn't read, with its link and lent output. The line is a value, there before
 -- the first call, and no call writes it.
 pub record Join : Type 0 where
-  pub line : List ℕ
-  pub link : ℕ
+  pub arrival : Arrival
   pub output : List ℕ
-  pub reads : (map capital (contentOf line .command) ≡ sjoin) ⊎ (isRead line ≡ false)
+  pub reads : (map capital (contentOf (arrival .line) .command) ≡ sjoin) ⊎ (isRead (arrival .line) ≡ false)
 
 -- an empty table: each of the sixteen slots free, which is to say zero, any links registered
 abbrev pub Empty : Table → Type 0
@@ -117,7 +118,7 @@ Empty t = t .slots ≡ replicate slotCount emptyRecord
 
 -- the number that the rules give a join at the start
 abbrev pub numberAt : Table → Join → ℕ
-numberAt start j = ruled start (j .link) (j .line) (j .output)
+numberAt start j = ruled start (j .arrival) (j .output)
 
 -- a join is good if they give it none there
 abbrev pub isGood : Table → Join → Bool
@@ -126,11 +127,11 @@ isGood start j = eqb (numberAt start j) accepted
 -- the lines of the good joins, in their order
 unfoldable pub goodLines : Table → List Join → List (List ℕ)
 goodLines start [] = []
-goodLines start (j ∷ js) = cond (isGood start j) (j .line ∷ goodLines start js) (goodLines start js)
+goodLines start (j ∷ js) = cond (isGood start j) (j .arrival .line ∷ goodLines start js) (goodLines start js)
 
 -- ---- the joins of a list taken, each given the table that the one before returned
 abbrev pub takeJoin : Taking → Table → Join → Taken
-takeJoin taking t j = taking t (j .link) (j .line) (j .output) .0
+takeJoin taking t j = taking t (j .arrival) (j .output) .0
 
 -- the number that each is answered
 unfoldable pub numbersOf : Taking → Table → List Join → List ℕ
@@ -157,10 +158,10 @@ unfoldable pub plainRecord : List (List ℕ) → Record
 plainRecord [] = emptyRecord
 plainRecord (l ∷ s) = encode (plain (channelOf l) (map channelOf s))
 
--- the start with the first slot holding the plain record; with no line the start itself
+-- the start with the first slot holding the plain record, and all else as it is; with no line the start itself
 unfoldable pub holding : Table → List (List ℕ) → Table
 holding start [] = start
-holding start (l ∷ s) = withSlots start (set (start .slots) 0 (plainRecord (l ∷ s)))
+holding start (l ∷ s) = withNetwork start (withSlots (networkOf start) (set (start .slots) 0 (plainRecord (l ∷ s))))
 
 abbrev pub firstSlot : Table → Record
 firstSlot t = getD (t .slots) 0 emptyRecord

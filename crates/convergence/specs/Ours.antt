@@ -6,7 +6,7 @@ use Rattle.relay.specs.Relay.{processAnswer, sent}
 use Rattle.convergence.specs.Demands.{Taking, Merging}
 
 abbrev pub ours : Taking
-ours t link line out = (processAnswer t link line (length out), front (sent t link line (length out)) out)
+ours t a out = (processAnswer t a (length out), front (sent t a (length out)) out)
 
 abbrev pub ourMerging : Merging
 ourMerging = mergeAnswer

@@ -15,31 +15,31 @@ use Rattle.convergence.specs.Ours.{ours, ourMerging}
 
 -- refuses all: by the rules' number where they give one, else by 1
 abbrev pub refusing : Taking
-refusing t link line out = (refused t (cond (eqb (ruled t link line out) accepted) notWellFormed (ruled t link line out)), out)
+refusing t a out = (refused t (cond (eqb (ruled t a out) accepted) notWellFormed (ruled t a out)), out)
 
 -- answers the same whatever it is given
 abbrev pub constant : Taken → List ℕ → Taking
-constant answer after t link line out = (answer, after)
+constant answer after t a out = (answer, after)
 
 -- the answer with another table
 abbrev pub withTable : Taken → Table → Taken
-withTable a t = record { number = a .number; table = t; set = a .set; count = a .count; len = a .len }
+withTable x t = record { number = x .number; table = t; set = x .set; count = x .count; len = x .len }
 
 -- answers and writes as ours does, and never alters the table
 abbrev pub unaltering : Taking
-unaltering t link line out = (withTable (ours t link line out .0) t, ours t link line out .1)
+unaltering t a out = (withTable (ours t a out .0) t, ours t a out .1)
 
 -- takes the first join as ours does, and alters no table that has a channel
 abbrev pub firstOnly : Taking
-firstOnly t link line out = cond (all isFree (t .slots)) (ours t link line out) (unaltering t link line out)
+firstOnly t a out = cond (all isFree (t .slots)) (ours t a out) (unaltering t a out)
 
 -- the answer with another count of links
 abbrev pub withCount : Taken → ℕ → Taken
-withCount a n = record { number = a .number; table = a .table; set = a .set; count = n; len = a .len }
+withCount x n = record { number = x .number; table = x .table; set = x .set; count = n; len = x .len }
 
 -- answers and writes as ours does, but for the count of links of an accepted line, which is made up
 abbrev pub countedAs : ℕ → Taking
-countedAs n t link line out = (withCount (ours t link line out .0) (cond (eqb (ruled t link line out) accepted) n 0), ours t link line out .1)
+countedAs n t a out = (withCount (ours t a out .0) (cond (eqb (ruled t a out) accepted) n 0), ours t a out .1)
 
 -- answers its first record
 abbrev pub firstRecord : Merging

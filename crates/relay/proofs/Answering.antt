@@ -1,5 +1,5 @@
--- The answer to a line, and what is written, by whether a rule refuses it. Assumes nothing.
-use mathlib.Core.Path.{_≡_, ap, _∙_}
+-- The answer to a line, by the rule that refuses it, or by the change that it is judged to be where none does. Assumes nothing.
+use mathlib.Core.Path.{_≡_, refl, sym, ap, _∙_}
 use mathlib.Core.Bool.{true, _&&_}
 use mathlib.Core.List.{List, []}
 use Prim.Native.Nat.{ℕ, _≤_}
@@ -12,64 +12,70 @@ use Rattle.refusal.proofs.Rules.{first-none, emitted-none, emitted-all}
 use Rattle.laws.specs.Bits.{hasBit}
 use Rattle.laws.proofs.Bools.{and-left}
 use Rattle.message.specs.Grammar.{lineLimit}
-use Rattle.message.specs.Reading.{contentOf, messageOf}
+use Rattle.message.specs.Reading.{messageOf}
 use Rattle.message.proofs.Readings.{read-small}
 use Rattle.links.specs.Links.{isLink, relaySet, linksIn}
 use Rattle.table.specs.declared.Table.{Table}
+use Rattle.table.specs.Network.{networkOf, withNetwork}
 use Rattle.table.specs.Table.{goodTable}
-use Rattle.table.proofs.WellFormed.{slots-good}
 use Rattle.relay.specs.declared.Change.{Change}
 use Rattle.relay.specs.declared.Taken.{Taken}
-use Rattle.relay.specs.Relay.{commandIn, takenRules, processRules, relayed, withSlots, refused, taken, processAnswer, sent}
-use Rattle.relay.specs.Private.{slotsWith, sending}
-use Rattle.relay.proofs.Judgements.{Changes}
-use Rattle.relay.proofs.Relayed.{rules-none}
-use Rattle.relay.proofs.Enacted.{enacted-slots, enacted-line}
+use Rattle.relay.specs.Arrivals.{Arrival}
+use Rattle.relay.specs.Relay.{meaningIn, takenRules, networkBy, messageBy, relayed, processRules, refused, taken, processAnswer, sent}
+use Rattle.relay.specs.Private.Acting.{doneBy, writtenBy}
+use Rattle.relay.proofs.Judgements.{Does}
+use Rattle.relay.proofs.Taking.{rules-none, relayed-reads}
+use Rattle.relay.proofs.Acted.{sends-it}
 
-module _ (t : Table) (link : ℕ) (line : List ℕ) (n : ℕ) where
+module _ (t : Table) (a : Arrival) (n : ℕ) where
   -- ---- a rule refuses it
-  module _ (k : ℕ) (e : firstOf (processRules t link line n) ≡ k) (ne : k ≡ accepted → ⊥) where
-    pub answer-refused : refused t k ≡ processAnswer t link line n
+  module _ (k : ℕ) (e : firstOf (processRules t a n) ≡ k) (ne : k ≡ accepted → ⊥) where
+    pub answer-refused : refused t k ≡ processAnswer t a n
     unfolding processAnswer
     answer-refused = rw (e, ne-eqb k accepted ne)
 
-    pub sent-nothing : sent t link line n ≡ []
+    pub sent-nothing : sent t a n ≡ []
     unfolding sent
-    sent-nothing = emitted-none (processRules t link line n) _ k e ne
+    sent-nothing = emitted-none (processRules t a n) _ k e ne
 
   -- ---- no rule does
-  module _ (none : firstOf (processRules t link line n) ≡ accepted) where
-    tests : (goodTable t ≡ true) × (lineLimit ≤ n) × (isLink link && hasBit (t .links .set) link ≡ true) × (firstOf (takenRules (t .slots) line) ≡ accepted)
+  module _ (none : firstOf (processRules t a n) ≡ accepted) where
+    tests : (goodTable t ≡ true) × (lineLimit ≤ n) × (isLink (a .link) && hasBit (t .links .set) (a .link) ≡ true) × (firstOf (takenRules (networkOf t) a) ≡ accepted)
     unfolding processRules
     tests =
-        let a = first-none _ _ (λ z. omega arith) none in
-        let b = first-none _ _ (λ z. omega arith) (a .1) in
+        let b = first-none _ _ (λ z. omega arith) none in
         let c = first-none _ _ (λ z. omega arith) (b .1) in
-        (not-false _ (a .0), ltb-false n lineLimit (b .0), not-false _ (c .0), c .1)
+        let d = first-none _ _ (λ z. omega arith) (c .1) in
+        (not-false _ (b .0), ltb-false n lineLimit (c .0), not-false _ (d .0), d .1)
 
-    pub passed : (goodTable t ≡ true) × (lineLimit ≤ n) × (firstOf (takenRules (t .slots) line) ≡ accepted)
+    -- the table is well formed, the output has room, and none of the line's rules applies
+    pub passed : (goodTable t ≡ true) × (lineLimit ≤ n) × (firstOf (takenRules (networkOf t) a) ≡ accepted)
     passed = (tests .0, tests .1, tests .3)
 
     -- an accepted line came from one of the links, and is no longer than a line can be
-    pub accepted-line : (isLink link ≡ true) × (length line ≤ lineLimit)
-    accepted-line = (and-left (isLink link) (hasBit (t .links .set) link) (tests .2), read-small line (rules-none (t .slots) line (tests .3) .0))
+    pub accepted-line : (isLink (a .link) ≡ true) × (length (a .line) ≤ lineLimit)
+    accepted-line = (and-left (isLink (a .link)) (hasBit (t .links .set) (a .link)) (tests .2), read-small (a .line) (rules-none (networkOf t) a (tests .3) .0))
 
-    pub answer-accepted : processAnswer t link line n ≡ taken t link line
+    pub answer-accepted : processAnswer t a n ≡ taken t a
     unfolding processAnswer
     answer-accepted = rw none
 
-    pub sent-line : sent t link line n ≡ relayed (t .slots) line
+    pub sent-line : sent t a n ≡ relayed (networkOf t) a
     unfolding sent
-    sent-line = emitted-all (processRules t link line n) _ none
+    sent-line = emitted-all (processRules t a n) _ none
 
-    module _ (j : Change) (q : Changes (commandIn line) (t .slots) (contentOf line) j) where
-      pub answer-taken : (number set count len : ℕ) (table : Table) → number ≡ accepted → table ≡ withSlots t (slotsWith (j .command) j (t .slots)) → set ≡ relaySet (t .links) link
-          → count ≡ length (linksIn set) → len ≡ length (relayed (t .slots) line)
-          → _≡_ {A = Taken} (record { number = number; table = table; set = set; count = count; len = len }) (processAnswer t link line n)
-      unfolding processAnswer
-      answer-taken number set count len table a b c d e =
-          rw (none, a, b ∙ ap (withSlots t) (enacted-slots (t .slots) line (slots-good t (passed .0)) (passed .2) j q), d, c, e)
+    -- ---- the change is made
+    module _ (j : Change) (d : Does (meaningIn a) (networkOf t) a j) where
+      pub answer-taken : (number set count len : ℕ) (table : Table) → number ≡ accepted → table ≡ withNetwork t (doneBy (j .deed) j (networkOf t)) → set ≡ relaySet (t .links) (a .link)
+          → count ≡ length (linksIn set) → len ≡ length (relayed (networkOf t) a)
+          → _≡_ {A = Taken} (record { number = number; table = table; set = set; count = count; len = len }) (processAnswer t a n)
+      unfolding processAnswer networkBy
+      answer-taken number set count len table e f g h i = rw (none, e, f ∙ ap (withNetwork t) (d .network), h, g, i)
 
       -- the line that is written is the one that goes out
-      pub written-line : (out : List ℕ) → length out ≡ n → sending (j .command) j line (messageOf line) out ≡ relayed (t .slots) line
-      written-line out h = enacted-line (t .slots) line (slots-good t (passed .0)) (passed .2) j out (omega (arith, h, passed .1)) q
+      pub written-line : (out : List ℕ) → length out ≡ n → writtenBy (j .sending) j (a .line) (messageOf (a .line)) out ≡ relayed (networkOf t) a
+      unfolding messageBy
+      written-line out h =
+          let read = rules-none (networkOf t) a (passed .2) .0 in
+          let short = relayed-reads (networkOf t) a (passed .2) (passed .0) .short in
+          sends-it (a .line) read out (omega (arith, h, passed .1)) (j .sending) j (messageBy (networkOf t) a) (d .sends) (omega (arith, short, read-small (a .line) read))

@@ -3,13 +3,12 @@
 use Prim.Native.Nat.{ℕ, _≤_, _-_}
 use mathlib.Core.Path.{_≡_, refl, ap}
 use mathlib.Core.Bool.{true, false, _&&_}
-use mathlib.Core.List.{List, [], _∷_}
+use mathlib.Core.List.{List, [], _∷_, List·Memᴰ·head, List·Memᴰ·tail, List·Memᴰ·not-nil}
 use native.Mathlib.Omega.{arith}
 use lib.ListN.{length, replicate}
 use lib.Dec.{ltb}
 use Rattle.refusal.specs.Numbers.{accepted}
 use Rattle.refusal.specs.Rules.{firstOf}
-use Rattle.laws.proofs.Bools.{and-left}
 use Rattle.octets.specs.Bytes.{within, isPlain, isLetter, isDigit, isIdByte, isNameByte, isKeyByte, capital}
 use Rattle.laws.specs.Lists.{all, sameBy, padded, startsWith}
 use Rattle.octets.specs.Order.{compare}
@@ -36,7 +35,8 @@ use Rattle.channel.specs.WellFormed.{goodTime, goodModes, goodKey, goodLimit, g
 use Rattle.channel.proofs.Rules.{peopled}
 use Rattle.channel.proofs.Examples.{2cd, 1ab, stored}
 use Rattle.table.specs.declared.Table.{Table}
-use Rattle.table.specs.Table.{goodSlot, holds, alike, distinct, goodTable}
+use Rattle.table.specs.Table.{goodSlot, holds, alike, distinct, goodNetwork, goodTable}
+use Rattle.table.specs.Network.{Network, networkOf, withNetwork}
 use Rattle.table.specs.Slots.{firstAt, freeSlot, slotFor, placeOf}
 use Rattle.sjoin.specs.Modes.{once, goodLetters, modesByte, parametered, goodArguments, argumentOf}
 use Rattle.sjoin.specs.Modes as modes
@@ -46,10 +46,16 @@ use Rattle.sjoin.specs.Join as join
 use Rattle.sjoin.specs.Telling.{lettersFrom, entryOf, following, listText, paramsOf}
 use Rattle.relay.specs.declared.Taken.{Taken}
 use Rattle.relay.specs.declared.Command.the-variants.{Sjoin}
-use Rattle.relay.specs.Commands.{commandOf, isUser}
-use Rattle.relay.specs.Relay.{resulting, joinedRules, joined, outgoing, partRules, partedRules, parted, quitRules, messageAfter, commandIn, takenRules, processRules, slotsBy, relayed, withSlots, processAnswer}
-use Rattle.relay.proofs.Relayed.{relayed-reads}
-use Rattle.relay.proofs.Taking.{taken-good, OneChanged, join-one, Later, after-alone}
+use Rattle.relay.specs.Arrivals.{Arrival, arrival, said}
+use Rattle.relay.specs.Users.{isUser}
+use Rattle.relay.specs.Joining.{slotOf, resulting, joinedRules, joined, outgoing}
+use Rattle.relay.specs.Parting.{partRules, partedRules, parted}
+use Rattle.relay.specs.Quitting.{quitRules, quitted}
+use Rattle.relay.specs.Commands.{commandAmong, commandIn}
+use Rattle.relay.specs.Relay.{takenRules, networkBy, messageBy, relayed, processRules, processAnswer}
+use Rattle.relay.proofs.Lawful.{Reads}
+use Rattle.relay.proofs.Results.{OneChanged}
+use Rattle.relay.proofs.Taking.{taken-good, relayed-reads, join-one, Later, after-alone}
 
 -- the first slot holds the record
 race : Record → List Record
@@ -58,6 +64,10 @@ race r = r ∷ replicate (slotCount - 1) emptyRecord
 -- links 0, 3 and 5
 water : Table
 water = record { slots = race (encode stored); links = links 41 }
+
+-- a line from link 3
+abbrev from3 : List ℕ → Arrival
+from3 line = arrival 3 line
 
 -- `:1AB SJOIN 1200 #race +nt :@1ABAAAAAA 1ABAAAAAB`
 joining : List ℕ
@@ -73,19 +83,19 @@ quitting = 58 ∷ 50 ∷ 67 ∷ 68 ∷ 65 ∷ 65 ∷ 65 ∷ 65 ∷ 65 ∷ 65 ∷
 
 -- ---- what they come to
 water-good : goodTable water ≡ true
-unfolding water race stored 2cd withMode emptyRecord encode decode padded goodTable all goodSlot isBlank wellFormed inRoom clear channelTests goodTime goodModes goodKey goodLimit goodMembers goodMember isChannel isNameByte isPlain isKey isKeyByte startsWith within hasBit isUserId isServerId isDigit isIdByte ascends distinct alike holds sameName sameBy fold
+unfolding water race stored 2cd withMode emptyRecord encode decode padded goodNetwork all goodSlot isBlank wellFormed inRoom clear channelTests goodTime goodModes goodKey goodLimit goodMembers goodMember isChannel isNameByte isPlain isKey isKeyByte startsWith within hasBit isUserId isServerId isDigit isIdByte ascends distinct alike holds sameName sameBy fold
 water-good = refl
 
-accepts : (firstOf (takenRules (water .slots) joining) ≡ accepted) × (firstOf (takenRules (water .slots) parting) ≡ accepted) × (firstOf (takenRules (water .slots) quitting) ≡ accepted)
-unfolding water race stored 2cd joining parting quitting takenRules commandOf capital joinRules goodCount isSource join.goodTime isDecimal leadsWithZero valueFrom isDigit isChannel isNameByte isServerId isUserId isIdByte modes.goodModes goodLetters once parametered goodArguments argumentsIn placeAmong goodEntries isEntry idOf past wordsAt contentOf contentIn isRead numberFor lineRules bodyRules firstOf endsLine sameBy bodyOf all isPlain startsWith prefix word prefixEnd commandStart spaces command isCommand isLetter within commandEnd rest params joinedRules resulting channelIn argumentOf modesByte memberOf statusOf slotFor firstAt freeSlot holds sameName fold emptyRecord encode decode padded withMode merge standing stands bare insert put unite compare greater partRules partedRules isUser hasMember quitRules
+accepts : (firstOf (takenRules (networkOf water) (from3 joining)) ≡ accepted) × (firstOf (takenRules (networkOf water) (from3 parting)) ≡ accepted) × (firstOf (takenRules (networkOf water) (from3 quitting)) ≡ accepted)
+unfolding water race stored 2cd joining parting quitting takenRules commandAmong capital joinRules goodCount isSource join.goodTime isDecimal leadsWithZero valueFrom isDigit isChannel isNameByte isServerId isUserId isIdByte modes.goodModes goodLetters once parametered goodArguments argumentsIn placeAmong goodEntries isEntry idOf past wordsAt contentOf contentIn isRead numberFor lineRules bodyRules firstOf endsLine sameBy bodyOf all isPlain startsWith prefix word prefixEnd commandStart spaces command isCommand isLetter within commandEnd rest params joinedRules resulting channelIn argumentOf modesByte memberOf statusOf slotFor firstAt freeSlot holds sameName fold emptyRecord encode decode padded withMode merge standing stands bare insert put unite compare greater partRules partedRules isUser hasMember quitRules
 accepts = (refl, refl, refl)
 
 -- the lines that go out: `:1AB SJOIN 1000 #Race + :1ABAAAAAA 1ABAAAAAB`, `:2CDAAAAAA PART #race`, and the QUIT as it came
-goes-out : (relayed (water .slots) joining
+goes-out : (relayed (networkOf water) (from3 joining)
     ≡ 58 ∷ 49 ∷ 65 ∷ 66 ∷ 32 ∷ 83 ∷ 74 ∷ 79 ∷ 73 ∷ 78 ∷ 32 ∷ 49 ∷ 48 ∷ 48 ∷ 48 ∷ 32 ∷ 35 ∷ 82 ∷ 97 ∷ 99 ∷ 101 ∷ 32 ∷ 43 ∷ 32 ∷ 58 ∷ 49 ∷ 65 ∷ 66 ∷ 65 ∷ 65 ∷ 65 ∷ 65 ∷ 65 ∷ 65 ∷ 32 ∷ 49 ∷ 65 ∷ 66 ∷ 65 ∷ 65 ∷ 65 ∷ 65 ∷ 65 ∷ 66 ∷ crlf)
-    × (relayed (water .slots) parting ≡ 58 ∷ 50 ∷ 67 ∷ 68 ∷ 65 ∷ 65 ∷ 65 ∷ 65 ∷ 65 ∷ 65 ∷ 32 ∷ 80 ∷ 65 ∷ 82 ∷ 84 ∷ 32 ∷ 35 ∷ 114 ∷ 97 ∷ 99 ∷ 101 ∷ crlf)
-    × (relayed (water .slots) quitting ≡ quitting)
-unfolding water race stored 2cd joining parting quitting relayed commandOf capital written writtenBody writtenPrefix writtenParams writtenParam takesColon withCommand outgoing paramsOf listText following entryOf lettersFrom digitsOf digitsUpTo hasBit isDigit argumentsIn placeAmong idOf past wordsAt contentOf contentIn isRead numberFor lineRules bodyRules firstOf endsLine sameBy bodyOf all isPlain startsWith prefix word prefixEnd commandStart spaces command isCommand isLetter within commandEnd rest params resulting channelIn argumentOf parametered modesByte valueFrom memberOf statusOf slotFor firstAt freeSlot holds sameName fold emptyRecord encode decode padded withMode merge standing stands bare insert put unite compare greater
+    × (relayed (networkOf water) (from3 parting) ≡ 58 ∷ 50 ∷ 67 ∷ 68 ∷ 65 ∷ 65 ∷ 65 ∷ 65 ∷ 65 ∷ 65 ∷ 32 ∷ 80 ∷ 65 ∷ 82 ∷ 84 ∷ 32 ∷ 35 ∷ 114 ∷ 97 ∷ 99 ∷ 101 ∷ crlf)
+    × (relayed (networkOf water) (from3 quitting) ≡ quitting)
+unfolding water race stored 2cd joining parting quitting messageBy commandAmong capital written writtenBody writtenPrefix writtenParams writtenParam takesColon withCommand outgoing paramsOf listText following entryOf lettersFrom digitsOf digitsUpTo hasBit isDigit argumentsIn placeAmong idOf past wordsAt contentOf contentIn isRead numberFor lineRules bodyRules firstOf endsLine sameBy bodyOf all isPlain startsWith prefix word prefixEnd commandStart spaces command isCommand isLetter within commandEnd rest params resulting channelIn argumentOf parametered modesByte valueFrom memberOf statusOf slotFor firstAt freeSlot holds sameName fold emptyRecord encode decode padded withMode merge standing stands bare insert put unite compare greater
 goes-out = (refl, refl, refl)
 
 -- the slots after: time 1000, k `buoy`, members 1ABAAAAAA 0, 1ABAAAAAB 0, 2CDAAAAAA 2; and none once the member has left
@@ -93,65 +103,64 @@ after : Channel
 unfolding stored
 after = peopled stored (member (1ab 65) 0 ∷ member (1ab 66) 0 ∷ member 2cd 2 ∷ [])
 
-comes-to : (slotsBy (water .slots) joining ≡ race (encode after)) × (slotsBy (water .slots) parting ≡ race emptyRecord) × (slotsBy (water .slots) quitting ≡ race emptyRecord)
-unfolding water race stored after 1ab 2cd joining parting quitting slotsBy joined parted without others withMembers commandOf capital hasBit argumentsIn placeAmong idOf past wordsAt contentOf contentIn isRead numberFor lineRules bodyRules firstOf endsLine sameBy bodyOf all isPlain startsWith prefix word prefixEnd commandStart spaces command isCommand isLetter within commandEnd rest params resulting channelIn argumentOf parametered modesByte valueFrom memberOf statusOf slotFor firstAt freeSlot holds sameName fold emptyRecord encode decode padded withMode merge standing stands bare insert put unite compare greater
+comes-to : (networkBy (networkOf water) (from3 joining) .slots ≡ race (encode after)) × (networkBy (networkOf water) (from3 parting) .slots ≡ race emptyRecord) × (networkBy (networkOf water) (from3 quitting) .slots ≡ race emptyRecord)
+unfolding water race stored after 1ab 2cd joining parting quitting networkBy joined parted quitted without others withMembers commandAmong capital hasBit argumentsIn placeAmong idOf past wordsAt contentOf contentIn isRead numberFor lineRules bodyRules firstOf endsLine sameBy bodyOf all isPlain startsWith prefix word prefixEnd commandStart spaces command isCommand isLetter within commandEnd rest params resulting channelIn argumentOf parametered modesByte valueFrom memberOf statusOf slotFor firstAt freeSlot holds sameName fold emptyRecord encode decode padded withMode merge standing stands bare insert put unite compare greater
 comes-to = (refl, refl, refl)
 
 -- the answer to a line that no rule refuses, of its parts
-answer-of : (t : Table) (link : ℕ) (line : List ℕ) (n : ℕ) (slots : List Record) (w : List ℕ) → goodTable t ≡ true → ltb n lineLimit ≡ false → isLink link && hasBit (t .links .set) link ≡ true
-    → firstOf (takenRules (t .slots) line) ≡ accepted → slotsBy (t .slots) line ≡ slots → relayed (t .slots) line ≡ w
-    → processAnswer t link line n ≡ record { number = accepted; table = withSlots t slots; set = relaySet (t .links) link; count = length (linksIn (relaySet (t .links) link)); len = length w }
+answer-of : (t : Table) (a : Arrival) (n : ℕ) (slots : List Record) (w : List ℕ) → goodTable t ≡ true → ltb n lineLimit ≡ false → isLink (a .link) && hasBit (t .links .set) (a .link) ≡ true
+    → firstOf (takenRules (networkOf t) a) ≡ accepted → networkBy (networkOf t) a .slots ≡ slots → relayed (networkOf t) a ≡ w
+    → processAnswer t a n ≡ record { number = accepted; table = record { slots = slots; links = t .links }; set = relaySet (t .links) (a .link); count = length (linksIn (relaySet (t .links) (a .link))); len = length w }
 unfolding processAnswer processRules firstOf
-answer-of t link line n slots w good room linked none after goes = simp (good, room, linked, none, after, goes)
+answer-of t a n slots w good room linked none after goes = simp (good, room, linked, none, after, goes)
 
 -- that to the SJOIN: to links 0 and 5, count 2, and 46 bytes, CR LF counted
-answers : processAnswer water 3 joining lineLimit ≡ record { number = accepted; table = withSlots water (race (encode after)); set = 33; count = 2; len = 46 }
+answers : processAnswer water (from3 joining) lineLimit ≡ record { number = accepted; table = record { slots = race (encode after); links = water .links }; set = 33; count = 2; len = 46 }
 unfolding water relaySet lessLink setBelow linksFrom hasBit
-answers = answer-of water 3 joining lineLimit (race (encode after)) _ water-good refl refl (accepts .0) (comes-to .0) (goes-out .0)
+answers = answer-of water (from3 joining) lineLimit (race (encode after)) _ water-good refl refl (accepts .0) (comes-to .0) (goes-out .0)
 
 -- ---- what the laws say of them
-slots-good : all goodSlot (water .slots) ≡ true
-unfolding goodTable
-slots-good = and-left (all goodSlot (water .slots)) (distinct (water .slots)) water-good
-
 -- each line that goes out reads as its message, and is no longer than the one read
-Reads : List ℕ → Type 0
-Reads line = (isRead (relayed (water .slots) line) ≡ true) × (contentOf (relayed (water .slots) line) ≡ messageAfter (commandIn line) (water .slots) (contentOf line)) × (length (relayed (water .slots) line) ≤ length line)
+Passed : List ℕ → Type 0
+Passed line = Reads line (messageBy (networkOf water) (from3 line))
 
-reads : Reads joining × Reads parting × Reads quitting
-unfolding Reads
-reads = (relayed-reads (water .slots) joining slots-good (accepts .0), relayed-reads (water .slots) parting slots-good (accepts .1), relayed-reads (water .slots) quitting slots-good (accepts .2))
+reads : Passed joining × Passed parting × Passed quitting
+unfolding Passed
+reads = (relayed-reads (networkOf water) (from3 joining) (accepts .0) water-good, relayed-reads (networkOf water) (from3 parting) (accepts .1) water-good, relayed-reads (networkOf water) (from3 quitting) (accepts .2) water-good)
 
--- the table stays well formed
+-- the network stays well formed
 Stays : List ℕ → Type 0
-Stays line = goodTable (withSlots water (slotsBy (water .slots) line)) ≡ true
+Stays line = goodNetwork (networkBy (networkOf water) (from3 line)) ≡ true
 
 stays : Stays joining × Stays parting × Stays quitting
 unfolding Stays
-stays = (taken-good water joining water-good (accepts .0), taken-good water parting water-good (accepts .1), taken-good water quitting water-good (accepts .2))
+stays = (taken-good (networkOf water) (from3 joining) (accepts .0) water-good, taken-good (networkOf water) (from3 parting) (accepts .1) water-good, taken-good (networkOf water) (from3 quitting) (accepts .2) water-good)
 
 -- the SJOIN changes the first slot
 is-sjoin : commandIn joining ≡ Sjoin
-unfolding joining commandOf capital contentOf contentIn isRead numberFor lineRules bodyRules firstOf endsLine sameBy bodyOf all isPlain startsWith prefix word prefixEnd commandStart spaces command isCommand isLetter within commandEnd rest params
+unfolding joining commandAmong capital contentOf contentIn isRead numberFor lineRules bodyRules firstOf endsLine sameBy bodyOf all isPlain startsWith prefix word prefixEnd commandStart spaces command isCommand isLetter within commandEnd rest params
 is-sjoin = refl
 
-changes-one : OneChanged (water .slots) (slotsBy (water .slots) joining) (channelIn (contentOf joining)) (placeOf (water .slots) (slotFor (water .slots) (channelIn (contentOf joining) .name))) (encode (resulting (water .slots) (channelIn (contentOf joining))))
-changes-one = join-one (water .slots) joining slots-good is-sjoin (accepts .0)
+changes-one : OneChanged (water .slots) (networkBy (networkOf water) (from3 joining) .slots) (channelIn (contentOf joining)) (placeOf (water .slots) (slotOf (networkOf water) (channelIn (contentOf joining)))) (encode (resulting (networkOf water) (channelIn (contentOf joining))))
+changes-one = join-one (networkOf water) (from3 joining) water-good is-sjoin (accepts .0)
 
--- and does so whatever the links: here link 0 alone is registered, and the line comes from it
+-- and does so whatever the other links are: here link 3 alone is registered
 shore : Table
-shore = record { slots = water .slots; links = links 1 }
+shore = record { slots = water .slots; links = links 8 }
 
 shore-good : goodTable shore ≡ true
-unfolding goodTable shore
+unfolding shore
 shore-good = water-good
 
-accepted-later : (number : ℕ) → number ≡ accepted → Later number
-accepted-later number e = (λ f. omega (arith, e, f), λ f. omega (arith, e, f), λ f. omega (arith, e, f))
+none-before : (number : ℕ) → number ≡ accepted → Later number
+none-before number e (List·Memᴰ·head f) = omega (arith, e, f)
+none-before number e (List·Memᴰ·tail (List·Memᴰ·head f)) = omega (arith, e, f)
+none-before number e (List·Memᴰ·tail (List·Memᴰ·tail (List·Memᴰ·head f))) = omega (arith, e, f)
+none-before number e (List·Memᴰ·tail (List·Memᴰ·tail (List·Memᴰ·tail m))) = List·Memᴰ·not-nil m
 
-whichever-link : processAnswer water 3 joining lineLimit .table .slots ≡ processAnswer shore 0 joining lineLimit .table .slots
+whichever-links : networkOf (processAnswer water (from3 joining) lineLimit .table) ≡ networkOf (processAnswer shore (from3 joining) lineLimit .table)
 unfolding shore hasBit
-whichever-link =
-    let a : processAnswer water 3 joining lineLimit .number ≡ accepted = ap (λ (x : Taken). x .number) answers in
-    let b : processAnswer shore 0 joining lineLimit .number ≡ accepted = ap (λ (x : Taken). x .number) (answer-of shore 0 joining lineLimit _ _ shore-good refl refl (accepts .0) refl refl) in
-    after-alone water shore 3 0 joining lineLimit lineLimit refl (accepted-later _ a) (accepted-later _ b) .1
+whichever-links =
+    let a : processAnswer water (from3 joining) lineLimit .number ≡ accepted = ap (λ (x : Taken). x .number) answers in
+    let b : processAnswer shore (from3 joining) lineLimit .number ≡ accepted = ap (λ (x : Taken). x .number) (answer-of shore (from3 joining) lineLimit _ _ shore-good refl refl (accepts .0) refl refl) in
+    after-alone water shore (from3 joining) lineLimit lineLimit refl (none-before _ a) (none-before _ b) .1

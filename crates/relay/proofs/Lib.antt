@@ -1,14 +1,18 @@
 -- Laws of taking a line, for the functions of this crate and for the crates above, and examples.
-pub mod Words
-pub mod Judgements
-pub mod Entering
-pub mod Asking
-pub mod Used
-pub mod Leaving
-pub mod Settling
-pub mod Relayed
+mod Words
+mod Users
+mod Judgements
+mod Lawful
+mod AsRead
+mod Entering
+mod Asking
+pub mod Results
+mod Sjoin
+mod Part
+mod Quit
+mod Commands
 pub mod Taking
-pub mod Enacted
+mod Acted
 pub mod Answering
-pub mod Joining
+pub mod Joined
 pub mod Examples

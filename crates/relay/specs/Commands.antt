@@ -1,41 +1,43 @@
--- The commands that the relay takes (document 01, 'What the relay holds'), and the parts of their messages. Letters compare without case.
+-- The commands that the relay takes (document 01, 'What the relay holds'), which one a word is, and what each means.
 use Prim.Native.Nat.{ℕ}
-use mathlib.Core.Bool.{Bool, false, cond}
+use mathlib.Core.Bool.{true, cond}
 use mathlib.Core.List.{List, [], _∷_, map}
-use mathlib.Core.Option.{Option, some, none, Option·getD}
-use lib.ListN.{getD}
-use Rattle.octets.specs.Bytes.{capital}
+use Rattle.refusal.specs.Numbers.{unknownCommand}
+use Rattle.refusal.specs.Rules.{_when_}
 use Rattle.laws.specs.Lists.{same}
-use Rattle.names.specs.Names.{isUserId}
-use Rattle.message.specs.Content.{Content}
-use Rattle.sjoin.specs.Telling.{sjoin}
+use Rattle.octets.specs.Bytes.{capital}
+use Rattle.writer.specs.Form.{inCapitals}
+use Rattle.message.specs.Reading.{contentOf}
 use Rattle.relay.specs.declared.Command.{Command}
 use Rattle.relay.specs.declared.Command.the-variants.{Sjoin, Part, Quit, Unknown}
+use Rattle.relay.specs.Arrivals.{said, Meaning}
+use Rattle.relay.specs.Joining as joining
+use Rattle.relay.specs.Parting as parting
+use Rattle.relay.specs.Quitting as quitting
 
--- PART
-abbrev pub part : List ℕ
-part = 80 ∷ 65 ∷ 82 ∷ 84 ∷ []
+-- those that it knows
+abbrev pub commands : List Command
+commands = Sjoin ∷ Part ∷ Quit ∷ []
 
--- QUIT
-abbrev pub quit : List ℕ
-quit = 81 ∷ 85 ∷ 73 ∷ 84 ∷ []
+-- any other is refused, whatever it says
+abbrev pub unknown : Meaning
+unknown = record { word = []; own = λ c. unknownCommand when true ∷ []; met = λ n a. []; after = λ n a. n; out = λ n a. inCapitals (said a) }
 
--- which command a word is
-unfoldable pub commandOf : List ℕ → Command
-commandOf word =
-    cond (same (map capital word) sjoin) Sjoin
-    (cond (same (map capital word) part) Part
-    (cond (same (map capital word) quit) Quit Unknown))
+abbrev pub meaningOf : Command → Meaning
+meaningOf Sjoin = joining.meaning
+meaningOf Part = parting.meaning
+meaningOf Quit = quitting.meaning
+meaningOf Unknown = unknown
 
--- the prefix is there and a user id
-unfoldable pub isUser : Option (List ℕ) → Bool
-isUser none = false
-isUser (some p) = isUserId p
+-- the first of some commands that has the word
+unfoldable pub commandAmong : List Command → List ℕ → Command
+commandAmong [] word = Unknown
+commandAmong (k ∷ s) word = cond (same word (meaningOf k .word)) k (commandAmong s word)
 
--- the source of a message: its prefix, or no bytes
-abbrev pub sourceIn : Content → List ℕ
-sourceIn c = Option·getD (c .prefix) []
+-- which command a word is; letters compare without case
+abbrev pub commandOf : List ℕ → Command
+commandOf word = commandAmong commands (map capital word)
 
--- the channel that PART names
-abbrev pub partedIn : Content → List ℕ
-partedIn c = getD (c .params) 0 []
+-- which one a line has
+abbrev pub commandIn : List ℕ → Command
+commandIn line = commandOf (contentOf line .command)

@@ -1,3 +1,8 @@
+pub mod Arrivals
+pub mod Users
+pub mod Joining
+pub mod Parting
+pub mod Quitting
 pub mod Commands
 pub mod Relay
 pub mod Private

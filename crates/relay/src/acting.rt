@@ -6,10 +6,11 @@ ghost use lib.ListN.{length, set};
 ghost use Rattle.octets.specs.Room.{front};
 ghost use Rattle.channel.specs.Limits.{slotCount};
 ghost use Rattle.channel.specs.Members.{without as withoutOf};
-ghost use Rattle.relay.specs.Relay.{withSlots};
-ghost use Rattle.relay.specs.Private.{slotsWith, toldAnew, passedOn, sending};
+ghost use Rattle.table.specs.Network.{networkOf, withNetwork, withSlots};
+ghost use Rattle.relay.specs.Private.Acting.{doneBy, passedOn, toldAnew, writtenBy};
 use crate::Change;
-use crate::Command;
+use crate::Deed;
+use crate::Sending;
 use channel::Record;
 use channel::members::without;
 use message::Message;
@@ -22,7 +23,7 @@ use writer::forward_message;
 // The table with another record in slot k.
 fn with_record(t: Table, k: usize, r: Record) -> Table
     requires { ⌜ k < slotCount ⌝ }
-    ensures { λ s. ⌜ s ≡ withSlots t (set (t .slots) k r) ⌝ }
+    ensures { λ s. ⌜ s ≡ withNetwork t (withSlots (networkOf t) (set (t .slots) k r)) ⌝ }
 {
     let mut next = t;
     next.slots[k] = r;
@@ -31,7 +32,7 @@ fn with_record(t: Table, k: usize, r: Record) -> Table
 
 // The table without a user. A free slot isn't looked through: whatever it holds, the empty record is left.
 fn without_user(t: Table, user: [u8; USER_ID]) -> Table
-    ensures { λ r. ⌜ r ≡ withSlots t (map (withoutOf user) (t .slots)) ⌝ }
+    ensures { λ r. ⌜ r ≡ withNetwork t (withSlots (networkOf t) (map (withoutOf user) (t .slots))) ⌝ }
 {
     let mut next = t;
     for k in 0..Record::SLOTS {
@@ -48,15 +49,14 @@ fn without_user(t: Table, user: [u8; USER_ID]) -> Table
 // The table with the change made.
 pub(crate) fn changed(t: Table, change: Change) -> Table
     requires { ⌜ change .slot < slotCount ⌝ }
-    ensures { λ r. ⌜ r ≡ withSlots t (slotsWith (change .command) change (t .slots)) ⌝ }
+    ensures { λ r. ⌜ r ≡ withNetwork t (doneBy (change .deed) change (networkOf t)) ⌝ }
 {
-    let command = change.command;
+    let deed = change.deed;
     let user = change.user;
-    match command {
-        Command::Sjoin => with_record(t, change.slot, change.record),
-        Command::Part => with_record(t, change.slot, change.record),
-        Command::Quit => without_user(t, user),
-        Command::Unknown => t,
+    match deed {
+        Deed::Nothing => t,
+        Deed::Set => with_record(t, change.slot, change.record),
+        Deed::Drop => without_user(t, user),
     }
 }
 
@@ -78,16 +78,15 @@ fn pass_on(line: &[u8], m: Message, out: &mut [u8]) -> usize
     w.len
 }
 
-// Writes the line that goes out to the front of the output, and answers its length: SJOIN anew, PART and QUIT as read.
+// Writes what goes out to the front of the output, and answers its length.
 pub(crate) fn send(line: &[u8], m: Message, change: Change, out: &mut [u8]) -> usize
-    ensures answer { λ r. ⌜ r ≡ length (sending (change .command) change (now (line .entry)) m (now (out .entry))) ⌝ }
-    ensures output { λ _. ⌜ now (out .exit) ≡ front (sending (change .command) change (now (line .entry)) m (now (out .entry))) (now (out .entry)) ⌝ }
+    ensures answer { λ r. ⌜ r ≡ length (writtenBy (change .sending) change (now (line .entry)) m (now (out .entry))) ⌝ }
+    ensures output { λ _. ⌜ now (out .exit) ≡ front (writtenBy (change .sending) change (now (line .entry)) m (now (out .entry))) (now (out .entry)) ⌝ }
 {
-    let command = change.command;
-    match command {
-        Command::Sjoin => tell(line, m, change.told, out),
-        Command::Part => pass_on(line, m, out),
-        Command::Quit => pass_on(line, m, out),
-        Command::Unknown => pass_on(line, m, out),
+    let sending = change.sending;
+    match sending {
+        Sending::Silent => 0,
+        Sending::AsRead => pass_on(line, m, out),
+        Sending::Anew => tell(line, m, change.told, out),
     }
 }

@@ -1,12 +1,16 @@
 // Taking a line (document 01, 'SJOIN', 'What goes out'): SJOIN, PART and QUIT judged, folded into the table and relayed. Any bytes, on any link, with
 // any table and any lent output, get one answer.
 mod acting;
+mod joining;
 mod judging;
+mod parting;
+mod quitting;
 mod requests;
 
 ghost use mathlib.Core.Path.{_≡_};
 ghost use lib.ListN.{length};
 ghost use Rattle.octets.specs.Room.{front};
+ghost use Rattle.relay.specs.Arrivals.{arrival};
 ghost use Rattle.relay.specs.Relay.{processAnswer, sent, refused as refusedOf};
 use acting::changed;
 use acting::send;
@@ -33,7 +37,7 @@ enum Command {
 }
 
 // What a message asks for by itself: the number of its refusal, or ACCEPTED, its command, the name of the channel that it is about, as a part of the
-// line, and the user who leaves. An SJOIN has a name, a PART both, a QUIT a user. What doesn't belong to the command is zero.
+// line, and the user who leaves. What doesn't belong to the command is zero: the name of no channel is empty.
 struct Request {
     name: Span,
     user: [u8; USER_ID],
@@ -41,17 +45,32 @@ struct Request {
     number: u8,
 }
 
-// A request, and the record that an SJOIN tells of; beside any other it is empty.
+// A request, and the record that came with it; else the empty one.
 struct Asked {
     request: Request,
     incoming: Record,
 }
 
-// What a request comes to: the number of its refusal, or ACCEPTED and what is to change. With SJOIN and PART one slot then holds another record,
-// and of an SJOIN the record `told` goes out; with QUIT the user leaves every channel. What doesn't belong to the command is zero.
+// What is done: nothing; a slot set to another record; a user dropped from every slot.
+enum Deed {
+    Nothing,
+    Set,
+    Drop,
+}
+
+// What goes out: nothing; the line as read; an SJOIN that tells of a record anew.
+enum Sending {
+    Silent,
+    AsRead,
+    Anew,
+}
+
+// What a request comes to: the number of its refusal, or ACCEPTED; what is done, with the slot and its record, or the user; and what goes out, with the
+// record that is told of. What isn't needed is zero.
 struct Change {
     number: u8,
-    command: Command,
+    deed: Deed,
+    sending: Sending,
     slot: usize,
     record: Record,
     told: Record,
@@ -86,8 +105,8 @@ fn refused(t: Table, number: u8) -> Taken
 // that its channel's name uses; unless a number refuses it, the table changes, and the line that goes out is written to the front of the output. The table
 // is handed to few functions, since each copies it.
 pub fn process(t: Table, link: u32, line: &[u8], out: &mut [u8]) -> Taken
-    ensures answer { λ r. ⌜ r ≡ processAnswer t link (now (line .entry)) (length (now (out .entry))) ⌝ }
-    ensures output { λ _. ⌜ now (out .exit) ≡ front (sent t link (now (line .entry)) (length (now (out .entry)))) (now (out .entry)) ⌝ }
+    ensures answer { λ r. ⌜ r ≡ processAnswer t (arrival link (now (line .entry))) (length (now (out .entry))) ⌝ }
+    ensures output { λ _. ⌜ now (out .exit) ≡ front (sent t (arrival link (now (line .entry))) (length (now (out .entry)))) (now (out .entry)) ⌝ }
 {
     let entry = entry_number(is_well_formed(t), out.len(), t.links, link);
     if entry != ACCEPTED {
@@ -100,7 +119,7 @@ pub fn process(t: Table, link: u32, line: &[u8], out: &mut [u8]) -> Taken
     if asks != ACCEPTED {
         return refused(t, asks);
     }
-    let change = settled(request, asked.incoming, slot_of(t, line, request));
+    let change = settled(request, asked.incoming, slot_of(t, line, request.name));
     let number = change.number;
     if number != ACCEPTED {
         return refused(t, number);

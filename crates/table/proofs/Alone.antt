@@ -20,7 +20,7 @@ use Rattle.channel.proofs.Records.{decode-encode}
 use Rattle.channel.proofs.Proper.{Proper, proper-fits, encode-well}
 use Rattle.table.specs.declared.Table.{Table}
 use Rattle.table.specs.declared.Slot.the-variants.{Held, Free}
-use Rattle.table.specs.Table.{isFree, goodSlot, holds, alike, distinct, goodTable, emptyTable}
+use Rattle.table.specs.Table.{isFree, goodSlot, holds, alike, distinct, goodNetwork, goodTable, emptyTable}
 use Rattle.table.specs.Slots.{firstAt, slotFor}
 use Rattle.table.proofs.Searching.{free-holds, free-found, held-found, held-none}
 use Rattle.table.proofs.WellFormed.{unlike, free-distinct, empty-good}
@@ -28,7 +28,7 @@ use Rattle.table.proofs.Changing.{well-used, well-good, empty-slot}
 
 -- ---- all free
 pub free-good : (t : Table) → t .slots ≡ replicate slotCount emptyRecord → goodTable t ≡ true
-unfolding goodTable emptyTable
+unfolding goodNetwork emptyTable
 free-good t e = rw e empty-good
 
 none-holds : (name : List ℕ) (n : ℕ) → firstAt (holds name) (replicate n emptyRecord) ≡ n
@@ -54,7 +54,7 @@ module _ (r : Record) where
       and-intro _ _ (all-replicate (unlike r) emptyRecord n (ap not e)) (free-distinct emptyRecord n empty-free)
 
   pub alone-good : wellFormed r ≡ true → (t : Table) (n : ℕ) → t .slots ≡ r ∷ replicate n emptyRecord → goodTable t ≡ true
-  unfolding goodTable
+  unfolding goodNetwork
   alone-good h t n e = rw e (and-intro _ _ (all-cons goodSlot r (replicate n emptyRecord) (well-good r h) (all-replicate goodSlot emptyRecord n empty-slot)) (alone-distinct n))
 
 pub held-first : (name : List ℕ) (r : Record) (l : List Record) → holds name r ≡ true → slotFor (r ∷ l) name ≡ Held 0

@@ -24,7 +24,7 @@ use Rattle.channel.proofs.Examples.{stored, 2cd}
 use Rattle.table.specs.declared.Table.{Table}
 use Rattle.table.specs.declared.Slot.{Slot}
 use Rattle.table.specs.declared.Slot.the-variants.{Held, Free, Full}
-use Rattle.table.specs.Table.{isFree, goodSlot, holds, alike, distinct, goodTable, registerAnswer, unregisterAnswer}
+use Rattle.table.specs.Table.{isFree, goodSlot, holds, alike, distinct, goodNetwork, goodTable, registerAnswer, unregisterAnswer}
 use Rattle.table.specs.Slots.{firstAt, freeSlot, slotFor, heldIn}
 use Rattle.table.proofs.First.{IsFirst, IsNone}
 use Rattle.table.proofs.Searching.{slot-held, slot-free, slot-full}
@@ -45,7 +45,7 @@ many = record { slots = replicate slotCount race; links = noLinks }
 
 -- the second has equal names
 judged : goodTable one ∷ goodTable many ∷ [] ≡ true ∷ false ∷ []
-unfolding one many race stored 2cd withMode emptyRecord encode decode padded goodTable all goodSlot isBlank wellFormed inRoom clear channelTests goodTime goodModes goodKey goodLimit goodMembers goodMember isChannel isNameByte isPlain isKey isKeyByte startsWith within hasBit isUserId isServerId isDigit isIdByte ascends distinct alike holds sameName sameBy fold
+unfolding one many race stored 2cd withMode emptyRecord encode decode padded goodNetwork all goodSlot isBlank wellFormed inRoom clear channelTests goodTime goodModes goodKey goodLimit goodMembers goodMember isChannel isNameByte isPlain isKey isKeyByte startsWith within hasBit isUserId isServerId isDigit isIdByte ascends distinct alike holds sameName sameBy fold
 judged = refl
 
 -- #rACE, which is held, and #b, which is new and takes the second slot, or finds none

@@ -1,5 +1,5 @@
--- Links registered and dropped: which rule answers, that doing so twice changes nothing more, and that the channels stay. Assumes nothing.
-use mathlib.Core.Path.{_≡_, refl, _∙_}
+-- Links registered and dropped: which rule answers, that doing so twice changes nothing more, and that the network stays. Assumes nothing.
+use mathlib.Core.Path.{_≡_, refl, ap, _∙_}
 use mathlib.Core.Bool.{Bool, true, false, not, cond}
 use mathlib.Core.List.{[], _∷_}
 use Prim.Native.Nat.{ℕ, _≤_, _<_}
@@ -13,7 +13,8 @@ use Rattle.links.specs.Links.{linkCount, isLink, withLink, withoutLink}
 use Rattle.links.proofs.Sets.{with-twice, without-twice}
 use Rattle.table.specs.declared.Table.{Table}
 use Rattle.table.specs.declared.Registered.{Registered}
-use Rattle.table.specs.Table.{goodTable, linkRules, relinked, registerAnswer, unregisterAnswer}
+use Rattle.table.specs.Network.{networkOf, tableOf}
+use Rattle.table.specs.Table.{goodNetwork, goodTable, linkRules, relinked, registerAnswer, unregisterAnswer}
 
 -- The rules stand in the order of their numbers: the first in it that applies is given.
 pub rules-ascend : (t : Table) (link : ℕ) → ascend (linkRules t link) ≡ true
@@ -22,7 +23,7 @@ rules-ascend t link = refl
 
 -- ---- the answer, by the rule that applies
 module _ (t : Table) (link : ℕ) (l : Links) where
-  relinked-by : (k : ℕ) → firstOf (linkRules t link) ≡ k → relinked t link l ≡ record { number = k; table = cond (eqb k accepted) (record { slots = t .slots; links = l }) t }
+  relinked-by : (k : ℕ) → firstOf (linkRules t link) ≡ k → relinked t link l ≡ record { number = k; table = cond (eqb k accepted) (tableOf (networkOf t) l) t }
   unfolding relinked
   relinked-by k e = rw e
 
@@ -39,35 +40,30 @@ module _ (t : Table) (link : ℕ) (l : Links) where
     pub links-no-link : linkCount ≤ link → relinked t link l ≡ record { number = badLink; table = t }
     links-no-link h = relinked-by badLink (then badLink (stop _ _ (rw (le-ltb link linkCount h))))
 
-    pub links-changed : link < linkCount → relinked t link l ≡ record { number = accepted; table = record { slots = t .slots; links = l } }
+    pub links-changed : link < linkCount → relinked t link l ≡ record { number = accepted; table = tableOf (networkOf t) l }
     links-changed h = relinked-by accepted (then accepted (skip _ _ (rw (lt-ltb link linkCount h)) ∙ first-nil))
 
 -- ---- the table after
 module _ (t : Table) (link : ℕ) (l : Links) where
-  -- the channels stay
-  pub relinked-slots : relinked t link l .table .slots ≡ t .slots
+  -- the network stays
+  pub relinked-network : networkOf (relinked t link l .table) ≡ networkOf t
   unfolding relinked
-  relinked-slots = go (eqb (firstOf (linkRules t link)) accepted)
+  relinked-network = go (eqb (firstOf (linkRules t link)) accepted)
     where
-      go : (b : Bool) → cond b (record { slots = t .slots; links = l }) t .slots ≡ t .slots
+      go : (b : Bool) → networkOf (cond b (tableOf (networkOf t) l) t) ≡ networkOf t
       go true = refl
       go false = refl
 
   -- and a well-formed table stays well formed
   pub relinked-good : goodTable (relinked t link l .table) ≡ goodTable t
-  unfolding goodTable
-  relinked-good = rw relinked-slots
+  relinked-good = ap goodNetwork relinked-network
 
--- Dropping a link leaves the channels as they are, and so does registering one.
-pub unregister-slots : (t : Table) (link : ℕ) → unregisterAnswer t link .table .slots ≡ t .slots
-unregister-slots t link = relinked-slots t link (withoutLink (t .links) link)
+-- Dropping a link leaves the network as it is, and so does registering one.
+pub unregister-network : (t : Table) (link : ℕ) → networkOf (unregisterAnswer t link .table) ≡ networkOf t
+unregister-network t link = relinked-network t link (withoutLink (t .links) link)
 
-pub register-slots : (t : Table) (link : ℕ) → registerAnswer t link .table .slots ≡ t .slots
-register-slots t link = relinked-slots t link (withLink (t .links) link)
-
-same-slots : (t : Table) (l : Links) → goodTable (record { slots = t .slots; links = l }) ≡ goodTable t
-unfolding goodTable
-same-slots t l = refl
+pub register-network : (t : Table) (link : ℕ) → networkOf (registerAnswer t link .table) ≡ networkOf t
+register-network t link = relinked-network t link (withLink (t .links) link)
 
 -- ---- doing so twice changes nothing more
 module _ (t : Table) (link : ℕ) (f : Links → Links) (twice : (l : Links) → f (f l) ≡ f l) where
@@ -82,8 +78,8 @@ module _ (t : Table) (link : ℕ) (f : Links → Links) (twice : (l : Links) →
       go true e false q = let is = links-no-link t link (f (t .links)) e (ltb-false link linkCount q) in again _ is is
       go true e true q =
           let h = ltb-true link linkCount q in
-          let next : Table = record { slots = t .slots; links = f (t .links) } in
-          again _ (links-changed t link (f (t .links)) e h) (rw (twice (t .links)) (links-changed next link (f (t .links)) (same-slots t (f (t .links)) ∙ e) h))
+          let next : Table = tableOf (networkOf t) (f (t .links)) in
+          again _ (links-changed t link (f (t .links)) e h) (rw (twice (t .links)) (links-changed next link (f (t .links)) e h))
 
 pub register-twice : (t : Table) (link : ℕ) → registerAnswer (registerAnswer t link .table) link ≡ registerAnswer t link
 register-twice t link = relinked-twice t link (λ l. withLink l link) (λ l. with-twice l link)

@@ -20,7 +20,8 @@ use Rattle.channel.specs.WellFormed.{isBlank, wellFormed}
 use Rattle.channel.proofs.Blank.{empty-free, empty-blank}
 use Rattle.channel.proofs.Decoded.{decoded-name}
 use Rattle.table.specs.declared.Table.{Table}
-use Rattle.table.specs.Table.{isFree, goodSlot, holds, alike, distinct, goodTable, emptyTable}
+use Rattle.table.specs.Network.{Network, networkOf}
+use Rattle.table.specs.Table.{isFree, goodSlot, holds, alike, distinct, goodNetwork, goodTable, emptyTable}
 
 -- ---- one slot
 module _ (r : Record) where
@@ -55,18 +56,20 @@ module _ (r : Record) where
   free-distinct (suc n) e = and-intro (all (unlike r) (replicate n r)) (distinct (replicate n r)) (all-replicate (unlike r) r n (ap not (free-alike r r e))) (free-distinct n e)
 
 pub empty-good : goodTable emptyTable ≡ true
-unfolding goodTable emptyTable
+unfolding goodNetwork emptyTable
 empty-good = and-intro _ _ (all-replicate goodSlot emptyRecord slotCount (good-free emptyRecord empty-free ∙ empty-blank)) (free-distinct emptyRecord slotCount empty-free)
 
--- ---- the slots of a well-formed table
-module _ (t : Table) (g : goodTable t ≡ true) where
-  pub slots-good : all goodSlot (t .slots) ≡ true
-  unfolding goodTable
-  slots-good = and-left (all goodSlot (t .slots)) (distinct (t .slots)) g
+-- ---- the slots of a well-formed network
+module _ (n : Network) (g : goodNetwork n ≡ true) where
+  -- each is good
+  pub slots-good : all goodSlot (n .slots) ≡ true
+  unfolding goodNetwork
+  slots-good = and-left (all goodSlot (n .slots)) (distinct (n .slots)) g
 
-  pub slots-distinct : distinct (t .slots) ≡ true
-  unfolding goodTable
-  slots-distinct = and-right (all goodSlot (t .slots)) (distinct (t .slots)) g
+  -- and no two are alike
+  pub slots-distinct : distinct (n .slots) ≡ true
+  unfolding goodNetwork
+  slots-distinct = and-right (all goodSlot (n .slots)) (distinct (n .slots)) g
 
 -- ---- at most one slot holds a name
 module _ (name : List ℕ) where
@@ -97,7 +100,7 @@ module _ (name : List ℕ) where
   held-once t g d i j h k e f = go (ltb i j) refl (ltb j i) refl
     where
       q : distinct (t .slots) ≡ true
-      q = slots-distinct t g
+      q = slots-distinct (networkOf t) g
 
       go : (a : Bool) → ltb i j ≡ a → (b : Bool) → ltb j i ≡ b → i ≡ j
       go true x b y = absurd (two-hold (t .slots) d i j q (ltb-true i j x) k e f)

@@ -1,2 +1,3 @@
+pub mod Network
 pub mod Table
 pub mod Slots

@@ -2,7 +2,6 @@
 use Prim.Native.Nat.{ℕ}
 use mathlib.Core.Bool.{Bool, true, not, cond, _&&_}
 use mathlib.Core.List.{List, [], _∷_}
-use lib.ListN.{replicate}
 use lib.Dec.{eqb}
 use Rattle.refusal.specs.Numbers.{accepted, notWellFormed, badLink}
 use Rattle.refusal.specs.Rules.{Rule, _when_, firstOf}
@@ -11,11 +10,11 @@ use Rattle.names.specs.Fold.{sameName}
 use Rattle.links.specs.declared.Links.{Links}
 use Rattle.links.specs.Links.{isLink, noLinks, withLink, withoutLink}
 use Rattle.channel.specs.declared.Record.{Record}
-use Rattle.channel.specs.Limits.{slotCount}
-use Rattle.channel.specs.Record.{decode, emptyRecord}
+use Rattle.channel.specs.Record.{decode}
 use Rattle.channel.specs.WellFormed.{isBlank, wellFormed}
 use Rattle.table.specs.declared.Table.{Table}
 use Rattle.table.specs.declared.Registered.{Registered}
+use Rattle.table.specs.Network.{Network, networkOf, tableOf, emptyNetwork}
 
 -- ---- slots
 -- a slot is free exactly if it has no members
@@ -39,13 +38,17 @@ unfoldable pub distinct : List Record → Bool
 distinct [] = true
 distinct (r ∷ rs) = all (λ s. not (alike r s)) rs && distinct rs
 
--- the table is well formed: its used slots hold well-formed records, no two with equal names, and its free slots are zero
-unfoldable pub goodTable : Table → Bool
-goodTable t = all goodSlot (t .slots) && distinct (t .slots)
+-- the network is well formed: used slots hold well-formed records, no two with equal names, and free slots are zero
+unfoldable pub goodNetwork : Network → Bool
+goodNetwork n = all goodSlot (n .slots) && distinct (n .slots)
+
+-- the table is well formed: any links will do
+abbrev pub goodTable : Table → Bool
+goodTable t = goodNetwork (networkOf t)
 
 -- every slot free, no link registered
 unfoldable pub emptyTable : Table
-emptyTable = record { slots = replicate slotCount emptyRecord; links = noLinks }
+emptyTable = tableOf emptyNetwork noLinks
 
 -- ---- links registered and dropped: the numbers 1 and 3
 unfoldable pub linkRules : Table → ℕ → List Rule
@@ -58,7 +61,7 @@ linkRules t link =
 unfoldable pub relinked : Table → ℕ → Links → Registered
 relinked t link links = record {
   number = firstOf (linkRules t link);
-  table = cond (eqb (firstOf (linkRules t link)) accepted) (record { slots = t .slots; links = links }) t;
+  table = cond (eqb (firstOf (linkRules t link)) accepted) (tableOf (networkOf t) links) t;
 }
 
 -- what registering a link answers, and dropping one

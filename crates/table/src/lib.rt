@@ -4,7 +4,7 @@ mod slots;
 ghost use mathlib.Core.Path.{_≡_};
 ghost use Rattle.refusal.specs.Rules.{firstOf};
 ghost use Rattle.table.specs.Table.{emptyTable, goodTable, relinked as relinkedOf, registerAnswer, unregisterAnswer};
-ghost use Rattle.table.specs.Slots.{foundFor, numberOf, slotRules};
+ghost use Rattle.table.specs.Slots.{foundFor};
 use channel::Record;
 use links::Links;
 use links::with_link;
@@ -132,8 +132,7 @@ pub fn unregister(t: Table, link: u32) -> Registered
 // The slot that a name uses, with its record, so that nobody need look into the table again. Each used slot's folded name is compared byte by byte; the
 // first byte that differs leaves for the next slot.
 pub fn find(t: Table, name: &[u8]) -> Found
-    ensures found { λ r. ⌜ r ≡ foundFor (t .slots) (now (name .entry)) ⌝ }
-    ensures number { λ r. ⌜ numberOf (r .slot) ≡ firstOf (slotRules (t .slots) (now (name .entry))) ⌝ }
+    ensures { λ r. ⌜ r ≡ foundFor (t .slots) (now (name .entry)) ⌝ }
 {
     'slots: for k in 0..Record::SLOTS {
         if t.slots[k].count == 0 {

@@ -4,6 +4,7 @@ use mathlib.Core.Path.{sym, ap, _∙_}
 use native.Mathlib.Omega.{arith}
 use borrow.Author.Needs.{needs}
 use Rattle.relay.specs.declared.Taken.{Taken}
+use Rattle.relay.specs.Arrivals.{arrival}
 use Rattle.relay.proofs.Taking.{answer-number}
 use Rattle.relay.proofs.Answering.{accepted-line}
 use Rattle.console.proofs.Answering.{front-few}
@@ -29,8 +30,8 @@ keep-requires : tie.Need-keep-requires
 keep-requires c κs =
     let judged = c .before .before .before in
     let a = judged .before .before .before .args in
-    accepted-line (a .s .table) (a .link) (a .line .now) _
-    (sym (answer-number (a .s .table) (a .link) (a .line .now) _) ∙ ap (λ (t : Taken). t .number) (sym (judged .process .ensures .0)) ∙ c .if1 .left)
+    accepted-line (a .s .table) (arrival (a .link) (a .line .now)) _
+    (sym (answer-number (a .s .table) (arrival (a .link) (a .line .now)) _) ∙ ap (λ (t : Taken). t .number) (sym (judged .process .ensures .0)) ∙ c .if1 .left)
 
 returns-2 : tie.Need-returns-2
 returns-2 c = search needs

@@ -10,7 +10,7 @@ use borrow.Author.Tests.{not-true, not-false}
 use Rattle.laws.specs.Lists.{all}
 use Rattle.laws.proofs.Lists.{all-past, all-stop, all-go, unmapped}
 use Rattle.channel.specs.Limits.{slotCount}
-use Rattle.table.specs.Table.{goodSlot, distinct, goodTable}
+use Rattle.table.specs.Table.{goodSlot, distinct, goodNetwork}
 use Rattle.table.proofs.Pairs.{left, distinct-past, row-begins, row-ends, row-free, pair-alike, pair-unlike}
 use Rattle.table.proofs.is_well_formed.Statement.{statement}
 use Rattle.table.proofs.is_well_formed.Tie as tie
@@ -45,7 +45,7 @@ is-good-requires : tie.Need-is-good-requires Inv-loop μ-loop Inv-loop2 μ-loop2
 is-good-requires c κs = search needs
 
 returns : tie.Need-returns Inv-loop μ-loop Inv-loop2 μ-loop2
-unfolding goodTable
+unfolding goodNetwork
 returns c =
     let l = c .before .before .before .before .loop in
     let n = sixteen (c .before .before .before .before .before) in
@@ -122,7 +122,7 @@ alike-requires : tie.Need-alike-requires Inv-loop μ-loop Inv-loop2 μ-loop2
 alike-requires c κs = search needs
 
 returns-2 : tie.Need-returns-2 Inv-loop μ-loop Inv-loop2 μ-loop2
-unfolding goodTable
+unfolding goodNetwork
 returns-2 c =
     let slots = c .before .before .before .before .before .before .before .before .before .before .args .t1 .slots in
     let l = c .before .before .before .before .before .before .before .loop2 in
@@ -143,7 +143,7 @@ loop2-again-3 c =
     (search needs, search needs, l .inv .2, l .inv .3 ∙ pair-unlike slots (l .i) (l .j) _ (omega arith) (omega arith) (sym (c .before .alike .ensures) ∙ c .if4 .left))
 
 returns-3 : tie.Need-returns-3 Inv-loop μ-loop Inv-loop2 μ-loop2
-unfolding goodTable
+unfolding goodNetwork
 returns-3 c =
     let slots = c .before .before .before .before .args .t1 .slots in
     let l = c .before .loop2 in

@@ -1,26 +1,33 @@
 -- `without_user` meets its contract. The invariant: the user has left the first k slots, the rest are as they were. Assumes nothing.
 use mathlib.Core.Path.{_≡_, sym, ap, _∙_}
+use mathlib.Core.List.{List}
 use Prim.Native.Nat.{_-_, _≤_}
 use native.Mathlib.Omega.{arith}
 use lib.ListN.{length}
 use borrow.Author.Needs.{needs}
 use Rattle.laws.proofs.Lists.{unmapped}
 use Rattle.laws.proofs.Mapped.{mapped, mapped-none, mapped-step, mapped-all}
+use Rattle.channel.specs.declared.Record.{Record}
 use Rattle.channel.specs.Limits.{slotCount}
 use Rattle.channel.specs.Members.{without}
 use Rattle.channel.proofs.Removals.{without-free}
-use Rattle.relay.specs.Relay.{withSlots}
+use Rattle.table.specs.declared.Table.{Table}
+use Rattle.table.specs.Network.{networkOf, withNetwork, withSlots}
 use Rattle.relay.proofs.acting.without_user.Statement.{statement}
 use Rattle.relay.proofs.acting.without_user.Tie as tie
 
+-- the table with other slots
+abbrev with : Table → List Record → Table
+with t slots = withNetwork t (withSlots (networkOf t) slots)
+
 abbrev Inv-loop : tie.InvT-loop
-Inv-loop user t next₀ k₀ next k = (k ≤ slotCount) × (next ≡ withSlots t (mapped (without user) (t .slots) k))
+Inv-loop user t next₀ k₀ next k = (k ≤ slotCount) × (next ≡ with t (mapped (without user) (t .slots) k))
 
 abbrev μ-loop : tie.MeasureT-loop
 μ-loop user t next₀ k₀ next k = slotCount - k
 
 loop-holds : tie.Need-loop-holds Inv-loop μ-loop
-loop-holds c = (search needs, ap (withSlots (c .args .t1)) (sym (mapped-none (without (c .args .user)) (c .args .t1 .slots))))
+loop-holds c = (search needs, ap (with (c .args .t1)) (sym (mapped-none (without (c .args .user)) (c .args .t1 .slots))))
 
 mul-if1 : tie.Need-mul-if1 Inv-loop μ-loop
 mul-if1 c = search needs
@@ -49,7 +56,7 @@ loop-again c =
     let user = c .before .before .before .before .args .user in
     let l = c .before .before .before .loop in
     let e : length (t .slots) ≡ slotCount = search (needs, unmapped) in
-    (search needs, rw (l .inv .1, c .empty .ensures .0 ∙ sym (without-free user _ (c .before .if1 .taken))) (ap (withSlots t) (mapped-step (without user) (t .slots) (l .k) _ (omega (arith, e)))))
+    (search needs, rw (l .inv .1, c .empty .ensures .0 ∙ sym (without-free user _ (c .before .if1 .taken))) (ap (with t) (mapped-step (without user) (t .slots) (l .k) _ (omega (arith, e)))))
 
 mul-r : tie.Need-mul-r Inv-loop μ-loop
 mul-r c = search needs
@@ -78,13 +85,13 @@ loop-again-2 c =
     let user = c .before .before .before .before .before .args .user in
     let l = c .before .before .before .before .loop in
     let e : length (t .slots) ≡ slotCount = search (needs, unmapped) in
-    (search needs, rw (l .inv .1, c .without .ensures) (ap (withSlots t) (mapped-step (without user) (t .slots) (l .k) _ (omega (arith, e)))))
+    (search needs, rw (l .inv .1, c .without .ensures) (ap (with t) (mapped-step (without user) (t .slots) (l .k) _ (omega (arith, e)))))
 
 returns : tie.Need-returns Inv-loop μ-loop
 returns c =
     let t = c .before .before .args .t1 in
     let e : length (t .slots) ≡ slotCount = search (needs, unmapped) in
-    c .before .loop .inv .1 ∙ ap (withSlots t) (mapped-all (without (c .before .before .args .user)) (t .slots) (c .before .loop .k) (omega arith))
+    c .before .loop .inv .1 ∙ ap (with t) (mapped-all (without (c .before .before .args .user)) (t .slots) (c .before .loop .k) (omega arith))
 
 pub without-user-spec : {M : Type 1} → statement M
 without-user-spec =

@@ -1,20 +1,26 @@
--- `requested` meets its contract: the reader's numbers come first, then the command's own rules. Assumes nothing.
+-- `requested` meets its contract: the reader's numbers come first; then the word is compared with one command's after the other, whose own rules decide. Assumes
+-- nothing.
 use mathlib.Core.Path.{_≡_, refl, sym, ap, _∙_}
 use mathlib.Core.Bool.{true, false}
-use mathlib.Core.List.{List}
+use mathlib.Core.List.{List, [], _∷_, map}
 use Prim.Native.Nat.{ℕ}
 use native.Mathlib.Omega.{arith}
 use borrow.Author.Needs.{needs}
 use Rattle.refusal.proofs.Rules.{stop}
+use Rattle.octets.specs.Bytes.{capital}
+use Rattle.message.specs.declared.Message.{Message}
 use Rattle.message.specs.declared.Parsed.{Parsed}
+use Rattle.message.specs.Content.{Content}
 use Rattle.message.specs.Parts.{contentBy}
 use Rattle.message.specs.Reading.{readingOf, isRead}
 use Rattle.message.proofs.Readings.{reading-line, reading-refused, read-small, answers}
 use Rattle.relay.specs.declared.Command.{Command}
 use Rattle.relay.specs.declared.Command.the-variants.{Sjoin, Part, Quit, Unknown}
 use Rattle.relay.specs.declared.Asked.{Asked}
-use Rattle.relay.specs.Commands.{commandOf}
-use Rattle.relay.specs.Private.{nothing, askedBy, askedOf}
+use Rattle.relay.specs.Commands.{meaningOf, commandAmong, commandOf}
+use Rattle.relay.specs.Private.Work.{nothing}
+use Rattle.relay.specs.Private.Commands.{askedBy, askedOf}
+use Rattle.relay.proofs.Words.{isWord, among-here, among-next, among-none}
 use Rattle.relay.proofs.Asking.{asked-refused, asked-unread, asked-parts}
 use Rattle.relay.proofs.requests.requested.Statement.{statement}
 use Rattle.relay.proofs.requests.requested.Tie as tie
@@ -29,11 +35,43 @@ reading c = ap (λ (x : Parsed). x .reading) (c .pre)
 read : (c : tie.After-enum-told) → isRead (line (c .before .before .before)) ≡ true
 read c = let s = c .before .before .before in reading-line (line s) _ (sym (reading s) ∙ c .enum-told .given .1)
 
--- what its command asks for
-asks : (c : tie.After-command-of) (k : Command) → c .command-of .result ≡ k → (a : Asked) → a ≡ askedBy k (c .before .before .before .before .before .before .args .parsed .message) (contentBy (line (c .before .before .before .before .before .before)) (c .before .before .before .before .before .before .args .parsed .message)) → a ≡ askedOf (line (c .before .before .before .before .before .before))
-asks c k e a f =
-    let s = c .before .before .before .before .before .before in
-    asked-parts (line s) (read (c .before .before .before)) (s .args .parsed .message) (ap (λ (x : Parsed). x .message) (s .pre)) k (sym (c .command-of .ensures ∙ ap commandOf (c .before .command-in .ensures .0)) ∙ e) a f
+-- ---- its command's word
+abbrev Worded : Type 0
+Worded = tie.After-command-in
+
+abbrev start : Worded → tie.Start
+start c = c .before .before .before .before .before
+
+abbrev message : Worded → Message
+message c = start c .args .parsed .message
+
+abbrev content : Worded → Content
+content c = contentBy (line (start c)) (message c)
+
+abbrev word : Worded → List ℕ
+word c = c .command-in .result .now
+
+-- what the command of the word asks for
+asks : (c : Worded) (k : Command) → commandOf (word c) ≡ k → (q : Asked) → q ≡ askedBy k (message c) (content c) → q ≡ askedOf (line (start c))
+asks c k e q f =
+    let s = start c in
+    asked-parts (line s) (read (c .before .before)) (message c) (ap (λ (x : Parsed). x .message) (s .pre)) k (ap commandOf (sym (c .command-in .ensures .0)) ∙ e) q f
+
+-- ---- which command it is
+is-join : (c : tie.After-is-word) → isWord (word (c .before .before)) (meaningOf Sjoin .word) ≡ c .is-word .result
+is-join c = sym (c .is-word .ensures)
+
+is-part : (c : tie.After-is-word2) → isWord (word (c .before .before .before .before .before)) (meaningOf Part .word) ≡ c .is-word2 .result
+is-part c = sym (c .is-word2 .ensures)
+
+is-quit : (c : tie.After-is-word3) → isWord (word (c .before .before .before .before .before .before .before .before)) (meaningOf Quit .word) ≡ c .is-word3 .result
+is-quit c = sym (c .is-word3 .ensures)
+
+not-join : (c : tie.Else1) → let w = word (c .before .before .before) in commandOf w ≡ commandAmong (Part ∷ Quit ∷ []) (map capital w)
+not-join c = among-next Sjoin _ (word (c .before .before .before)) (is-join (c .before) ∙ c .if1 .left)
+
+not-part : (c : tie.Else2) → let w = word (c .before .before .before .before .before .before) in commandOf w ≡ commandAmong (Quit ∷ []) (map capital w)
+not-part c = not-join (c .before .before .before) ∙ among-next Part _ (word (c .before .before .before .before .before .before)) (is-part (c .before) ∙ c .if2 .left)
 
 -- ---- the needs
 
@@ -59,44 +97,60 @@ returns c =
 command-in-requires : tie.Need-command-in-requires
 command-in-requires c κs = search needs
 
-command-of-requires : tie.Need-command-of-requires
-command-of-requires c κs = search needs
+slice-aggregate-is-word : tie.Need-slice-aggregate-is-word
+slice-aggregate-is-word c = search needs
 
-enum-told-3 : tie.Need-enum-told-3
-enum-told-3 c = search needs
+is-word-requires : tie.Need-is-word-requires
+is-word-requires c κs = search needs
 
 join-request-requires : tie.Need-join-request-requires
-join-request-requires c κs = let r = c .before .before .before .before .before in read-small (line (r .before .before .before)) (read r)
+join-request-requires c κs = let w = c .before .before .before in read-small (line (start w)) (read (w .before .before))
 
-enum-told-4 : tie.Need-enum-told-4
-enum-told-4 c = search needs
+returns-2 : tie.Need-returns-2
+returns-2 c =
+    let w = c .before .before .before .before in
+    asks w Sjoin (among-here Sjoin _ (word w) (is-join (c .before .before) ∙ c .before .if1 .taken)) (c .join-request .result) (c .join-request .ensures)
+
+slice-aggregate-is-word-2 : tie.Need-slice-aggregate-is-word-2
+slice-aggregate-is-word-2 c = search needs
+
+is-word-requires-2 : tie.Need-is-word-requires-2
+is-word-requires-2 c κs = search needs
 
 part-request-requires : tie.Need-part-request-requires
 part-request-requires c κs = search needs
 
-enum-told-5 : tie.Need-enum-told-5
-enum-told-5 c = search needs
+returns-3 : tie.Need-returns-3
+returns-3 c =
+    let e = c .before .before .before .before in
+    let w = e .before .before .before in
+    asks w Part (not-join e ∙ among-here Part _ (word w) (is-part (c .before .before) ∙ c .before .if2 .taken)) (c .part-request .result) (c .part-request .ensures)
+
+slice-aggregate-is-word-3 : tie.Need-slice-aggregate-is-word-3
+slice-aggregate-is-word-3 c = search needs
+
+is-word-requires-3 : tie.Need-is-word-requires-3
+is-word-requires-3 c κs = search needs
 
 quit-request-requires : tie.Need-quit-request-requires
 quit-request-requires c κs = search needs
 
-enum-told-6 : tie.Need-enum-told-6
-enum-told-6 c = search needs
+returns-4 : tie.Need-returns-4
+returns-4 c =
+    let e = c .before .before .before .before in
+    let w = e .before .before .before .before .before .before in
+    asks w Quit (not-part e ∙ among-here Quit _ (word w) (is-quit (c .before .before) ∙ c .before .if3 .taken)) (c .quit-request .result) (c .quit-request .ensures)
 
 nothing-requires-2 : tie.Need-nothing-requires-2
 nothing-requires-2 c κs = search needs
 
-returns-2 : tie.Need-returns-2
-returns-2 c = asks (c .before .before .before) Sjoin (c .before .enum-told3 .given .1) (c .join-request .result) (c .join-request .ensures)
-
-returns-3 : tie.Need-returns-3
-returns-3 c = asks (c .before .before .before) Part (c .before .enum-told4 .given .1) (c .part-request .result) (c .part-request .ensures)
-
-returns-4 : tie.Need-returns-4
-returns-4 c = asks (c .before .before .before) Quit (c .before .enum-told5 .given .1) (c .quit-request .result) (c .quit-request .ensures)
-
 returns-5 : tie.Need-returns-5
-returns-5 c = asks (c .before .before .before) Unknown (c .before .enum-told6 .given .1) (c .nothing2 .result) (c .nothing2 .ensures ∙ asked-refused Unknown _ _ _ (stop _ _ refl) (λ z. omega (arith, z)))
+returns-5 c =
+    let q = c .before .before in
+    let e = q .before .before in
+    let w = e .before .before .before .before .before .before in
+    let unknown = not-part e ∙ among-next Quit _ (word w) (is-quit q ∙ c .before .if3 .left) ∙ among-none (word w) in
+    asks w Unknown unknown (c .nothing2 .result) (c .nothing2 .ensures ∙ asked-refused Unknown _ (content w) _ (stop _ _ refl) (λ z. omega (arith, z)))
 
 pub requested-spec : {M : Type 1} → statement M
 requested-spec =
@@ -108,16 +162,17 @@ requested-spec =
     nothing-requires
     returns
     command-in-requires
-    command-of-requires
-    enum-told-3
+    slice-aggregate-is-word
+    is-word-requires
     join-request-requires
-    enum-told-4
-    part-request-requires
-    enum-told-5
-    quit-request-requires
-    enum-told-6
-    nothing-requires-2
     returns-2
+    slice-aggregate-is-word-2
+    is-word-requires-2
+    part-request-requires
     returns-3
+    slice-aggregate-is-word-3
+    is-word-requires-3
+    quit-request-requires
     returns-4
+    nothing-requires-2
     returns-5)

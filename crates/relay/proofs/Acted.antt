@@ -1,0 +1,42 @@
+-- What is made of the judgement of a line that no rule refuses: the line that goes out, which nothing keeps from being written. Assumes nothing.
+use mathlib.Core.Path.{_≡_, refl, ap, _∙_}
+use mathlib.Core.Bool.{true}
+use mathlib.Core.List.{List}
+use Prim.Native.Nat.{ℕ, _≤_}
+use native.Mathlib.Omega.{arith}
+use lib.ListN.{length}
+use borrow.Author.Tests.{le-ltb}
+use Rattle.refusal.proofs.Rules.{skip, first-nil, emitted-all}
+use Rattle.message.specs.Grammar.{lineLimit}
+use Rattle.message.specs.Content.{Content}
+use Rattle.message.specs.Reading.{isRead, contentOf, messageOf}
+use Rattle.message.proofs.Held.{message-holds}
+use Rattle.writer.specs.Form.{written}
+use Rattle.writer.specs.Writing.{forwarded}
+use Rattle.writer.proofs.Rounds.{read-forwards}
+use Rattle.channel.specs.declared.Record.{Record}
+use Rattle.channel.specs.Record.{decode}
+use Rattle.sjoin.specs.Telling.{joinMessage, tellRules}
+use Rattle.relay.specs.declared.Change.{Change}
+use Rattle.relay.specs.declared.Sending.{Sending}
+use Rattle.relay.specs.declared.Sending.the-variants.{Silent, AsRead, Anew}
+use Rattle.relay.specs.Arrivals.{sourceIn}
+use Rattle.relay.specs.Private.Acting.{passedOn, toldAnew, writtenBy}
+use Rattle.relay.proofs.Judgements.{Sends}
+
+module _ (line : List ℕ) (read : isRead line ≡ true) (out : List ℕ) (room : lineLimit ≤ length out) where
+  tells-it : (r : Record) → length (written (joinMessage (sourceIn (contentOf line)) (decode r))) ≤ lineLimit → toldAnew line (messageOf line) r out ≡ written (joinMessage (sourceIn (contentOf line)) (decode r))
+  unfolding tellRules
+  tells-it r short =
+      let w = written (joinMessage (sourceIn (contentOf line)) (decode r)) in
+      rw (message-holds line) (emitted-all _ _ (skip _ _ (le-ltb (length out) lineLimit room) ∙ skip _ _ (le-ltb lineLimit (length w) short) ∙ first-nil))
+
+  passes-it : passedOn line (messageOf line) out ≡ forwarded line
+  passes-it = let f = read-forwards line out (messageOf line) refl read room in emitted-all _ _ (f .0) ∙ f .1
+
+  -- A message that is sent, and is no longer than a line can be, is written.
+  pub sends-it : (s : Sending) (j : Change) (d : Content) → Sends s j (contentOf line) d → length (written d) ≤ lineLimit → writtenBy s j line (messageOf line) out ≡ written d
+  unfolding forwarded
+  sends-it Silent j d e short = absurd e
+  sends-it AsRead j d e short = passes-it ∙ ap written e
+  sends-it Anew j d e short = tells-it (j .told) (rw e short) ∙ ap written e

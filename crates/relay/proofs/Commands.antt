@@ -1,0 +1,62 @@
+-- Every command is lawful, and a line's command has its word. Assumes nothing.
+use mathlib.Core.Path.{_≡_, refl, sym, _∙_}
+use mathlib.Core.Bool.{Bool, true, false}
+use mathlib.Core.Logic.{_⊎_, inl, inr}
+use mathlib.Core.List.{List, [], _∷_}
+use Prim.Native.Nat.{ℕ}
+use native.Mathlib.Omega.{arith}
+use Rattle.refusal.specs.Numbers.{accepted}
+use Rattle.refusal.specs.Rules.{firstOf, ascendFrom, placeIn}
+use Rattle.refusal.proofs.Rules.{stop}
+use Rattle.laws.specs.Lists.{same}
+use Rattle.octets.proofs.Bytes.{same-true}
+use Rattle.message.specs.Content.{Content}
+use Rattle.table.specs.Network.{Network}
+use Rattle.relay.specs.declared.Command.{Command}
+use Rattle.relay.specs.declared.Command.the-variants.{Sjoin, Part, Quit, Unknown}
+use Rattle.relay.specs.Arrivals.{Arrival, said}
+use Rattle.relay.specs.Commands.{unknown, meaningOf, commandAmong}
+use Rattle.relay.specs.Relay.{commandRules}
+use Rattle.relay.proofs.Lawful.{Lawful}
+use Rattle.relay.proofs.Sjoin as joining
+use Rattle.relay.proofs.Part as parting
+use Rattle.relay.proofs.Quit as quitting
+
+-- ---- any other
+-- it is refused, whatever it says
+pub unknown-refused : (c : Content) → firstOf (unknown .own c) ≡ accepted → ⊥
+unknown-refused c e = let z = sym (stop _ _ refl) ∙ e in omega (arith, z)
+
+pub unknown-met : (n : Network) (a : Arrival) → firstOf (commandRules unknown n a) ≡ accepted → ⊥
+unknown-met n a e = let z = sym (stop _ _ refl) ∙ e in omega (arith, z)
+
+-- so that nothing need hold of what it comes to
+strange : Lawful Unknown
+unfolding ascendFrom placeIn
+strange = record {
+  numbers = λ c. refl;
+  ordered = λ n a. refl;
+  asks = λ m c. refl;
+  judged = λ n a good sixteen read own j e. absurd (unknown-refused (said a) own);
+  keeps = λ n a p. absurd (unknown-met n a (p .none));
+  reads = λ n a p. absurd (unknown-met n a (p .none));
+}
+
+-- ---- all of them
+pub lawful : (k : Command) → Lawful k
+lawful Sjoin = joining.lawful
+lawful Part = parting.lawful
+lawful Quit = quitting.lawful
+lawful Unknown = strange
+
+-- ---- the word
+-- The command of a word is unknown, or has that word.
+pub word-of : (s : List Command) (word : List ℕ) → (commandAmong s word ≡ Unknown) ⊎ (word ≡ meaningOf (commandAmong s word) .word)
+unfolding commandAmong
+word-of [] word = inl refl
+word-of (k ∷ s) word = go (same word (meaningOf k .word)) refl (word-of s word)
+  where
+    go : (t : Bool) → same word (meaningOf k .word) ≡ t → (commandAmong s word ≡ Unknown) ⊎ (word ≡ meaningOf (commandAmong s word) .word)
+        → (commandAmong (k ∷ s) word ≡ Unknown) ⊎ (word ≡ meaningOf (commandAmong (k ∷ s) word) .word)
+    go true e ih = inr (rw e (same-true word (meaningOf k .word) e))
+    go false e ih = rw e ih

@@ -1,0 +1,157 @@
+-- PART is lawful: its request is settled to the record that its slot is left with, which keeps its name or is empty, and the line goes out as read. Assumes nothing.
+use mathlib.Core.Path.{_≡_, refl, sym, ap, _∙_}
+use mathlib.Core.Bool.{Bool, true, false, not, false≢true}
+use mathlib.Core.List.{List, [], _∷_}
+use Prim.Native.Nat.{ℕ, suc, _≤_, _<_}
+use native.Mathlib.Omega.{arith}
+use lib.ListN.{length, getD, set}
+use borrow.Author.Tests.{le-leb, lt-leb, not-false}
+use Rattle.refusal.specs.Numbers.{accepted, tooManyParams, wrongParamCount, badSource, badName, noSuchChannel, notOnChannel}
+use Rattle.refusal.specs.Rules.{_when_, firstOf, ascendFrom, placeIn, rank}
+use Rattle.refusal.proofs.Rules.{skip, stop, first-nil, first-none, numbered, append-none, both-none}
+use Rattle.laws.proofs.Bools.{and-intro}
+use Rattle.laws.proofs.Replaced.{all-set}
+use Rattle.names.specs.Names.{isChannel}
+use Rattle.message.specs.Content.{Content}
+use Rattle.message.specs.Reading.{messageOf}
+use Rattle.channel.specs.declared.Record.{Record}
+use Rattle.channel.specs.Limits.{slotCount}
+use Rattle.channel.specs.Members.{hasMember, without}
+use Rattle.channel.specs.Record.{decode, emptyRecord}
+use Rattle.table.specs.declared.Found.{Found}
+use Rattle.table.specs.declared.Slot.{Slot}
+use Rattle.table.specs.declared.Slot.the-variants.{Held, Free, Full}
+use Rattle.table.specs.Network.{Network}
+use Rattle.table.specs.Table.{goodSlot, distinct, goodNetwork}
+use Rattle.table.specs.Slots.{heldIn, isHeld, placeOf}
+use Rattle.table.proofs.Searching.{slot-held}
+use Rattle.table.proofs.WellFormed.{slots-good, slots-distinct}
+use Rattle.table.proofs.Changing.{good-at, without-good, without-keeps, kept-set, distinct-kept}
+use Rattle.relay.specs.declared.Command.the-variants.{Part}
+use Rattle.relay.specs.declared.Change.{Change}
+use Rattle.relay.specs.Arrivals.{Arrival, said, sourceIn}
+use Rattle.relay.specs.Users.{isUser}
+use Rattle.relay.specs.Parting.{partedIn, partRules, slotOf, partedRules, parted, meaning}
+use Rattle.relay.specs.Relay.{commandRules}
+use Rattle.relay.specs.Private.Parting.{parts, partsHeld, partsFound}
+use Rattle.relay.proofs.Judgements.{Judged, refused-judged, settles}
+use Rattle.relay.proofs.Lawful.{Lawful}
+use Rattle.relay.proofs.AsRead.{as-read}
+use Rattle.relay.proofs.Asking.{name-found}
+
+-- ---- its own rules
+module _ (c : Content) where
+  own-numbered : numbered (partRules c) ≡ true
+  unfolding partRules
+  own-numbered = refl
+
+  pub part-few : length (c .params) < 1 → firstOf (partRules c) ≡ wrongParamCount
+  unfolding partRules
+  part-few h = stop _ _ (rw (lt-leb 1 (length (c .params)) h))
+
+  module _ (h : 1 ≤ length (c .params)) where
+    pub part-many : 2 < length (c .params) → firstOf (partRules c) ≡ wrongParamCount
+    unfolding partRules
+    part-many k = stop _ _ (rw (le-leb 1 (length (c .params)) h, lt-leb (length (c .params)) 2 k))
+
+    module _ (l : length (c .params) ≤ 2) where
+      part-counted : firstOf (partRules c) ≡ firstOf (badSource when not (isUser (c .prefix)) ∷ badName when not (isChannel (partedIn c)) ∷ [])
+      unfolding partRules
+      part-counted = skip _ _ (rw (le-leb 1 (length (c .params)) h, le-leb (length (c .params)) 2 l))
+
+      pub part-unsourced : isUser (c .prefix) ≡ false → firstOf (partRules c) ≡ badSource
+      part-unsourced u = part-counted ∙ stop _ _ (ap not u)
+
+      module _ (u : isUser (c .prefix) ≡ true) where
+        pub part-unnamed : isChannel (partedIn c) ≡ false → firstOf (partRules c) ≡ badName
+        part-unnamed m = part-counted ∙ skip _ _ (ap not u) ∙ stop _ _ (ap not m)
+
+        pub part-passes : isChannel (partedIn c) ≡ true → firstOf (partRules c) ≡ accepted
+        part-passes m = part-counted ∙ skip _ _ (ap not u) ∙ skip _ _ (ap not m) ∙ first-nil
+
+  -- where none applies, it names a channel
+  names-channel : firstOf (partRules c) ≡ accepted → isChannel (partedIn c) ≡ true
+  unfolding partRules
+  names-channel e =
+      let counted = first-none _ _ (λ z. omega arith) e in
+      let sourced = first-none _ _ (λ z. omega arith) (counted .1) in
+      not-false _ (first-none _ _ (λ z. omega arith) (sourced .1) .0)
+
+-- ---- in its slot
+module _ (n : Network) (a : Arrival) where
+  ordered : ascendFrom (suc (rank tooManyParams)) (commandRules meaning n a) ≡ true
+  unfolding ascendFrom placeIn partRules partedRules
+  ordered = refl
+
+  module _ (own : firstOf (partRules (said a)) ≡ accepted) where
+    -- the rules of its slot are left
+    rest : firstOf (commandRules meaning n a) ≡ firstOf (partedRules n (said a))
+    rest = append-none (partedRules n (said a)) (partRules (said a)) (own-numbered (said a)) own
+
+    absent : isHeld (slotOf n (said a)) ≡ false → firstOf (commandRules meaning n a) ≡ noSuchChannel
+    unfolding partedRules
+    absent e = rest ∙ stop _ _ (ap not e)
+
+    module _ (k : ℕ) (e : slotOf n (said a) ≡ Held k) where
+      abbrev held : Record
+      held = getD (n .slots) k emptyRecord
+
+      abbrev there : Bool
+      there = hasMember (sourceIn (said a)) (decode held .members)
+
+      user-decides : firstOf (commandRules meaning n a) ≡ firstOf (notOnChannel when not there ∷ [])
+      unfolding partedRules
+      user-decides = rest ∙ rw e (skip _ _ refl)
+
+      judged-held : k < slotCount → (j : Change) → j ≡ partsHeld k held (sourceIn (said a)) → Judged meaning n a j
+      unfolding partsHeld parted
+      judged-held i j f = go there refl
+        where
+          go : (t : Bool) → there ≡ t → Judged meaning n a j
+          go true h =
+              settles meaning n a accepted (user-decides ∙ skip _ _ (ap not h) ∙ first-nil) j (parts k (without (sourceIn (said a)) held)) refl i (λ _. record { network = rw e; sends = refl }) (f ∙ rw h)
+          go false h = refused-judged meaning n a notOnChannel (user-decides ∙ stop _ _ (ap not h)) j (λ z. omega (arith, z)) (f ∙ rw h)
+
+    settled : length (n .slots) ≡ slotCount → (j : Change) (s : Slot) → slotOf n (said a) ≡ s → j ≡ partsFound s (heldIn (n .slots) s) (sourceIn (said a)) → Judged meaning n a j
+    settled sixteen j (Held k) e f = judged-held k e (omega (arith, slot-held (n .slots) (partedIn (said a)) emptyRecord k e .inside)) j f
+    settled sixteen j (Free k) e f = refused-judged meaning n a noSuchChannel (absent (ap isHeld e)) j (λ z. omega (arith, z)) f
+    settled sixteen j Full e f = refused-judged meaning n a noSuchChannel (absent (ap isHeld e)) j (λ z. omega (arith, z)) f
+
+  -- ---- where no rule refuses it
+  -- it names a channel that is there
+  names-held : firstOf (commandRules meaning n a) ≡ accepted → isHeld (slotOf n (said a)) ≡ true
+  unfolding partedRules
+  names-held none = not-false _ (first-none _ _ (λ z. omega arith) (both-none (partedRules n (said a)) (partRules (said a)) (own-numbered (said a)) none .1) .0)
+
+  keeps : goodNetwork n ≡ true → isHeld (slotOf n (said a)) ≡ true → goodNetwork (parted n (said a)) ≡ true
+  unfolding goodNetwork parted
+  keeps good = go (slotOf n (said a))
+    where
+      slots : List Record
+      slots = n .slots
+
+      id : List ℕ
+      id = sourceIn (said a)
+
+      left : Slot → List Record
+      left s = set slots (placeOf slots s) (without id (heldIn slots s))
+
+      go : (s : Slot) → isHeld s ≡ true → goodNetwork (record { slots = left s }) ≡ true
+      go (Held k) h =
+          let r = getD slots k emptyRecord in
+          and-intro _ _ (all-set goodSlot slots k (without id r) (slots-good n good) (without-good id r (good-at slots k (slots-good n good))))
+          (distinct-kept slots (set slots k (without id r)) (kept-set slots k (without id r) (without-keeps id r)) (slots-distinct n good))
+      go (Free k) h = absurd (false≢true h)
+      go Full h = absurd (false≢true h)
+
+pub lawful : Lawful Part
+lawful = record {
+  numbers = own-numbered;
+  ordered = ordered;
+  asks = λ m c. refl;
+  judged = λ n a good sixteen read own j e.
+      let found = name-found (a .line) (n .slots) 0 (omega arith) (names-channel (said a) own) in
+      settled n a own sixteen j (slotOf n (said a)) refl (e ∙ ap (λ (f : Found). partsFound (f .slot) (f .«record») (sourceIn (said a))) found);
+  keeps = λ n a p. keeps n a (p .good) (names-held n a (p .none));
+  reads = λ n a p. as-read (a .line) (p .read);
+}

@@ -1,0 +1,81 @@
+-- QUIT is lawful: nothing in the network refuses it, a slot that loses a member stays good, and the line goes out as read. Assumes nothing.
+use mathlib.Core.Path.{_≡_, refl, ap, _∙_}
+use mathlib.Core.Bool.{true, false, not}
+use mathlib.Core.List.{[], _∷_, _++_, map, append-nil}
+use Prim.Native.Nat.{suc, _≤_, _<_}
+use native.Mathlib.Omega.{arith}
+use lib.ListN.{length}
+use borrow.Author.Tests.{le-leb, lt-leb}
+use Rattle.refusal.specs.Numbers.{accepted, tooManyParams, wrongParamCount, badSource}
+use Rattle.refusal.specs.Rules.{_when_, firstOf, ascendFrom, placeIn, rank}
+use Rattle.refusal.proofs.Rules.{skip, stop, first-nil, numbered}
+use Rattle.laws.proofs.Bools.{and-intro}
+use Rattle.laws.proofs.Lists.{all-map}
+use Rattle.message.specs.Content.{Content}
+use Rattle.channel.specs.Limits.{slotCount}
+use Rattle.channel.specs.Members.{without}
+use Rattle.table.specs.Network.{Network}
+use Rattle.table.specs.Table.{goodSlot, goodNetwork}
+use Rattle.table.proofs.WellFormed.{slots-good, slots-distinct}
+use Rattle.table.proofs.Changing.{without-good, without-keeps, kept-map, distinct-kept}
+use Rattle.relay.specs.declared.Command.the-variants.{Quit}
+use Rattle.relay.specs.declared.Change.{Change}
+use Rattle.relay.specs.declared.Sending.the-variants.{AsRead}
+use Rattle.relay.specs.Arrivals.{Arrival, said, sourceIn}
+use Rattle.relay.specs.Users.{isUser}
+use Rattle.relay.specs.Quitting.{quitRules, quitted, meaning}
+use Rattle.relay.specs.Relay.{commandRules}
+use Rattle.relay.specs.Private.Work.{drops}
+use Rattle.relay.proofs.Judgements.{Judged, settles}
+use Rattle.relay.proofs.Lawful.{Lawful}
+use Rattle.relay.proofs.AsRead.{as-read}
+
+-- ---- its rules
+module _ (c : Content) where
+  own-numbered : numbered (quitRules c) ≡ true
+  unfolding quitRules
+  own-numbered = refl
+
+  pub quit-many : 1 < length (c .params) → firstOf (quitRules c) ≡ wrongParamCount
+  unfolding quitRules
+  quit-many h = stop _ _ (ap not (lt-leb (length (c .params)) 1 h))
+
+  module _ (h : length (c .params) ≤ 1) where
+    quit-counted : firstOf (quitRules c) ≡ firstOf (badSource when not (isUser (c .prefix)) ∷ [])
+    unfolding quitRules
+    quit-counted = skip _ _ (ap not (le-leb (length (c .params)) 1 h))
+
+    pub quit-unsourced : isUser (c .prefix) ≡ false → firstOf (quitRules c) ≡ badSource
+    quit-unsourced u = quit-counted ∙ stop _ _ (ap not u)
+
+    pub quit-passes : isUser (c .prefix) ≡ true → firstOf (quitRules c) ≡ accepted
+    quit-passes u = quit-counted ∙ skip _ _ (ap not u) ∙ first-nil
+
+-- ---- what it comes to
+module _ (n : Network) (a : Arrival) where
+  ordered : ascendFrom (suc (rank tooManyParams)) (commandRules meaning n a) ≡ true
+  unfolding ascendFrom placeIn quitRules
+  ordered = refl
+
+  judged : firstOf (quitRules (said a)) ≡ accepted → (j : Change) → j ≡ drops (sourceIn (said a)) AsRead → Judged meaning n a j
+  unfolding quitted
+  judged own j e =
+      let all = ap firstOf (append-nil (quitRules (said a))) ∙ own in
+      settles meaning n a accepted all j (drops (sourceIn (said a)) AsRead) refl (omega arith) (λ _. record { network = refl; sends = refl }) e
+
+  keeps : goodNetwork n ≡ true → goodNetwork (quitted n (said a)) ≡ true
+  unfolding goodNetwork quitted
+  keeps good =
+      let gone = without (sourceIn (said a)) in
+      and-intro _ _ (all-map goodSlot gone (without-good (sourceIn (said a))) (n .slots) (slots-good n good))
+      (distinct-kept (n .slots) (map gone (n .slots)) (kept-map gone (without-keeps (sourceIn (said a))) (n .slots)) (slots-distinct n good))
+
+pub lawful : Lawful Quit
+lawful = record {
+  numbers = own-numbered;
+  ordered = ordered;
+  asks = λ m c. refl;
+  judged = λ n a good sixteen read own j e. judged n a own j e;
+  keeps = λ n a p. keeps n a (p .good);
+  reads = λ n a p. as-read (a .line) (p .read);
+}

@@ -1,0 +1,211 @@
+-- What an incoming channel comes to in the slot that its name uses: it is merged into the record that is there, or opens the lowest free slot, or finds none.
+-- What results is a channel as document 01 has it, and one slot changes. True since a slot keeps its name, or is opened for one that none holds. Assumes nothing.
+use mathlib.Core.Path.{_≡_, refl, sym, ap, _∙_}
+use mathlib.Core.Bool.{Bool, true, false, not, true≢false}
+use mathlib.Core.Logic.{_⊎_, inl, inr}
+use mathlib.Core.List.{List}
+use Prim.Native.Nat.{ℕ, _≤_, _<_}
+use native.Mathlib.Omega.{arith}
+use lib.ListN.{length, getD, set}
+use lib.Seq.{getD-set-same, getD-set-other}
+use borrow.Author.Tests.{le-ltb, ltb-false}
+use Rattle.refusal.specs.Numbers.{accepted, noFreeSlot}
+use Rattle.refusal.specs.Rules.{firstOf}
+use Rattle.refusal.proofs.Rules.{skip, stop, first-nil, first-none}
+use Rattle.laws.specs.Lists.{all}
+use Rattle.laws.proofs.Bools.{and-intro}
+use Rattle.laws.proofs.Lists.{at-all}
+use Rattle.laws.proofs.Replaced.{all-set}
+use Rattle.names.specs.Fold.{sameName}
+use Rattle.names.specs.Names.{isChannel}
+use Rattle.names.proofs.Folds.{name-refl, name-lengths}
+use Rattle.channel.specs.declared.Record.{Record}
+use Rattle.channel.specs.declared.Merged.{Merged}
+use Rattle.channel.specs.Limits.{memberLimit}
+use Rattle.channel.specs.Channel.{Channel}
+use Rattle.channel.specs.Record.{encode, decode, emptyRecord}
+use Rattle.channel.specs.Merging.{merge, mergeRules, mergeAnswer, combined}
+use Rattle.channel.specs.WellFormed.{wellFormed}
+use Rattle.channel.proofs.Proper.{Proper, proper-fits, well-says, encode-well, proper-merge}
+use Rattle.channel.proofs.Records.{decode-encode}
+use Rattle.channel.proofs.Answers.{combined-merge}
+use Rattle.table.specs.declared.Slot.{Slot}
+use Rattle.table.specs.declared.Slot.the-variants.{Held, Free, Full}
+use Rattle.table.specs.Network.{Network}
+use Rattle.table.specs.Table.{isFree, goodSlot, holds, distinct, goodNetwork}
+use Rattle.table.specs.Slots.{isFull, placeOf}
+use Rattle.table.proofs.First.{IsFirst}
+use Rattle.table.proofs.Searching.{slot-held, slot-free}
+use Rattle.table.proofs.WellFormed.{holding-used, holding-name, slots-good, slots-distinct}
+use Rattle.table.proofs.Using.{held-well}
+use Rattle.table.proofs.Changing.{well-used, well-good, kept-set, distinct-kept, distinct-new}
+use Rattle.relay.specs.Joining.{slotOf, resultIn, resulting, joinedRules, joined}
+
+-- ---- by the slot that its name uses
+module _ (n : Network) (c : Channel) (p : Proper c) where
+  -- a channel is had back from its record
+  pub back : decode (encode c) ≡ c
+  back = decode-encode c (proper-fits c p)
+
+  -- slot k holds the name
+  module _ (k : ℕ) (e : slotOf n c ≡ Held k) where
+    abbrev there : Record
+    there = getD (n .slots) k emptyRecord
+
+    first : IsFirst (holds (c .name)) (n .slots) emptyRecord k
+    first = slot-held (n .slots) (c .name) emptyRecord k e
+
+    held-result : resulting n c ≡ merge (decode there) c
+    unfolding resulting
+    held-result = rw e
+
+    pub held-inside : k < length (n .slots)
+    held-inside = first .inside
+
+    module _ (good : all goodSlot (n .slots) ≡ true) where
+      well : wellFormed there ≡ true
+      well = held-well (n .slots) good (c .name) k e
+
+      same : sameName (decode there .name) (decode (encode c) .name) ≡ true
+      same = rw back (holding-name (c .name) there (first .passes))
+
+      -- both records are well formed and of one channel, so nothing need be tested again
+      held-merges : combined there (encode c) ≡ mergeAnswer there (encode c)
+      held-merges = combined-merge there (encode c) well (encode-well c p) same
+
+      held-rules : firstOf (mergeRules there (encode c)) ≡ firstOf (joinedRules n c)
+      unfolding mergeRules joinedRules
+      held-rules = skip _ _ (rw (well, encode-well c p)) ∙ skip _ _ (ap not same) ∙ rw (back, sym held-result) (sym (skip _ _ (ap isFull e)))
+
+      pub held-number : combined there (encode c) .number ≡ firstOf (joinedRules n c)
+      unfolding mergeAnswer
+      held-number = ap (λ (m : Merged). m .number) held-merges ∙ held-rules
+
+      pub held-answer : firstOf (joinedRules n c) ≡ accepted → combined there (encode c) .result ≡ encode (resulting n c)
+      unfolding mergeAnswer
+      held-answer z = ap (λ (m : Merged). m .result) held-merges ∙ rw (held-rules, z, back, held-result)
+
+  -- no slot holds it, and slot k is free
+  module _ (k : ℕ) (e : slotOf n c ≡ Free k) where
+    pub free-inside : k < length (n .slots)
+    free-inside = slot-free (n .slots) (c .name) emptyRecord k e .1 .inside
+
+    pub free-result : resulting n c ≡ c
+    unfolding resulting
+    free-result = rw e
+
+    -- A new channel is never refused: a line names no more users than a record holds.
+    pub free-rules : firstOf (joinedRules n c) ≡ accepted
+    unfolding joinedRules
+    free-rules = skip _ _ (ap isFull e) ∙ skip _ _ (rw free-result (le-ltb memberLimit (length (c .members)) (p .few))) ∙ first-nil
+
+  -- what results has the name, in the stored spelling, and a time that is no later
+  pub result-heads : goodNetwork n ≡ true → (isChannel (resulting n c .name) ≡ true) × (length (resulting n c .name) ≡ length (c .name)) × (1 ≤ resulting n c .time) × (resulting n c .time ≤ c .time)
+  unfolding resulting merge
+  result-heads good = go (slotOf n c) refl
+    where
+      go : (s : Slot) → slotOf n c ≡ s → (isChannel (resultIn n c s .name) ≡ true) × (length (resultIn n c s .name) ≡ length (c .name)) × (1 ≤ resultIn n c s .time) × (resultIn n c s .time ≤ c .time)
+      go (Held k) e =
+          let r = getD (n .slots) k emptyRecord in
+          let h = well-says r (held-well (n .slots) (slots-good n good) (c .name) k e) .holds in
+          (h .name, name-lengths (decode r .name) (c .name) (holding-name (c .name) r (first k e .passes)), omega (arith, h .from, p .from), omega arith)
+      go (Free k) e = (p .name, refl, p .from, omega arith)
+      go Full e = (p .name, refl, p .from, omega arith)
+
+-- nor is one free
+pub full-rules : (n : Network) (c : Channel) → slotOf n c ≡ Full → firstOf (joinedRules n c) ≡ noFreeSlot
+unfolding joinedRules
+full-rules n c e = stop _ _ (ap isFull e)
+
+-- ---- where no rule refuses it
+-- What a slot comes to hold: the channel c merged into the record that holds its name, or c itself where the slot was free.
+abbrev pub MergesOrOpens : Record → Channel → Record → Type 0
+MergesOrOpens old c r = ((holds (c .name) old ≡ true) × (r ≡ encode (merge (decode old) c))) ⊎ ((isFree old ≡ true) × (r ≡ encode c))
+
+-- One slot changes: slot k, which comes to hold r.
+pub record OneChanged (slots after : List Record) (c : Channel) (k : ℕ) (r : Record) : Type 0 where
+  pub inside : k < length slots
+  pub sets : after ≡ set slots k r
+  pub comes : MergesOrOpens (getD slots k emptyRecord) c r
+  -- slot k holds the name then
+  pub holding : (d : Record) → holds (c .name) (getD after k d) ≡ true
+  -- and every other slot stays
+  pub others : (j : ℕ) (d : Record) → (j ≡ k → ⊥) → getD after j d ≡ getD slots j d
+
+module _ (n : Network) (good : goodNetwork n ≡ true) (c : Channel) (p : Proper c) (none : firstOf (joinedRules n c) ≡ accepted) where
+  not-full : isFull (slotOf n c) ≡ false
+  unfolding joinedRules
+  not-full = first-none _ _ (λ z. omega arith) none .0
+
+  result-few : length (resulting n c .members) ≤ memberLimit
+  unfolding joinedRules
+  result-few = ltb-false memberLimit (length (resulting n c .members)) (first-none _ _ (λ z. omega arith) (first-none _ _ (λ z. omega arith) none .1) .0)
+
+  -- what results is a channel as document 01 has it
+  pub result-proper : Proper (resulting n c)
+  unfolding resulting
+  result-proper = go (slotOf n c) refl result-few
+    where
+      go : (s : Slot) → slotOf n c ≡ s → length (resultIn n c s .members) ≤ memberLimit → Proper (resultIn n c s)
+      go (Held k) e few = let r = getD (n .slots) k emptyRecord in proper-merge (decode r) c (well-says r (held-well (n .slots) (slots-good n good) (c .name) k e) .holds) p few
+      go (Free k) e few = p
+      go Full e few = p
+
+  abbrev result : Record
+  result = encode (resulting n c)
+
+  result-well : wellFormed result ≡ true
+  result-well = encode-well (resulting n c) result-proper
+
+  result-name : decode result .name ≡ resulting n c .name
+  result-name = ap (λ (d : Channel). d .name) (decode-encode (resulting n c) (proper-fits (resulting n c) result-proper))
+
+  abbrev place : ℕ
+  place = placeOf (n .slots) (slotOf n c)
+
+  joined-distinct : distinct (joined n c .slots) ≡ true
+  unfolding joined resulting merge
+  joined-distinct = go (slotOf n c) refl not-full result-name
+    where
+      slots : List Record
+      slots = n .slots
+
+      go : (s : Slot) → slotOf n c ≡ s → isFull s ≡ false → decode (encode (resultIn n c s)) .name ≡ resultIn n c s .name → distinct (set slots (placeOf slots s) (encode (resultIn n c s))) ≡ true
+      go (Held k) e f m =
+          let r = getD slots k emptyRecord in
+          let x = encode (resultIn n c (Held k)) in
+          distinct-kept slots (set slots k x) (kept-set slots k x (inr (holding-used (c .name) r (slot-held slots (c .name) emptyRecord k e .passes), m))) (slots-distinct n good)
+      go (Free k) e f m =
+          distinct-new (c .name) (encode c) m slots k (at-all (λ r. not (holds (c .name) r)) slots emptyRecord (λ j h. ap not (slot-free slots (c .name) emptyRecord k e .0 j h))) (slots-distinct n good)
+      go Full e f m = absurd (true≢false f)
+
+  pub joined-good : goodNetwork (joined n c) ≡ true
+  unfolding goodNetwork joined
+  joined-good = and-intro _ _ (all-set goodSlot (n .slots) place result (slots-good n good) (well-good result result-well)) joined-distinct
+
+  place-used : (place < length (n .slots)) × MergesOrOpens (getD (n .slots) place emptyRecord) c result × (sameName (resulting n c .name) (c .name) ≡ true)
+  unfolding resulting merge
+  place-used = go (slotOf n c) refl not-full
+    where
+      go : (s : Slot) → slotOf n c ≡ s → isFull s ≡ false
+          → (placeOf (n .slots) s < length (n .slots)) × MergesOrOpens (getD (n .slots) (placeOf (n .slots) s) emptyRecord) c (encode (resultIn n c s)) × (sameName (resultIn n c s .name) (c .name) ≡ true)
+      go (Held k) e f =
+          let h = slot-held (n .slots) (c .name) emptyRecord k e in
+          (h .inside, inl (h .passes, refl), holding-name (c .name) (getD (n .slots) k emptyRecord) (h .passes))
+      go (Free k) e f = let h = slot-free (n .slots) (c .name) emptyRecord k e .1 in (h .inside, inr (h .passes, refl), name-refl (c .name))
+      go Full e f = absurd (true≢false f)
+
+  result-holds : holds (c .name) result ≡ true
+  unfolding holds
+  result-holds = rw (well-used result result-well, result-name) (place-used .2)
+
+  -- An incoming channel changes the slot that its name uses, and no other.
+  pub joined-one : OneChanged (n .slots) (joined n c .slots) c place result
+  unfolding joined
+  joined-one = record {
+    inside = place-used .0;
+    sets = refl;
+    comes = place-used .1;
+    holding = λ d. rw (getD-set-same (n .slots) place result d (place-used .0)) result-holds;
+    others = λ j d ne. getD-set-other (n .slots) place j result d ne;
+  }

@@ -1,0 +1,61 @@
+-- SJOIN (document 01, 'SJOIN' and 'What goes out'): the channel that the line tells of is merged into the slot that its name uses, or opens it.
+use Prim.Native.Nat.{ℕ}
+use mathlib.Core.List.{List, [], _∷_}
+use lib.ListN.{length, set}
+use lib.Dec.{ltb}
+use Rattle.refusal.specs.Numbers.{noFreeSlot, tooManyMembers}
+use Rattle.refusal.specs.Rules.{Rule, _when_}
+use Rattle.channel.specs.Limits.{memberLimit}
+use Rattle.channel.specs.Channel.{Channel}
+use Rattle.channel.specs.Record.{encode, decode}
+use Rattle.channel.specs.Merging.{given, standing, merge}
+use Rattle.table.specs.declared.Slot.{Slot}
+use Rattle.table.specs.declared.Slot.the-variants.{Held, Free, Full}
+use Rattle.table.specs.Network.{Network, withSlots}
+use Rattle.table.specs.Slots.{slotFor, heldIn, isFull, placeOf}
+use Rattle.sjoin.specs.Join.{joinRules, channelIn}
+use Rattle.sjoin.specs.Telling.{sjoin, joinMessage}
+use Rattle.relay.specs.Arrivals.{said, sourceIn, Meaning}
+
+-- the slot that a channel's name uses
+abbrev pub slotOf : Network → Channel → Slot
+slotOf n c = slotFor (n .slots) (c .name)
+
+-- what an incoming channel comes to in its slot: merged into the one that is there, or itself where it is new
+abbrev pub resultIn : Network → Channel → Slot → Channel
+resultIn n c (Held k) = merge (decode (heldIn (n .slots) (Held k))) c
+resultIn n c (Free k) = c
+resultIn n c Full = c
+
+unfoldable pub resulting : Network → Channel → Channel
+resulting n c = resultIn n c (slotOf n c)
+
+-- the numbers 21 and 22
+unfoldable pub joinedRules : Network → Channel → List Rule
+joinedRules n c =
+    noFreeSlot when isFull (slotOf n c)
+    ∷ tooManyMembers when ltb memberLimit (length (resulting n c .members))
+    ∷ []
+
+unfoldable pub joined : Network → Channel → Network
+joined n c = withSlots n (set (n .slots) (placeOf (n .slots) (slotOf n c)) (encode (resulting n c)))
+
+-- what goes out: resulting time, stored spelling; for a later incoming time no modes and bare ids, else the incoming modes and statuses
+unfoldable pub outgoing : Channel → Channel → Channel
+outgoing result c = record {
+  name = result .name;
+  time = result .time;
+  modes = given 0 (λ d. d .modes) (result .time) c;
+  key = given [] (λ d. d .key) (result .time) c;
+  limit = given 0 (λ d. d .limit) (result .time) c;
+  members = standing (result .time) c;
+}
+
+abbrev pub meaning : Meaning
+meaning = record {
+  word = sjoin;
+  own = joinRules;
+  met = λ n a. joinedRules n (channelIn (said a));
+  after = λ n a. joined n (channelIn (said a));
+  out = λ n a. let c : Channel = channelIn (said a) in joinMessage (sourceIn (said a)) (outgoing (resulting n c) c);
+}

@@ -1,0 +1,54 @@
+-- PART (document 01, 'SJOIN', its last paragraph): a member leaves a channel.
+use Prim.Native.Nat.{ℕ}
+use mathlib.Core.Bool.{Bool, not, _&&_}
+use mathlib.Core.List.{List, [], _∷_}
+use lib.ListN.{length, getD, set}
+use lib.Dec.{leb}
+use Rattle.refusal.specs.Numbers.{wrongParamCount, badSource, badName, noSuchChannel, notOnChannel}
+use Rattle.refusal.specs.Rules.{Rule, _when_}
+use Rattle.names.specs.Names.{isChannel}
+use Rattle.message.specs.Content.{Content}
+use Rattle.writer.specs.Form.{inCapitals}
+use Rattle.channel.specs.Record.{decode}
+use Rattle.channel.specs.Members.{hasMember, without}
+use Rattle.table.specs.declared.Slot.{Slot}
+use Rattle.table.specs.Network.{Network, withSlots}
+use Rattle.table.specs.Slots.{slotFor, heldIn, isHeld, placeOf}
+use Rattle.relay.specs.Arrivals.{said, sourceIn, Meaning}
+use Rattle.relay.specs.Users.{isUser}
+
+-- the channel that it names
+abbrev pub partedIn : Content → List ℕ
+partedIn c = getD (c .params) 0 []
+
+unfoldable pub partRules : Content → List Rule
+partRules c =
+    wrongParamCount when not (leb 1 (length (c .params)) && leb (length (c .params)) 2)
+    ∷ badSource when not (isUser (c .prefix))
+    ∷ badName when not (isChannel (partedIn c))
+    ∷ []
+
+-- the slot that holds it
+abbrev pub slotOf : Network → Content → Slot
+slotOf n c = slotFor (n .slots) (partedIn c)
+
+-- the numbers 19 and 20
+unfoldable pub partedRules : Network → Content → List Rule
+partedRules n c =
+    noSuchChannel when not (isHeld (slotOf n c))
+    ∷ notOnChannel when not (hasMember (sourceIn c) (decode (heldIn (n .slots) (slotOf n c)) .members))
+    ∷ []
+
+-- the member goes, and an emptied slot is zeroed
+unfoldable pub parted : Network → Content → Network
+parted n c = withSlots n (set (n .slots) (placeOf (n .slots) (slotOf n c)) (without (sourceIn c) (heldIn (n .slots) (slotOf n c))))
+
+-- the line goes out with its parameters as read
+abbrev pub meaning : Meaning
+meaning = record {
+  word = 80 ∷ 65 ∷ 82 ∷ 84 ∷ [];
+  own = partRules;
+  met = λ n a. partedRules n (said a);
+  after = λ n a. parted n (said a);
+  out = λ n a. inCapitals (said a);
+}

@@ -1,0 +1,52 @@
+-- The two steps of any command: what a line asks for, the slot that its name uses, and what the request comes to there.
+use Prim.Native.Nat.{ℕ}
+use mathlib.Core.Bool.{cond}
+use mathlib.Core.List.{List}
+use lib.Dec.{eqb}
+use Rattle.refusal.specs.Numbers.{accepted, unknownCommand}
+use Rattle.refusal.specs.Rules.{firstOf}
+use Rattle.message.specs.declared.Message.{Message}
+use Rattle.message.specs.declared.Span.{Span}
+use Rattle.message.specs.Content.{Content}
+use Rattle.message.specs.Parts.{bytesAt}
+use Rattle.message.specs.Reading.{numberFor, isRead, contentOf, messageOf}
+use Rattle.channel.specs.declared.Record.{Record}
+use Rattle.channel.specs.Record.{emptyRecord}
+use Rattle.table.specs.declared.Found.{Found}
+use Rattle.table.specs.declared.Slot.the-variants.{Full}
+use Rattle.table.specs.Slots.{foundFor}
+use Rattle.relay.specs.declared.Command.{Command}
+use Rattle.relay.specs.declared.Command.the-variants.{Sjoin, Part, Quit, Unknown}
+use Rattle.relay.specs.declared.Asked.{Asked}
+use Rattle.relay.specs.declared.Change.{Change}
+use Rattle.relay.specs.Commands.{meaningOf, commandIn}
+use Rattle.relay.specs.Private.Work.{Work, nothing, unchanged}
+use Rattle.relay.specs.Private.Joining as joining
+use Rattle.relay.specs.Private.Parting as parting
+use Rattle.relay.specs.Private.Quitting as quitting
+
+-- an unknown command's own rule applies, so that it asks for nothing
+abbrev pub unknown : Work
+unknown = record { asks = λ m c. nothing accepted; settles = λ q incoming f. unchanged unknownCommand }
+
+abbrev pub workOf : Command → Work
+workOf Sjoin = joining.work
+workOf Part = parting.work
+workOf Quit = quitting.work
+workOf Unknown = unknown
+
+-- ---- what a message asks for, or the number of its first own rule that applies
+unfoldable pub askedBy : Command → Message → Content → Asked
+askedBy k m c = let number : ℕ = firstOf (meaningOf k .own c) in cond (eqb number accepted) (workOf k .asks m c) (nothing number)
+
+-- and a line, or the reader's number
+unfoldable pub askedOf : List ℕ → Asked
+askedOf line = cond (isRead line) (askedBy (commandIn line) (messageOf line) (contentOf line)) (nothing (numberFor line))
+
+-- ---- the slot that its name uses; where it names no channel, none is looked for
+unfoldable pub lookedUp : List Record → List ℕ → Span → Found
+lookedUp slots line name = cond (eqb (name .start) (name .end)) (record { «record» = emptyRecord; slot = Full }) (foundFor slots (bytesAt line name))
+
+-- ---- what it comes to there
+abbrev pub settledIn : List Record → List ℕ → Asked → Change
+settledIn slots line q = workOf (q .request .command) .settles (q .request) (q .incoming) (lookedUp slots line (q .request .name))

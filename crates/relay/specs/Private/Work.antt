@@ -1,0 +1,52 @@
+-- What the code makes of a command, in two steps: what a message asks for, and what that comes to in the slot that its name uses.
+use Prim.Native.Nat.{ℕ}
+use mathlib.Core.List.{List}
+use lib.ListN.{replicate}
+use Rattle.refusal.specs.Numbers.{accepted}
+use Rattle.names.specs.Names.{userIdLength}
+use Rattle.message.specs.declared.Span.{Span}
+use Rattle.message.specs.declared.Message.{Message}
+use Rattle.message.specs.Content.{Content}
+use Rattle.message.specs.Parts.{span}
+use Rattle.channel.specs.declared.Record.{Record}
+use Rattle.channel.specs.Record.{emptyRecord}
+use Rattle.table.specs.declared.Found.{Found}
+use Rattle.relay.specs.declared.Command.{Command}
+use Rattle.relay.specs.declared.Command.the-variants.{Unknown}
+use Rattle.relay.specs.declared.Request.{Request}
+use Rattle.relay.specs.declared.Asked.{Asked}
+use Rattle.relay.specs.declared.Change.{Change}
+use Rattle.relay.specs.declared.Deed.the-variants.{Nothing, Set, Drop}
+use Rattle.relay.specs.declared.Sending.{Sending}
+use Rattle.relay.specs.declared.Sending.the-variants.{Silent}
+
+pub record Work : Type 0 where
+  -- what a message asks for where none of its own rules applies
+  pub asks : Message → Content → Asked
+  -- what a request comes to, with the record that came with it, and the slot that its name uses
+  pub settles : Request → Record → Found → Change
+
+abbrev pub noUser : List ℕ
+noUser = replicate userIdLength 0
+
+abbrev pub nowhere : Span
+nowhere = span 0 0
+
+-- ---- what is asked for
+abbrev pub asking : Span → List ℕ → Command → ℕ → Record → Asked
+asking name user command number incoming = record { request = record { name = name; user = user; command = command; number = number }; incoming = incoming }
+
+abbrev pub nothing : ℕ → Asked
+nothing number = asking nowhere noUser Unknown number emptyRecord
+
+-- ---- what it comes to
+abbrev pub unchanged : ℕ → Change
+unchanged number = record { number = number; deed = Nothing; sending = Silent; slot = 0; «record» = emptyRecord; told = emptyRecord; user = noUser }
+
+-- slot k is set
+abbrev pub sets : ℕ → Record → Sending → Record → Change
+sets k r sending told = record { number = accepted; deed = Set; sending = sending; slot = k; «record» = r; told = told; user = noUser }
+
+-- a user is dropped from every slot
+abbrev pub drops : List ℕ → Sending → Change
+drops user sending = record { number = accepted; deed = Drop; sending = sending; slot = 0; «record» = emptyRecord; told = emptyRecord; user = user }

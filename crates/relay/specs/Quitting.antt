@@ -1,0 +1,33 @@
+-- QUIT (document 01, 'SJOIN', its last paragraph): a user leaves every channel.
+use mathlib.Core.Bool.{not}
+use mathlib.Core.List.{List, [], _∷_, map}
+use lib.ListN.{length}
+use lib.Dec.{leb}
+use Rattle.refusal.specs.Numbers.{wrongParamCount, badSource}
+use Rattle.refusal.specs.Rules.{Rule, _when_}
+use Rattle.message.specs.Content.{Content}
+use Rattle.writer.specs.Form.{inCapitals}
+use Rattle.channel.specs.Members.{without}
+use Rattle.table.specs.Network.{Network, withSlots}
+use Rattle.relay.specs.Arrivals.{said, sourceIn, Meaning}
+use Rattle.relay.specs.Users.{isUser}
+
+unfoldable pub quitRules : Content → List Rule
+quitRules c =
+    wrongParamCount when not (leb (length (c .params)) 1)
+    ∷ badSource when not (isUser (c .prefix))
+    ∷ []
+
+-- emptied slots are zeroed
+unfoldable pub quitted : Network → Content → Network
+quitted n c = withSlots n (map (without (sourceIn c)) (n .slots))
+
+-- nothing in the network refuses it, and the line goes out with its parameters as read
+abbrev pub meaning : Meaning
+meaning = record {
+  word = 81 ∷ 85 ∷ 73 ∷ 84 ∷ [];
+  own = quitRules;
+  met = λ n a. [];
+  after = λ n a. quitted n (said a);
+  out = λ n a. inCapitals (said a);
+}
