@@ -21,7 +21,7 @@ ghost use Rattle.channel.specs.Record.{decode};
 ghost use Rattle.channel.specs.Merging.{mergeAnswer};
 ghost use Rattle.table.specs.Table.{emptyTable, registerAnswer, unregisterAnswer};
 ghost use Rattle.sjoin.specs.Telling.{described};
-ghost use Rattle.relay.specs.Arrivals.{arrival};
+ghost use Rattle.relay.specs.Arrival.{arrival};
 ghost use Rattle.relay.specs.Relay.{processAnswer, sent};
 ghost use Rattle.journal.specs.Journal.{logRules, recordOf, answerFor as logAnswer};
 ghost use Rattle.wording.specs.Wording.{textOf};

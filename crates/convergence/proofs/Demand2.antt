@@ -11,7 +11,7 @@ use Rattle.message.specs.Reading.{isRead, contentOf}
 use Rattle.links.proofs.Sets.{has-relay}
 use Rattle.table.specs.declared.Table.{Table}
 use Rattle.table.specs.Network.{networkOf}
-use Rattle.relay.specs.Arrivals.{Arrival}
+use Rattle.relay.specs.Arrival.{Arrival}
 use Rattle.relay.specs.Relay.{relayed, taken}
 use Rattle.relay.proofs.Taking.{relayed-reads}
 use Rattle.relay.proofs.Answering.{passed, answer-accepted, sent-line}

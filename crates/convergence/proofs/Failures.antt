@@ -36,7 +36,7 @@ use Rattle.table.proofs.Alone.{free-slot}
 use Rattle.table.proofs.Changing.{well-used}
 use Rattle.sjoin.specs.Telling.{sjoin}
 use Rattle.relay.specs.declared.Taken.{Taken}
-use Rattle.relay.specs.Arrivals.{arrival}
+use Rattle.relay.specs.Arrival.{arrival}
 use Rattle.relay.specs.Relay.{networkBy}
 use Rattle.relay.proofs.Answering.{answer-accepted}
 use Rattle.relay.proofs.Taking.{network-joined}

@@ -15,7 +15,6 @@ use Rattle.octets.specs.Bytes.{capital}
 use Rattle.ascending.proofs.Ascends.{Ascending}
 use Rattle.names.specs.Fold.{fold}
 use Rattle.names.proofs.Folds.{folds-name}
-use Rattle.message.specs.Reading.{contentOf}
 use Rattle.channel.specs.declared.Record.{Record}
 use Rattle.channel.specs.Limits.{memberLimit, slotCount}
 use Rattle.channel.specs.Channel.{Channel, byId}
@@ -34,7 +33,7 @@ use Rattle.table.specs.Slots.{slotFor}
 use Rattle.table.proofs.Alone.{free-good, free-slot, alone-good, held-first, encoded-holds}
 use Rattle.sjoin.specs.Telling.{sjoin}
 use Rattle.relay.specs.declared.Taken.{Taken}
-use Rattle.relay.specs.Arrivals.{Arrival, said}
+use Rattle.relay.specs.Arrival.{said}
 use Rattle.relay.specs.Joining.{joined}
 use Rattle.relay.specs.Relay.{networkBy}
 use Rattle.relay.proofs.Results.{free-rules}

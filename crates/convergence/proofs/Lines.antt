@@ -36,7 +36,7 @@ use Rattle.sjoin.specs.Entries.{past, idOf, statusOf, isEntry, memberOf, goodEn
 use Rattle.sjoin.specs.Join.{argumentsIn, isSource, goodCount, goodTime, joinRules, channelIn}
 use Rattle.sjoin.specs.Telling.{sjoin}
 use Rattle.sjoin.proofs.Examples.{line, line-tells}
-use Rattle.relay.specs.Arrivals.{arrival}
+use Rattle.relay.specs.Arrival.{arrival}
 use Rattle.relay.proofs.Joined.{IsJoin}
 use Rattle.convergence.specs.Demands.{Join, numberAt, channelOf, Kept}
 use Rattle.convergence.proofs.Folding.{start-number}

@@ -13,7 +13,7 @@ use Rattle.channel.specs.declared.Record.{Record}
 use Rattle.links.specs.Links.{linksIn}
 use Rattle.table.specs.declared.Table.{Table}
 use Rattle.relay.specs.declared.Taken.{Taken}
-use Rattle.relay.specs.Arrivals.{Arrival}
+use Rattle.relay.specs.Arrival.{Arrival}
 use Rattle.convergence.specs.Demands.{Taking, Merging, ruled, ruledMerge, Accepts, Demand1, Demand2, Merges}
 use Rattle.convergence.specs.Ours.{ours, ourMerging}
 use Rattle.convergence.proofs.Demand1.{demand1}

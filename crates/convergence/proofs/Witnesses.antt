@@ -21,7 +21,7 @@ use Rattle.channel.specs.Plain.{earliest, counts, entries, everyone, statusIn, 
 use Rattle.channel.proofs.Examples.{2cd, 1ab, stored, incoming}
 use Rattle.links.specs.Links.{hasLink}
 use Rattle.table.specs.Network.{networkOf, withNetwork, withSlots}
-use Rattle.relay.specs.Arrivals.{arrival}
+use Rattle.relay.specs.Arrival.{arrival}
 use Rattle.relay.specs.Relay.{refused}
 use Rattle.convergence.specs.Demands.{ruled, ruledMerge, Accepts, Join, numberAt, goodLines, numbersOf, tableAfter, Kept, plainRecord, holding, firstSlot, Among, Alike}
 use Rattle.convergence.specs.Ours.{ours}

@@ -28,7 +28,7 @@ use Rattle.table.specs.Network.{networkOf, withNetwork, withSlots}
 use Rattle.sjoin.specs.Join.{channelIn}
 use Rattle.sjoin.specs.Telling.{sjoin}
 use Rattle.relay.specs.declared.Taken.{Taken}
-use Rattle.relay.specs.Arrivals.{Arrival}
+use Rattle.relay.specs.Arrival.{Arrival}
 use Rattle.relay.specs.Relay.{networkBy, messageBy, relayed, processRules, refused}
 
 -- ---- what varies

@@ -1,7 +1,7 @@
 // The customer's demands over the whole relay: predicates of any taking of lines and any merging of records in specs/, theorems in proofs/. The two functions
 // here are the relay's own, under the definitions that the demands speak of: so what is proved of specs/Ours.antt is proved of the code.
 ghost use mathlib.Core.Path.{_≡_};
-ghost use Rattle.relay.specs.Arrivals.{arrival};
+ghost use Rattle.relay.specs.Arrival.{arrival};
 ghost use Rattle.convergence.specs.Ours.{ours, ourMerging};
 use channel::Merged;
 use channel::Record;

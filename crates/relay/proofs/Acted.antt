@@ -3,7 +3,6 @@ use mathlib.Core.Path.{_≡_, refl, ap, _∙_}
 use mathlib.Core.Bool.{true}
 use mathlib.Core.List.{List}
 use Prim.Native.Nat.{ℕ, _≤_}
-use native.Mathlib.Omega.{arith}
 use lib.ListN.{length}
 use borrow.Author.Tests.{le-ltb}
 use Rattle.refusal.proofs.Rules.{skip, first-nil, emitted-all}
@@ -20,7 +19,7 @@ use Rattle.sjoin.specs.Telling.{joinMessage, tellRules}
 use Rattle.relay.specs.declared.Change.{Change}
 use Rattle.relay.specs.declared.Sending.{Sending}
 use Rattle.relay.specs.declared.Sending.the-variants.{Silent, AsRead, Anew}
-use Rattle.relay.specs.Arrivals.{sourceIn}
+use Rattle.relay.specs.Arrival.{sourceIn}
 use Rattle.relay.specs.Private.Acting.{passedOn, toldAnew, writtenBy}
 use Rattle.relay.proofs.Judgements.{Sends}
 

@@ -1,5 +1,5 @@
 -- The answer to a line, by the rule that refuses it, or by the change that it is judged to be where none does. Assumes nothing.
-use mathlib.Core.Path.{_≡_, refl, sym, ap, _∙_}
+use mathlib.Core.Path.{_≡_, ap, _∙_}
 use mathlib.Core.Bool.{true, _&&_}
 use mathlib.Core.List.{List, []}
 use Prim.Native.Nat.{ℕ, _≤_}
@@ -20,7 +20,7 @@ use Rattle.table.specs.Network.{networkOf, withNetwork}
 use Rattle.table.specs.Table.{goodTable}
 use Rattle.relay.specs.declared.Change.{Change}
 use Rattle.relay.specs.declared.Taken.{Taken}
-use Rattle.relay.specs.Arrivals.{Arrival}
+use Rattle.relay.specs.Arrival.{Arrival}
 use Rattle.relay.specs.Relay.{meaningIn, takenRules, networkBy, messageBy, relayed, processRules, refused, taken, processAnswer, sent}
 use Rattle.relay.specs.Private.Acting.{doneBy, writtenBy}
 use Rattle.relay.proofs.Judgements.{Does}

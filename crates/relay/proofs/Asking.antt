@@ -28,7 +28,7 @@ use Rattle.table.specs.Network.{Network}
 use Rattle.table.specs.Slots.{foundFor}
 use Rattle.relay.specs.declared.Command.{Command}
 use Rattle.relay.specs.declared.Asked.{Asked}
-use Rattle.relay.specs.Arrivals.{Arrival, said}
+use Rattle.relay.specs.Arrival.{Arrival, said}
 use Rattle.relay.specs.Commands.{meaningOf, commandOf, commandIn}
 use Rattle.relay.specs.Relay.{takenRules}
 use Rattle.relay.specs.Private.Work.{nowhere, nothing}

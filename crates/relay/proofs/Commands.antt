@@ -14,7 +14,7 @@ use Rattle.message.specs.Content.{Content}
 use Rattle.table.specs.Network.{Network}
 use Rattle.relay.specs.declared.Command.{Command}
 use Rattle.relay.specs.declared.Command.the-variants.{Sjoin, Part, Quit, Unknown}
-use Rattle.relay.specs.Arrivals.{Arrival, said}
+use Rattle.relay.specs.Arrival.{Arrival, said}
 use Rattle.relay.specs.Commands.{unknown, meaningOf, commandAmong}
 use Rattle.relay.specs.Relay.{commandRules}
 use Rattle.relay.proofs.Lawful.{Lawful}

@@ -17,7 +17,7 @@ use Rattle.links.proofs.Sets.{linked}
 use Rattle.table.specs.declared.Table.{Table}
 use Rattle.table.specs.Network.{Network, networkOf}
 use Rattle.table.specs.Table.{goodTable}
-use Rattle.relay.specs.Arrivals.{Arrival}
+use Rattle.relay.specs.Arrival.{Arrival}
 use Rattle.relay.specs.Relay.{meaningIn, commandRules, takenRules, entryRules, processRules}
 
 -- ---- table, output and link

@@ -1,6 +1,6 @@
 -- Document 01's whole case: an SJOIN with a later time for `#Race`, from link 3 of 0, 3 and 5; and a PART and a QUIT of its member. What each comes to as computed
 -- from the definitions, and so witnesses for the premises of the theorems about taking a line, and what these say. Assumes nothing.
-use Prim.Native.Nat.{ℕ, _≤_, _-_}
+use Prim.Native.Nat.{ℕ, _-_}
 use mathlib.Core.Path.{_≡_, refl, ap}
 use mathlib.Core.Bool.{true, false, _&&_}
 use mathlib.Core.List.{List, [], _∷_, List·Memᴰ·head, List·Memᴰ·tail, List·Memᴰ·not-nil}
@@ -36,7 +36,7 @@ use Rattle.channel.proofs.Rules.{peopled}
 use Rattle.channel.proofs.Examples.{2cd, 1ab, stored}
 use Rattle.table.specs.declared.Table.{Table}
 use Rattle.table.specs.Table.{goodSlot, holds, alike, distinct, goodNetwork, goodTable}
-use Rattle.table.specs.Network.{Network, networkOf, withNetwork}
+use Rattle.table.specs.Network.{networkOf}
 use Rattle.table.specs.Slots.{firstAt, freeSlot, slotFor, placeOf}
 use Rattle.sjoin.specs.Modes.{once, goodLetters, modesByte, parametered, goodArguments, argumentOf}
 use Rattle.sjoin.specs.Modes as modes
@@ -46,7 +46,7 @@ use Rattle.sjoin.specs.Join as join
 use Rattle.sjoin.specs.Telling.{lettersFrom, entryOf, following, listText, paramsOf}
 use Rattle.relay.specs.declared.Taken.{Taken}
 use Rattle.relay.specs.declared.Command.the-variants.{Sjoin}
-use Rattle.relay.specs.Arrivals.{Arrival, arrival, said}
+use Rattle.relay.specs.Arrival.{Arrival, arrival}
 use Rattle.relay.specs.Users.{isUser}
 use Rattle.relay.specs.Joining.{slotOf, resulting, joinedRules, joined, outgoing}
 use Rattle.relay.specs.Parting.{partRules, partedRules, parted}

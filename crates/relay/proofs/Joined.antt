@@ -32,7 +32,7 @@ use Rattle.sjoin.specs.Join.{joinRules, channelIn}
 use Rattle.sjoin.specs.Telling.{sjoin}
 use Rattle.sjoin.proofs.Wellformed.{read-proper}
 use Rattle.relay.specs.declared.Command.the-variants.{Sjoin}
-use Rattle.relay.specs.Arrivals.{Arrival, said}
+use Rattle.relay.specs.Arrival.{Arrival, said}
 use Rattle.relay.specs.Joining.{slotOf, resulting, joinedRules, joined}
 use Rattle.relay.specs.Commands.{commandAmong, commandIn}
 use Rattle.relay.specs.Relay.{meaningIn, commandRules, takenRules, processRules}

@@ -17,7 +17,8 @@ use Rattle.sjoin.specs.Telling.{joinMessage}
 use Rattle.relay.specs.declared.Change.{Change}
 use Rattle.relay.specs.declared.Sending.{Sending}
 use Rattle.relay.specs.declared.Sending.the-variants.{Silent, AsRead, Anew}
-use Rattle.relay.specs.Arrivals.{Arrival, said, sourceIn, Meaning}
+use Rattle.relay.specs.Arrival.{Arrival, said, sourceIn}
+use Rattle.relay.specs.Meaning.{Meaning}
 use Rattle.relay.specs.Relay.{commandRules}
 use Rattle.relay.specs.Private.Work.{unchanged}
 use Rattle.relay.specs.Private.Acting.{doneBy}

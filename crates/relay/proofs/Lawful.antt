@@ -18,7 +18,8 @@ use Rattle.table.specs.Network.{Network}
 use Rattle.table.specs.Table.{goodNetwork}
 use Rattle.relay.specs.declared.Command.{Command}
 use Rattle.relay.specs.declared.Change.{Change}
-use Rattle.relay.specs.Arrivals.{Arrival, said, Meaning}
+use Rattle.relay.specs.Arrival.{Arrival, said}
+use Rattle.relay.specs.Meaning.{Meaning}
 use Rattle.relay.specs.Commands.{meaningOf}
 use Rattle.relay.specs.Relay.{commandRules}
 use Rattle.relay.specs.Private.Commands.{workOf, settledIn}

@@ -1,5 +1,5 @@
 -- PART is lawful: its request is settled to the record that its slot is left with, which keeps its name or is empty, and the line goes out as read. Assumes nothing.
-use mathlib.Core.Path.{_≡_, refl, sym, ap, _∙_}
+use mathlib.Core.Path.{_≡_, refl, ap, _∙_}
 use mathlib.Core.Bool.{Bool, true, false, not, false≢true}
 use mathlib.Core.List.{List, [], _∷_}
 use Prim.Native.Nat.{ℕ, suc, _≤_, _<_}
@@ -13,7 +13,6 @@ use Rattle.laws.proofs.Bools.{and-intro}
 use Rattle.laws.proofs.Replaced.{all-set}
 use Rattle.names.specs.Names.{isChannel}
 use Rattle.message.specs.Content.{Content}
-use Rattle.message.specs.Reading.{messageOf}
 use Rattle.channel.specs.declared.Record.{Record}
 use Rattle.channel.specs.Limits.{slotCount}
 use Rattle.channel.specs.Members.{hasMember, without}
@@ -22,14 +21,14 @@ use Rattle.table.specs.declared.Found.{Found}
 use Rattle.table.specs.declared.Slot.{Slot}
 use Rattle.table.specs.declared.Slot.the-variants.{Held, Free, Full}
 use Rattle.table.specs.Network.{Network}
-use Rattle.table.specs.Table.{goodSlot, distinct, goodNetwork}
+use Rattle.table.specs.Table.{goodSlot, goodNetwork}
 use Rattle.table.specs.Slots.{heldIn, isHeld, placeOf}
 use Rattle.table.proofs.Searching.{slot-held}
 use Rattle.table.proofs.WellFormed.{slots-good, slots-distinct}
 use Rattle.table.proofs.Changing.{good-at, without-good, without-keeps, kept-set, distinct-kept}
 use Rattle.relay.specs.declared.Command.the-variants.{Part}
 use Rattle.relay.specs.declared.Change.{Change}
-use Rattle.relay.specs.Arrivals.{Arrival, said, sourceIn}
+use Rattle.relay.specs.Arrival.{Arrival, said, sourceIn}
 use Rattle.relay.specs.Users.{isUser}
 use Rattle.relay.specs.Parting.{partedIn, partRules, slotOf, partedRules, parted, meaning}
 use Rattle.relay.specs.Relay.{commandRules}

@@ -1,7 +1,7 @@
 -- QUIT is lawful: nothing in the network refuses it, a slot that loses a member stays good, and the line goes out as read. Assumes nothing.
 use mathlib.Core.Path.{_≡_, refl, ap, _∙_}
 use mathlib.Core.Bool.{true, false, not}
-use mathlib.Core.List.{[], _∷_, _++_, map, append-nil}
+use mathlib.Core.List.{[], _∷_, map, append-nil}
 use Prim.Native.Nat.{suc, _≤_, _<_}
 use native.Mathlib.Omega.{arith}
 use lib.ListN.{length}
@@ -12,7 +12,6 @@ use Rattle.refusal.proofs.Rules.{skip, stop, first-nil, numbered}
 use Rattle.laws.proofs.Bools.{and-intro}
 use Rattle.laws.proofs.Lists.{all-map}
 use Rattle.message.specs.Content.{Content}
-use Rattle.channel.specs.Limits.{slotCount}
 use Rattle.channel.specs.Members.{without}
 use Rattle.table.specs.Network.{Network}
 use Rattle.table.specs.Table.{goodSlot, goodNetwork}
@@ -21,7 +20,7 @@ use Rattle.table.proofs.Changing.{without-good, without-keeps, kept-map, distin
 use Rattle.relay.specs.declared.Command.the-variants.{Quit}
 use Rattle.relay.specs.declared.Change.{Change}
 use Rattle.relay.specs.declared.Sending.the-variants.{AsRead}
-use Rattle.relay.specs.Arrivals.{Arrival, said, sourceIn}
+use Rattle.relay.specs.Arrival.{Arrival, said, sourceIn}
 use Rattle.relay.specs.Users.{isUser}
 use Rattle.relay.specs.Quitting.{quitRules, quitted, meaning}
 use Rattle.relay.specs.Relay.{commandRules}

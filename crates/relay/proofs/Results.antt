@@ -1,7 +1,7 @@
 -- What an incoming channel comes to in the slot that its name uses: it is merged into the record that is there, or opens the lowest free slot, or finds none.
 -- What results is a channel as document 01 has it, and one slot changes. True since a slot keeps its name, or is opened for one that none holds. Assumes nothing.
 use mathlib.Core.Path.{_≡_, refl, sym, ap, _∙_}
-use mathlib.Core.Bool.{Bool, true, false, not, true≢false}
+use mathlib.Core.Bool.{true, false, not, true≢false}
 use mathlib.Core.Logic.{_⊎_, inl, inr}
 use mathlib.Core.List.{List}
 use Prim.Native.Nat.{ℕ, _≤_, _<_}

@@ -10,7 +10,6 @@ use Rattle.refusal.specs.Numbers.{accepted, tooManyParams, noFreeSlot}
 use Rattle.refusal.specs.Rules.{firstOf, ascendFrom, placeIn, rank}
 use Rattle.refusal.proofs.Rules.{append-none, both-none}
 use Rattle.laws.proofs.Lists.{take-map}
-use Rattle.message.specs.Content.{Content}
 use Rattle.message.specs.Reading.{isRead, messageOf}
 use Rattle.channel.specs.declared.Record.{Record}
 use Rattle.channel.specs.declared.Merged.{Merged}
@@ -23,7 +22,7 @@ use Rattle.channel.proofs.Records.{decode-encode}
 use Rattle.table.specs.declared.Found.{Found}
 use Rattle.table.specs.declared.Slot.{Slot}
 use Rattle.table.specs.declared.Slot.the-variants.{Held, Free, Full}
-use Rattle.table.specs.Network.{Network, withSlots}
+use Rattle.table.specs.Network.{Network}
 use Rattle.table.specs.Table.{goodNetwork}
 use Rattle.table.specs.Slots.{heldIn, foundFor, placeOf}
 use Rattle.table.proofs.WellFormed.{slots-good}
@@ -34,7 +33,7 @@ use Rattle.sjoin.proofs.Wellformed.{read-proper}
 use Rattle.sjoin.proofs.Retold.{retold-reads}
 use Rattle.relay.specs.declared.Command.the-variants.{Sjoin}
 use Rattle.relay.specs.declared.Change.{Change}
-use Rattle.relay.specs.Arrivals.{Arrival, said, sourceIn}
+use Rattle.relay.specs.Arrival.{Arrival, said, sourceIn}
 use Rattle.relay.specs.Joining.{slotOf, resulting, joinedRules, joined, outgoing, meaning}
 use Rattle.relay.specs.Relay.{commandRules}
 use Rattle.relay.specs.Private.Work.{nowhere}

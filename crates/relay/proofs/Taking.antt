@@ -1,29 +1,28 @@
 -- Taking a line, whatever its command: the network stays well formed, the line that goes out reads as its message and is no longer than the one read, and from
 -- rule 4 on all depends on the network and the arrival alone. True since every command is lawful. Assumes nothing.
-use Prim.Native.Nat.{ℕ, _≤_}
+use Prim.Native.Nat.{ℕ}
 use mathlib.Core.Path.{_≡_, refl, sym, ap, _∙_}
-use mathlib.Core.Bool.{Bool, true, false, not, cond, _&&_}
+use mathlib.Core.Bool.{Bool, true, false, cond}
 use mathlib.Core.Logic.{_⊎_, inl, inr}
-use mathlib.Core.List.{List, [], _∷_, _++_, map, List·Memᴰ, List·Memᴰ·head, List·Memᴰ·tail}
-use lib.ListN.{length}
-use lib.Dec.{eqb, ltb}
+use mathlib.Core.List.{[], _∷_, map, List·Memᴰ}
+use lib.Dec.{eqb}
 use borrow.Author.Tests.{eq-eqb, eqb-true, eqb-false}
 use Rattle.refusal.specs.Numbers.{accepted, notWellFormed, outputTooShort, badLink}
-use Rattle.refusal.specs.Rules.{Rule, firstOf, emitted, ascend, ascendFrom, placeIn}
+use Rattle.refusal.specs.Rules.{firstOf, emitted, ascend, ascendFrom, placeIn}
 use Rattle.refusal.proofs.Rules.{first-among, both-none}
 use Rattle.octets.specs.Bytes.{capital}
-use Rattle.message.specs.Reading.{bodyRules, lineRules, numberFor, isRead, contentOf}
+use Rattle.message.specs.Reading.{bodyRules, lineRules, numberFor, isRead}
 use Rattle.message.proofs.Readings.{rules-numbered}
 use Rattle.channel.specs.Record.{encode}
 use Rattle.table.specs.declared.Table.{Table}
-use Rattle.table.specs.Network.{Network, networkOf, withNetwork}
+use Rattle.table.specs.Network.{Network, networkOf}
 use Rattle.table.specs.Table.{goodNetwork, goodTable}
 use Rattle.table.specs.Slots.{placeOf}
 use Rattle.sjoin.specs.Join.{channelIn}
 use Rattle.sjoin.proofs.Wellformed.{read-proper}
 use Rattle.relay.specs.declared.Command.{Command}
 use Rattle.relay.specs.declared.Command.the-variants.{Sjoin, Unknown}
-use Rattle.relay.specs.Arrivals.{Arrival, said}
+use Rattle.relay.specs.Arrival.{Arrival, said}
 use Rattle.relay.specs.Joining.{slotOf, resulting, joined}
 use Rattle.relay.specs.Commands.{commands, meaningOf, commandIn}
 use Rattle.relay.specs.Relay.{meaningIn, commandRules, takenRules, networkBy, messageBy, relayed, entryRules, processRules, processAnswer, sent}

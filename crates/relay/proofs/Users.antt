@@ -9,7 +9,7 @@ use Rattle.laws.proofs.Lists.{padded-whole}
 use Rattle.names.specs.Names.{userIdLength, isUserId}
 use Rattle.names.proofs.UserIds.{no-user-id, user-length}
 use Rattle.message.specs.Content.{Content}
-use Rattle.relay.specs.Arrivals.{sourceIn}
+use Rattle.relay.specs.Arrival.{sourceIn}
 use Rattle.relay.specs.Users.{isUser}
 
 -- a missing prefix is the empty one, which is no user id

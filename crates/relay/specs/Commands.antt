@@ -10,7 +10,8 @@ use Rattle.writer.specs.Form.{inCapitals}
 use Rattle.message.specs.Reading.{contentOf}
 use Rattle.relay.specs.declared.Command.{Command}
 use Rattle.relay.specs.declared.Command.the-variants.{Sjoin, Part, Quit, Unknown}
-use Rattle.relay.specs.Arrivals.{said, Meaning}
+use Rattle.relay.specs.Arrival.{said}
+use Rattle.relay.specs.Meaning.{Meaning}
 use Rattle.relay.specs.Joining as joining
 use Rattle.relay.specs.Parting as parting
 use Rattle.relay.specs.Quitting as quitting

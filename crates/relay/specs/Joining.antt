@@ -1,5 +1,4 @@
 -- SJOIN (document 01, 'SJOIN' and 'What goes out'): the channel that the line tells of is merged into the slot that its name uses, or opens it.
-use Prim.Native.Nat.{ℕ}
 use mathlib.Core.List.{List, [], _∷_}
 use lib.ListN.{length, set}
 use lib.Dec.{ltb}
@@ -15,7 +14,8 @@ use Rattle.table.specs.Network.{Network, withSlots}
 use Rattle.table.specs.Slots.{slotFor, heldIn, isFull, placeOf}
 use Rattle.sjoin.specs.Join.{joinRules, channelIn}
 use Rattle.sjoin.specs.Telling.{sjoin, joinMessage}
-use Rattle.relay.specs.Arrivals.{said, sourceIn, Meaning}
+use Rattle.relay.specs.Arrival.{said, sourceIn}
+use Rattle.relay.specs.Meaning.{Meaning}
 
 -- the slot that a channel's name uses
 abbrev pub slotOf : Network → Channel → Slot

@@ -1,4 +1,5 @@
-pub mod Arrivals
+pub mod Arrival
+pub mod Meaning
 pub mod Users
 pub mod Joining
 pub mod Parting

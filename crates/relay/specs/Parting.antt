@@ -1,6 +1,6 @@
 -- PART (document 01, 'SJOIN', its last paragraph): a member leaves a channel.
 use Prim.Native.Nat.{ℕ}
-use mathlib.Core.Bool.{Bool, not, _&&_}
+use mathlib.Core.Bool.{not, _&&_}
 use mathlib.Core.List.{List, [], _∷_}
 use lib.ListN.{length, getD, set}
 use lib.Dec.{leb}
@@ -14,7 +14,8 @@ use Rattle.channel.specs.Members.{hasMember, without}
 use Rattle.table.specs.declared.Slot.{Slot}
 use Rattle.table.specs.Network.{Network, withSlots}
 use Rattle.table.specs.Slots.{slotFor, heldIn, isHeld, placeOf}
-use Rattle.relay.specs.Arrivals.{said, sourceIn, Meaning}
+use Rattle.relay.specs.Arrival.{said, sourceIn}
+use Rattle.relay.specs.Meaning.{Meaning}
 use Rattle.relay.specs.Users.{isUser}
 
 -- the channel that it names

@@ -9,7 +9,8 @@ use Rattle.message.specs.Content.{Content}
 use Rattle.writer.specs.Form.{inCapitals}
 use Rattle.channel.specs.Members.{without}
 use Rattle.table.specs.Network.{Network, withSlots}
-use Rattle.relay.specs.Arrivals.{said, sourceIn, Meaning}
+use Rattle.relay.specs.Arrival.{said, sourceIn}
+use Rattle.relay.specs.Meaning.{Meaning}
 use Rattle.relay.specs.Users.{isUser}
 
 unfoldable pub quitRules : Content → List Rule

@@ -16,7 +16,8 @@ use Rattle.table.specs.declared.Table.{Table}
 use Rattle.table.specs.Network.{Network, networkOf, withNetwork}
 use Rattle.table.specs.Table.{goodTable}
 use Rattle.relay.specs.declared.Taken.{Taken}
-use Rattle.relay.specs.Arrivals.{Arrival, said, Meaning}
+use Rattle.relay.specs.Arrival.{Arrival, said}
+use Rattle.relay.specs.Meaning.{Meaning}
 use Rattle.relay.specs.Commands.{meaningOf, commandIn}
 
 -- ---- the line in the network

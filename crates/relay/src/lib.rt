@@ -10,7 +10,7 @@ mod requests;
 ghost use mathlib.Core.Path.{_≡_};
 ghost use lib.ListN.{length};
 ghost use Rattle.octets.specs.Room.{front};
-ghost use Rattle.relay.specs.Arrivals.{arrival};
+ghost use Rattle.relay.specs.Arrival.{arrival};
 ghost use Rattle.relay.specs.Relay.{processAnswer, sent, refused as refusedOf};
 use acting::changed;
 use acting::send;

@@ -2,7 +2,6 @@
 mod slots;
 
 ghost use mathlib.Core.Path.{_≡_};
-ghost use Rattle.refusal.specs.Rules.{firstOf};
 ghost use Rattle.table.specs.Table.{emptyTable, goodTable, relinked as relinkedOf, registerAnswer, unregisterAnswer};
 ghost use Rattle.table.specs.Slots.{foundFor};
 use channel::Record;

@@ -4,7 +4,7 @@ use mathlib.Core.Path.{sym, ap, _∙_}
 use native.Mathlib.Omega.{arith}
 use borrow.Author.Needs.{needs}
 use Rattle.relay.specs.declared.Taken.{Taken}
-use Rattle.relay.specs.Arrivals.{arrival}
+use Rattle.relay.specs.Arrival.{arrival}
 use Rattle.relay.proofs.Taking.{answer-number}
 use Rattle.relay.proofs.Answering.{accepted-line}
 use Rattle.console.proofs.Answering.{front-few}

@@ -18,7 +18,7 @@ use Rattle.table.specs.Network.{networkOf}
 use Rattle.table.specs.Table.{goodTable}
 use Rattle.relay.specs.declared.Change.{Change}
 use Rattle.relay.specs.declared.Taken.{Taken}
-use Rattle.relay.specs.Arrivals.{Arrival, arrival}
+use Rattle.relay.specs.Arrival.{Arrival, arrival}
 use Rattle.relay.specs.Commands.{commandIn}
 use Rattle.relay.specs.Relay.{meaningIn, entryRules, processRules, refused, processAnswer, sent}
 use Rattle.relay.specs.Private.Acting.{writtenBy}

@@ -17,7 +17,7 @@ use Rattle.relay.specs.declared.Deed.{Deed}
 use Rattle.relay.specs.declared.Deed.the-variants.{Nothing, Set, Drop}
 use Rattle.relay.specs.declared.Sending.{Sending}
 use Rattle.relay.specs.declared.Sending.the-variants.{Silent, AsRead, Anew}
-use Rattle.relay.specs.Arrivals.{sourceIn}
+use Rattle.relay.specs.Arrival.{sourceIn}
 
 -- ---- the network after
 abbrev pub doneBy : Deed → Change → Network → Network

@@ -12,7 +12,7 @@ use Rattle.table.specs.declared.Slot.the-variants.{Held, Free, Full}
 use Rattle.relay.specs.declared.Command.the-variants.{Part}
 use Rattle.relay.specs.declared.Change.{Change}
 use Rattle.relay.specs.declared.Sending.the-variants.{AsRead}
-use Rattle.relay.specs.Arrivals.{sourceIn}
+use Rattle.relay.specs.Arrival.{sourceIn}
 use Rattle.relay.specs.Private.Work.{Work, nowhere, asking, unchanged, sets}
 
 -- slot k is to hold the record that is left

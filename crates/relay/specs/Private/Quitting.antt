@@ -3,7 +3,7 @@ use Rattle.refusal.specs.Numbers.{accepted}
 use Rattle.channel.specs.Record.{emptyRecord}
 use Rattle.relay.specs.declared.Command.the-variants.{Quit}
 use Rattle.relay.specs.declared.Sending.the-variants.{AsRead}
-use Rattle.relay.specs.Arrivals.{sourceIn}
+use Rattle.relay.specs.Arrival.{sourceIn}
 use Rattle.relay.specs.Private.Work.{Work, nowhere, asking, drops}
 
 abbrev pub work : Work

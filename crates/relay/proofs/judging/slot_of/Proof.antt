@@ -1,5 +1,5 @@
 -- `slot_of` meets its contract: the name is the part of the line that its span says. Assumes nothing.
-use mathlib.Core.Path.{sym, _∙_}
+use mathlib.Core.Path.{sym}
 use borrow.Author.Tests.{eq-eqb, ne-eqb}
 use borrow.Author.Needs.{needs}
 use Rattle.relay.specs.Private.Commands.{lookedUp}

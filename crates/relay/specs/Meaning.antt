@@ -1,0 +1,20 @@
+-- What a command means. Each command's own file has one such record; `meaningOf` (Commands.antt) gives it.
+use Prim.Native.Nat.{ℕ}
+use mathlib.Core.List.{List}
+use Rattle.refusal.specs.Rules.{Rule}
+use Rattle.message.specs.Content.{Content}
+use Rattle.table.specs.Network.{Network}
+use Rattle.relay.specs.Arrival.{Arrival}
+
+-- Its rules, and what a line of it comes to where none of them applies.
+pub record Meaning : Type 0 where
+  -- its word, in capitals
+  pub word : List ℕ
+  -- the rules of a message by itself
+  pub own : Content → List Rule
+  -- those of what it meets in the network
+  pub met : Network → Arrival → List Rule
+  -- the network after it
+  pub after : Network → Arrival → Network
+  -- the message that goes out
+  pub out : Network → Arrival → Content
