@@ -37,7 +37,7 @@ use Rattle.channel.proofs.Examples.{2cd, 1ab, stored}
 use Rattle.table.specs.declared.Table.{Table}
 use Rattle.table.specs.Table.{goodSlot, holds, alike, distinct, goodNetwork, goodTable}
 use Rattle.table.specs.Network.{networkOf}
-use Rattle.table.specs.Slots.{firstAt, freeSlot, slotFor, placeOf}
+use Rattle.table.specs.Slots.{firstAt, freeSlot, slotFor, placeOf, slotRules}
 use Rattle.sjoin.specs.Modes.{once, goodLetters, modesByte, parametered, goodArguments, argumentOf}
 use Rattle.sjoin.specs.Modes as modes
 use Rattle.sjoin.specs.Entries.{past, idOf, statusOf, isEntry, memberOf, goodEntries}
@@ -87,7 +87,7 @@ unfolding water race stored 2cd withMode emptyRecord encode decode padded goodNe
 water-good = refl
 
 accepts : (firstOf (takenRules (networkOf water) (from3 joining)) ≡ accepted) × (firstOf (takenRules (networkOf water) (from3 parting)) ≡ accepted) × (firstOf (takenRules (networkOf water) (from3 quitting)) ≡ accepted)
-unfolding water race stored 2cd joining parting quitting takenRules commandAmong capital joinRules goodCount isSource join.goodTime isDecimal leadsWithZero valueFrom isDigit isChannel isNameByte isServerId isUserId isIdByte modes.goodModes goodLetters once parametered goodArguments argumentsIn placeAmong goodEntries isEntry idOf past wordsAt contentOf contentIn isRead numberFor lineRules bodyRules firstOf endsLine sameBy bodyOf all isPlain startsWith prefix word prefixEnd commandStart spaces command isCommand isLetter within commandEnd rest params joinedRules resulting channelIn argumentOf modesByte memberOf statusOf slotFor firstAt freeSlot holds sameName fold emptyRecord encode decode padded withMode merge standing stands bare insert put unite compare greater partRules partedRules isUser hasMember quitRules
+unfolding water race stored 2cd joining parting quitting takenRules slotRules commandAmong capital joinRules goodCount isSource join.goodTime isDecimal leadsWithZero valueFrom isDigit isChannel isNameByte isServerId isUserId isIdByte modes.goodModes goodLetters once parametered goodArguments argumentsIn placeAmong goodEntries isEntry idOf past wordsAt contentOf contentIn isRead numberFor lineRules bodyRules firstOf endsLine sameBy bodyOf all isPlain startsWith prefix word prefixEnd commandStart spaces command isCommand isLetter within commandEnd rest params joinedRules resulting channelIn argumentOf modesByte memberOf statusOf slotFor firstAt freeSlot holds sameName fold emptyRecord encode decode padded withMode merge standing stands bare insert put unite compare greater partRules partedRules isUser hasMember quitRules
 accepts = (refl, refl, refl)
 
 -- the lines that go out: `:1AB SJOIN 1000 #Race + :1ABAAAAAA 1ABAAAAAB`, `:2CDAAAAAA PART #race`, and the QUIT as it came

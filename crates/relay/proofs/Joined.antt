@@ -36,6 +36,7 @@ use Rattle.relay.specs.Arrival.{Arrival, said}
 use Rattle.relay.specs.Joining.{slotOf, resulting, joinedRules, joined}
 use Rattle.relay.specs.Commands.{commandAmong, commandIn}
 use Rattle.relay.specs.Relay.{meaningIn, commandRules, takenRules, processRules}
+use Rattle.relay.proofs.Results.{slot-told, room-left}
 
 -- ---- the rules
 -- a line that reads as SJOIN, or isn't read
@@ -130,5 +131,5 @@ module _ (n : Network) (c : Channel) (k : ℕ) where
 
     -- and has room for the members of both
     pub merge-room : length (merge (decode (getD (n .slots) k emptyRecord)) c .members) ≤ memberLimit → firstOf (joinedRules n c) ≡ accepted
-    unfolding joinedRules resulting
-    merge-room h = rw e (skip _ _ refl ∙ skip _ _ (le-ltb memberLimit (length (merge (decode (getD (n .slots) k emptyRecord)) c .members)) h) ∙ first-nil)
+    unfolding resulting
+    merge-room h = room-left n c (slot-told n c (Held k) e) ∙ skip _ _ (rw e (le-ltb memberLimit (length (merge (decode (getD (n .slots) k emptyRecord)) c .members)) h)) ∙ first-nil

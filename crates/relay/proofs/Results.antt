@@ -1,7 +1,7 @@
 -- What an incoming channel comes to in the slot that its name uses: it is merged into the record that is there, or opens the lowest free slot, or finds none.
 -- What results is a channel as document 01 has it, and one slot changes. True since a slot keeps its name, or is opened for one that none holds. Assumes nothing.
 use mathlib.Core.Path.{_≡_, refl, sym, ap, _∙_}
-use mathlib.Core.Bool.{true, false, not, true≢false}
+use mathlib.Core.Bool.{true, false, not}
 use mathlib.Core.Logic.{_⊎_, inl, inr}
 use mathlib.Core.List.{List}
 use Prim.Native.Nat.{ℕ, _≤_, _<_}
@@ -11,7 +11,7 @@ use lib.Seq.{getD-set-same, getD-set-other}
 use borrow.Author.Tests.{le-ltb, ltb-false}
 use Rattle.refusal.specs.Numbers.{accepted, noFreeSlot}
 use Rattle.refusal.specs.Rules.{firstOf}
-use Rattle.refusal.proofs.Rules.{skip, stop, first-nil, first-none}
+use Rattle.refusal.proofs.Rules.{skip, first-nil, first-none, append-some, append-none, both-none}
 use Rattle.laws.specs.Lists.{all}
 use Rattle.laws.proofs.Bools.{and-intro}
 use Rattle.laws.proofs.Lists.{at-all}
@@ -24,7 +24,7 @@ use Rattle.channel.specs.declared.Merged.{Merged}
 use Rattle.channel.specs.Limits.{memberLimit}
 use Rattle.channel.specs.Channel.{Channel}
 use Rattle.channel.specs.Record.{encode, decode, emptyRecord}
-use Rattle.channel.specs.Merging.{merge, mergeRules, mergeAnswer, combined}
+use Rattle.channel.specs.Merging.{merge, roomRules, mergeRules, mergeAnswer, combined}
 use Rattle.channel.specs.WellFormed.{wellFormed}
 use Rattle.channel.proofs.Proper.{Proper, proper-fits, well-says, encode-well, proper-merge}
 use Rattle.channel.proofs.Records.{decode-encode}
@@ -33,13 +33,28 @@ use Rattle.table.specs.declared.Slot.{Slot}
 use Rattle.table.specs.declared.Slot.the-variants.{Held, Free, Full}
 use Rattle.table.specs.Network.{Network}
 use Rattle.table.specs.Table.{isFree, goodSlot, holds, distinct, goodNetwork}
-use Rattle.table.specs.Slots.{isFull, placeOf}
+use Rattle.table.specs.Slots.{slotNumber, placeOf, slotRules}
 use Rattle.table.proofs.First.{IsFirst}
-use Rattle.table.proofs.Searching.{slot-held, slot-free}
+use Rattle.table.proofs.Searching.{slot-held, slot-free, number-is}
 use Rattle.table.proofs.WellFormed.{holding-used, holding-name, slots-good, slots-distinct}
 use Rattle.table.proofs.Using.{held-well}
 use Rattle.table.proofs.Changing.{well-used, well-good, kept-set, distinct-kept, distinct-new}
 use Rattle.relay.specs.Joining.{slotOf, resultIn, resulting, joinedRules, joined}
+
+-- ---- its rules
+-- number 21, by the slot that its name uses
+pub slot-told : (n : Network) (c : Channel) (s : Slot) → slotOf n c ≡ s → firstOf (slotRules (n .slots) (c .name)) ≡ slotNumber s
+slot-told n c s e = sym (number-is (n .slots) (c .name)) ∙ ap slotNumber e
+
+-- where there is one, number 22 is left
+pub room-left : (n : Network) (c : Channel) → firstOf (slotRules (n .slots) (c .name)) ≡ accepted → firstOf (joinedRules n c) ≡ firstOf (roomRules (resulting n c))
+unfolding joinedRules slotRules
+room-left n c e = append-none (roomRules (resulting n c)) (slotRules (n .slots) (c .name)) refl e
+
+-- where none applies, neither does
+joined-none : (n : Network) (c : Channel) → firstOf (joinedRules n c) ≡ accepted → (firstOf (slotRules (n .slots) (c .name)) ≡ accepted) × (firstOf (roomRules (resulting n c)) ≡ accepted)
+unfolding joinedRules slotRules
+joined-none n c e = both-none (roomRules (resulting n c)) (slotRules (n .slots) (c .name)) refl e
 
 -- ---- by the slot that its name uses
 module _ (n : Network) (c : Channel) (p : Proper c) where
@@ -74,8 +89,8 @@ module _ (n : Network) (c : Channel) (p : Proper c) where
       held-merges = combined-merge there (encode c) well (encode-well c p) same
 
       held-rules : firstOf (mergeRules there (encode c)) ≡ firstOf (joinedRules n c)
-      unfolding mergeRules joinedRules
-      held-rules = skip _ _ (rw (well, encode-well c p)) ∙ skip _ _ (ap not same) ∙ rw (back, sym held-result) (sym (skip _ _ (ap isFull e)))
+      unfolding mergeRules
+      held-rules = skip _ _ (rw (well, encode-well c p)) ∙ skip _ _ (ap not same) ∙ rw (back, sym held-result) (sym (room-left n c (slot-told n c (Held k) e)))
 
       pub held-number : combined there (encode c) .number ≡ firstOf (joinedRules n c)
       unfolding mergeAnswer
@@ -96,8 +111,7 @@ module _ (n : Network) (c : Channel) (p : Proper c) where
 
     -- A new channel is never refused: a line names no more users than a record holds.
     pub free-rules : firstOf (joinedRules n c) ≡ accepted
-    unfolding joinedRules
-    free-rules = skip _ _ (ap isFull e) ∙ skip _ _ (rw free-result (le-ltb memberLimit (length (c .members)) (p .few))) ∙ first-nil
+    free-rules = room-left n c (slot-told n c (Free k) e) ∙ skip _ _ (rw free-result (le-ltb memberLimit (length (c .members)) (p .few))) ∙ first-nil
 
   -- what results has the name, in the stored spelling, and a time that is no later
   pub result-heads : goodNetwork n ≡ true → (isChannel (resulting n c .name) ≡ true) × (length (resulting n c .name) ≡ length (c .name)) × (1 ≤ resulting n c .time) × (resulting n c .time ≤ c .time)
@@ -115,7 +129,9 @@ module _ (n : Network) (c : Channel) (p : Proper c) where
 -- nor is one free
 pub full-rules : (n : Network) (c : Channel) → slotOf n c ≡ Full → firstOf (joinedRules n c) ≡ noFreeSlot
 unfolding joinedRules
-full-rules n c e = stop _ _ (ap isFull e)
+full-rules n c e =
+    let told = slot-told n c Full e in
+    append-some (roomRules (resulting n c)) (slotRules (n .slots) (c .name)) (λ z. omega (arith, told, z)) ∙ told
 
 -- ---- where no rule refuses it
 -- What a slot comes to hold: the channel c merged into the record that holds its name, or c itself where the slot was free.
@@ -133,13 +149,11 @@ pub record OneChanged (slots after : List Record) (c : Channel) (k : ℕ) (r : R
   pub others : (j : ℕ) (d : Record) → (j ≡ k → ⊥) → getD after j d ≡ getD slots j d
 
 module _ (n : Network) (good : goodNetwork n ≡ true) (c : Channel) (p : Proper c) (none : firstOf (joinedRules n c) ≡ accepted) where
-  not-full : isFull (slotOf n c) ≡ false
-  unfolding joinedRules
-  not-full = first-none _ _ (λ z. omega arith) none .0
+  not-full : slotOf n c ≡ Full → ⊥
+  not-full e = omega (arith, slot-told n c Full e, joined-none n c none .0)
 
   result-few : length (resulting n c .members) ≤ memberLimit
-  unfolding joinedRules
-  result-few = ltb-false memberLimit (length (resulting n c .members)) (first-none _ _ (λ z. omega arith) (first-none _ _ (λ z. omega arith) none .1) .0)
+  result-few = ltb-false memberLimit (length (resulting n c .members)) (first-none _ _ (λ z. omega arith) (joined-none n c none .1) .0)
 
   -- what results is a channel as document 01 has it
   pub result-proper : Proper (resulting n c)
@@ -165,19 +179,19 @@ module _ (n : Network) (good : goodNetwork n ≡ true) (c : Channel) (p : Proper
 
   joined-distinct : distinct (joined n c .slots) ≡ true
   unfolding joined resulting merge
-  joined-distinct = go (slotOf n c) refl not-full result-name
+  joined-distinct = go (slotOf n c) refl result-name
     where
       slots : List Record
       slots = n .slots
 
-      go : (s : Slot) → slotOf n c ≡ s → isFull s ≡ false → decode (encode (resultIn n c s)) .name ≡ resultIn n c s .name → distinct (set slots (placeOf slots s) (encode (resultIn n c s))) ≡ true
-      go (Held k) e f m =
+      go : (s : Slot) → slotOf n c ≡ s → decode (encode (resultIn n c s)) .name ≡ resultIn n c s .name → distinct (set slots (placeOf slots s) (encode (resultIn n c s))) ≡ true
+      go (Held k) e m =
           let r = getD slots k emptyRecord in
           let x = encode (resultIn n c (Held k)) in
           distinct-kept slots (set slots k x) (kept-set slots k x (inr (holding-used (c .name) r (slot-held slots (c .name) emptyRecord k e .passes), m))) (slots-distinct n good)
-      go (Free k) e f m =
+      go (Free k) e m =
           distinct-new (c .name) (encode c) m slots k (at-all (λ r. not (holds (c .name) r)) slots emptyRecord (λ j h. ap not (slot-free slots (c .name) emptyRecord k e .0 j h))) (slots-distinct n good)
-      go Full e f m = absurd (true≢false f)
+      go Full e m = absurd (not-full e)
 
   pub joined-good : goodNetwork (joined n c) ≡ true
   unfolding goodNetwork joined
@@ -185,15 +199,15 @@ module _ (n : Network) (good : goodNetwork n ≡ true) (c : Channel) (p : Proper
 
   place-used : (place < length (n .slots)) × MergesOrOpens (getD (n .slots) place emptyRecord) c result × (sameName (resulting n c .name) (c .name) ≡ true)
   unfolding resulting merge
-  place-used = go (slotOf n c) refl not-full
+  place-used = go (slotOf n c) refl
     where
-      go : (s : Slot) → slotOf n c ≡ s → isFull s ≡ false
+      go : (s : Slot) → slotOf n c ≡ s
           → (placeOf (n .slots) s < length (n .slots)) × MergesOrOpens (getD (n .slots) (placeOf (n .slots) s) emptyRecord) c (encode (resultIn n c s)) × (sameName (resultIn n c s .name) (c .name) ≡ true)
-      go (Held k) e f =
+      go (Held k) e =
           let h = slot-held (n .slots) (c .name) emptyRecord k e in
           (h .inside, inl (h .passes, refl), holding-name (c .name) (getD (n .slots) k emptyRecord) (h .passes))
-      go (Free k) e f = let h = slot-free (n .slots) (c .name) emptyRecord k e .1 in (h .inside, inr (h .passes, refl), name-refl (c .name))
-      go Full e f = absurd (true≢false f)
+      go (Free k) e = let h = slot-free (n .slots) (c .name) emptyRecord k e .1 in (h .inside, inr (h .passes, refl), name-refl (c .name))
+      go Full e = absurd (not-full e)
 
   result-holds : holds (c .name) result ≡ true
   unfolding holds

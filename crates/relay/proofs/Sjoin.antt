@@ -24,7 +24,7 @@ use Rattle.table.specs.declared.Slot.{Slot}
 use Rattle.table.specs.declared.Slot.the-variants.{Held, Free, Full}
 use Rattle.table.specs.Network.{Network}
 use Rattle.table.specs.Table.{goodNetwork}
-use Rattle.table.specs.Slots.{heldIn, foundFor, placeOf}
+use Rattle.table.specs.Slots.{heldIn, foundFor, placeOf, slotRules}
 use Rattle.table.proofs.WellFormed.{slots-good}
 use Rattle.sjoin.specs.Join.{joinRules, channelIn}
 use Rattle.sjoin.specs.Telling.{joinMessage}
@@ -120,7 +120,7 @@ unfolding channelIn
 found n a read own = name-found (a .line) (n .slots) 1 (omega arith) (proper n a read own .name)
 
 ordered : (n : Network) (a : Arrival) → ascendFrom (suc (rank tooManyParams)) (commandRules meaning n a) ≡ true
-unfolding ascendFrom placeIn joinRules joinedRules
+unfolding ascendFrom placeIn joinRules joinedRules slotRules
 ordered n a = refl
 
 pub lawful : Lawful Sjoin

@@ -1,17 +1,14 @@
 -- SJOIN (document 01, 'SJOIN' and 'What goes out'): the channel that the line tells of is merged into the slot that its name uses, or opens it.
-use mathlib.Core.List.{List, [], _∷_}
-use lib.ListN.{length, set}
-use lib.Dec.{ltb}
-use Rattle.refusal.specs.Numbers.{noFreeSlot, tooManyMembers}
-use Rattle.refusal.specs.Rules.{Rule, _when_}
-use Rattle.channel.specs.Limits.{memberLimit}
+use mathlib.Core.List.{List, [], _++_}
+use lib.ListN.{set}
+use Rattle.refusal.specs.Rules.{Rule}
 use Rattle.channel.specs.Channel.{Channel}
 use Rattle.channel.specs.Record.{encode, decode}
-use Rattle.channel.specs.Merging.{given, standing, merge}
+use Rattle.channel.specs.Merging.{given, standing, merge, roomRules}
 use Rattle.table.specs.declared.Slot.{Slot}
 use Rattle.table.specs.declared.Slot.the-variants.{Held, Free, Full}
 use Rattle.table.specs.Network.{Network, withSlots}
-use Rattle.table.specs.Slots.{slotFor, heldIn, isFull, placeOf}
+use Rattle.table.specs.Slots.{slotFor, heldIn, placeOf, slotRules}
 use Rattle.sjoin.specs.Join.{joinRules, channelIn}
 use Rattle.sjoin.specs.Telling.{sjoin, joinMessage}
 use Rattle.relay.specs.Arrival.{said, sourceIn}
@@ -32,10 +29,7 @@ resulting n c = resultIn n c (slotOf n c)
 
 -- the numbers 21 and 22
 unfoldable pub joinedRules : Network → Channel → List Rule
-joinedRules n c =
-    noFreeSlot when isFull (slotOf n c)
-    ∷ tooManyMembers when ltb memberLimit (length (resulting n c .members))
-    ∷ []
+joinedRules n c = slotRules (n .slots) (c .name) ++ roomRules (resulting n c)
 
 unfoldable pub joined : Network → Channel → Network
 joined n c = withSlots n (set (n .slots) (placeOf (n .slots) (slotOf n c)) (encode (resulting n c)))

@@ -1,13 +1,15 @@
 -- Whether a slot holds a name, and what the search answers by where the first slot that holds it stands, and the first free one. Assumes nothing.
-use mathlib.Core.Path.{_≡_, refl, sym, _∙_}
+use mathlib.Core.Path.{_≡_, refl, sym, ap, _∙_}
 use mathlib.Core.Bool.{Bool, true, false, not, cond, _&&_}
-use mathlib.Core.List.{List}
+use mathlib.Core.List.{List, [], _∷_}
 use Prim.Native.Nat.{ℕ, _≤_, _<_}
 use native.Mathlib.Omega.{arith}
 use lib.ListN.{length}
 use lib.Dec.{ltb}
 use borrow.Author.Tests.{eq-eqb, ne-eqb, lt-ltb, le-ltb, ltb-true, ltb-false}
-use Rattle.laws.specs.Lists.{all}
+use Rattle.refusal.specs.Numbers.{noFreeSlot}
+use Rattle.refusal.specs.Rules.{_when_, firstOf}
+use Rattle.refusal.proofs.Rules.{skip, stop, first-nil}
 use Rattle.octets.specs.Room.{part}
 use Rattle.names.specs.Fold.{sameName}
 use Rattle.channel.specs.declared.Record.{Record}
@@ -16,7 +18,7 @@ use Rattle.channel.proofs.Decoded.{decoded-name}
 use Rattle.table.specs.declared.Found.{Found}
 use Rattle.table.specs.declared.Slot.the-variants.{Held, Free, Full}
 use Rattle.table.specs.Table.{isFree, holds}
-use Rattle.table.specs.Slots.{firstAt, freeSlot, slotFor, heldIn, foundFor, isFull}
+use Rattle.table.specs.Slots.{firstAt, freeSlot, slotFor, heldIn, foundFor, slotNumber, slotRules}
 use Rattle.table.proofs.First.{IsFirst, IsNone, first-is, first-none, first-all}
 
 -- ---- whether a slot holds the name
@@ -102,17 +104,17 @@ module _ (slots : List Record) (name : List ℕ) where
         go (free h f q) = let z : _≡_ {A = ℕ} 0 1 = cc in absurd (omega arith)
         go (full h f q) = (first-none (holds name) slots d h, first-none isFree slots d f)
 
-  -- Number 21 in document 01's words: the name is new, and all slots are used.
-  pub full-means : isFull (slotFor slots name) ≡ all (λ r. not (holds name r)) slots && all (λ r. not (isFree r)) slots
-  unfolding slotFor freeSlot
-  full-means = rw (first-all (holds name) slots, first-all isFree slots) (go (ltb (firstAt (holds name) slots) (length slots)) refl (ltb (firstAt isFree slots) (length slots)) refl)
+  -- The answer settles its number.
+  pub number-is : slotNumber (slotFor slots name) ≡ firstOf (slotRules slots name)
+  unfolding slotFor freeSlot slotRules
+  number-is = rw (first-all (holds name) slots, first-all isFree slots) (go (ltb (firstAt (holds name) slots) (length slots)) refl (ltb (firstAt isFree slots) (length slots)) refl)
     where
       go : (a : Bool) → ltb (firstAt (holds name) slots) (length slots) ≡ a → (b : Bool) → ltb (firstAt isFree slots) (length slots) ≡ b
-          → isFull (slotFor slots name) ≡ not (ltb (firstAt (holds name) slots) (length slots)) && not (ltb (firstAt isFree slots) (length slots))
-      go true e b f = rw e
-      go false e true f = rw (e, f)
-      go false e false f = rw (e, f)
+          → slotNumber (slotFor slots name) ≡ firstOf (noFreeSlot when (not (ltb (firstAt (holds name) slots) (length slots)) && not (ltb (firstAt isFree slots) (length slots))) ∷ [])
+      go true e b f = rw e (sym (skip _ _ refl ∙ first-nil))
+      go false e true f = rw (e, f) (sym (skip _ _ refl ∙ first-nil))
+      go false e false f = rw (e, f) (sym (stop _ _ refl))
 
-  -- the slot settles the answer
-  pub found-is : (f : Found) → f .slot ≡ slotFor slots name → f .«record» ≡ heldIn slots (f .slot) → f ≡ foundFor slots name
-  found-is f e g = rw (g, e)
+  module _ (f : Found) (e : f .slot ≡ slotFor slots name) where
+    pub answers : f .«record» ≡ heldIn slots (f .slot) → (f ≡ foundFor slots name) × (slotNumber (f .slot) ≡ firstOf (slotRules slots name))
+    answers g = (rw (g, e), ap slotNumber e ∙ number-is)

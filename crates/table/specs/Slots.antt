@@ -1,9 +1,12 @@
 -- The slot that a name uses (document 01, 'SJOIN': "The slot used is the one whose folded name equals the line's; else the lowest free slot").
 use Prim.Native.Nat.{ℕ, suc}
-use mathlib.Core.Bool.{Bool, true, false, cond}
+use mathlib.Core.Bool.{Bool, true, false, not, cond, _&&_}
 use mathlib.Core.List.{List, [], _∷_}
 use lib.ListN.{length, getD}
 use lib.Dec.{ltb}
+use Rattle.refusal.specs.Numbers.{accepted, noFreeSlot}
+use Rattle.refusal.specs.Rules.{Rule, _when_}
+use Rattle.laws.specs.Lists.{all}
 use Rattle.channel.specs.declared.Record.{Record}
 use Rattle.channel.specs.Record.{emptyRecord}
 use Rattle.table.specs.declared.Found.{Found}
@@ -35,18 +38,23 @@ heldIn slots Full = emptyRecord
 abbrev pub foundFor : List Record → List ℕ → Found
 foundFor slots name = record { slot = slotFor slots name; «record» = heldIn slots (slotFor slots name) }
 
+-- the number that a record of that name gets: 21 where there is no slot for it
+abbrev pub slotNumber : Slot → ℕ
+slotNumber (Held k) = accepted
+slotNumber (Free k) = accepted
+slotNumber Full = noFreeSlot
+
 abbrev pub isHeld : Slot → Bool
 isHeld (Held k) = true
 isHeld (Free k) = false
 isHeld Full = false
-
-abbrev pub isFull : Slot → Bool
-isFull (Held k) = false
-isFull (Free k) = false
-isFull Full = true
 
 -- the place of the slot; past all slots where there is none
 abbrev pub placeOf : List Record → Slot → ℕ
 placeOf slots (Held k) = k
 placeOf slots (Free k) = k
 placeOf slots Full = length slots
+
+-- number 21: new name, all slots used
+unfoldable pub slotRules : List Record → List ℕ → List Rule
+slotRules slots name = noFreeSlot when (all (λ r. not (holds name r)) slots && all (λ r. not (isFree r)) slots) ∷ []

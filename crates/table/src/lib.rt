@@ -2,8 +2,9 @@
 mod slots;
 
 ghost use mathlib.Core.Path.{_≡_};
+ghost use Rattle.refusal.specs.Rules.{firstOf};
 ghost use Rattle.table.specs.Table.{emptyTable, goodTable, relinked as relinkedOf, registerAnswer, unregisterAnswer};
-ghost use Rattle.table.specs.Slots.{foundFor};
+ghost use Rattle.table.specs.Slots.{foundFor, slotNumber, slotRules};
 use channel::Record;
 use links::Links;
 use links::with_link;
@@ -131,7 +132,8 @@ pub fn unregister(t: Table, link: u32) -> Registered
 // The slot that a name uses, with its record, so that nobody need look into the table again. Each used slot's folded name is compared byte by byte; the
 // first byte that differs leaves for the next slot.
 pub fn find(t: Table, name: &[u8]) -> Found
-    ensures { λ r. ⌜ r ≡ foundFor (t .slots) (now (name .entry)) ⌝ }
+    ensures found { λ r. ⌜ r ≡ foundFor (t .slots) (now (name .entry)) ⌝ }
+    ensures number { λ r. ⌜ slotNumber (r .slot) ≡ firstOf (slotRules (t .slots) (now (name .entry))) ⌝ }
 {
     'slots: for k in 0..Record::SLOTS {
         if t.slots[k].count == 0 {

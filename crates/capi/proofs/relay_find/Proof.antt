@@ -13,7 +13,7 @@ held-at-requires : tie.Need-held-at-requires
 held-at-requires c κs = search needs
 
 returns : tie.Need-returns
-returns c = c .held-at .ensures ∙ ap (λ (f : Found). heldAt (f .slot)) (c .before .find .ensures)
+returns c = c .held-at .ensures ∙ ap (λ (f : Found). heldAt (f .slot)) (c .before .find .ensures .0)
 
 pub relay-find-spec : {M : Type 1} → statement M
 relay-find-spec = tie.close (tie.spec find-requires held-at-requires returns)

@@ -23,7 +23,7 @@ use Rattle.table.specs.declared.Slot.the-variants.{Held}
 use Rattle.table.specs.Table.{holds}
 use Rattle.table.specs.Slots.{firstAt, heldIn}
 use Rattle.table.proofs.First.{first-here, first-next, first-end}
-use Rattle.table.proofs.Searching.{free-holds, used-holds, free-empty, held-found, held-none, found-is}
+use Rattle.table.proofs.Searching.{free-holds, used-holds, free-empty, held-found, held-none, answers}
 use Rattle.table.proofs.find.Statement.{statement}
 use Rattle.table.proofs.find.Tie as tie
 
@@ -180,7 +180,7 @@ returns c =
     let s = c .before .before .before .before .before .before .before .before in
     let l = c .before .loop in
     let same : sameName (c .before .before .before .part .result .now) (sought s) ≡ true = sym (l .inv .3) ∙ name-past _ (sought s) (l .i) (omega arith) (omega arith) in
-    found-is (table s .slots) (sought s) (record { slot = Held (l .k); «record» = getD (table s .slots) (place s) none })
+    answers (table s .slots) (sought s) (record { slot = Held (l .k); «record» = getD (table s .slots) (place s) none })
     (ap Held (l .inv .0)
     ∙ held-found (table s .slots) (sought s) (place s)
     (first-here (holds (sought s)) (table s .slots) (place s) none (within s) (s .before .slots .inv .1) (compared (c .before .before .before) ∙ same)) (within s))
@@ -196,7 +196,7 @@ returns-2 : tie.Need-returns-2 Inv-loop μ-loop Inv-slots μ-slots
 returns-2 c =
     let a = c .before .before .before .before .before .args in
     let s = c .before .before .before .slots in
-    found-is (a .t1 .slots) (a .name .now) (record { slot = c .lowest-free .result; «record» = c .before .empty .result })
+    answers (a .t1 .slots) (a .name .now) (record { slot = c .lowest-free .result; «record» = c .before .empty .result })
     (c .lowest-free .ensures ∙ sym (held-none (a .t1 .slots) (a .name .now) (first-end (holds (a .name .now)) (a .t1 .slots) (s .k) (omega (arith, sixteen (c .before .before .before .before .before))) (s .inv .1))))
     (c .before .empty .ensures .0 ∙ sym (ap (heldIn (a .t1 .slots)) (c .lowest-free .ensures) ∙ free-empty (a .t1 .slots)))
 

@@ -21,7 +21,7 @@ find-requires c κs = search needs
 
 returns-2 : tie.Need-returns-2
 unfolding lookedUp
-returns-2 c = rw (ne-eqb _ _ (c .before .before .if1 .left), sym (c .before .part .ensures .0)) (c .find .ensures)
+returns-2 c = rw (ne-eqb _ _ (c .before .before .if1 .left), sym (c .before .part .ensures .0)) (c .find .ensures .0)
 
 pub slot-of-spec : {M : Type 1} → statement M
 slot-of-spec =
