@@ -18,7 +18,7 @@ ghost use Rattle.writer.specs.Writing.{writeRules, answerFor as writeAnswer};
 ghost use Rattle.names.specs.Fold.{sameName};
 ghost use Rattle.glob.specs.Mask.{answerFor as matchAnswer};
 ghost use Rattle.channel.specs.Record.{decode};
-ghost use Rattle.channel.specs.Merging.{mergeAnswer};
+ghost use Rattle.merging.specs.Merging.{mergeAnswer};
 ghost use Rattle.table.specs.Table.{emptyTable, registerAnswer, unregisterAnswer};
 ghost use Rattle.sjoin.specs.Telling.{described};
 ghost use Rattle.relay.specs.Arrival.{arrival};
@@ -29,12 +29,12 @@ ghost use Rattle.capi.specs.Reading.{readAnswer};
 ghost use Rattle.capi.specs.Finding.{heldAt, findAnswer};
 ghost use Rattle.capi.specs.Describing.{describeRules};
 ghost use Rattle.capi.specs.Layout.{layout as layoutOf};
-use channel::Merged;
 use channel::Record;
 use feed::Fed;
 use feed::Feeder;
 use glob::Match;
 use journal::Logged;
+use merging::Merged;
 use message::Message;
 use message::Reading;
 use octets::Order;
@@ -151,7 +151,7 @@ pub extern "C" fn relay_key_less(a: &[u8], b: &[u8]) -> bool
 pub extern "C" fn relay_merge(a: Record, b: Record) -> Merged
     ensures { λ r. ⌜ r ≡ mergeAnswer a b ⌝ }
 {
-    channel::merge(a, b)
+    merging::merge(a, b)
 }
 
 // Writes what an SJOIN tells of a record, as a text of its own, to the front of the output.

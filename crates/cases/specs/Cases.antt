@@ -15,11 +15,11 @@ use Rattle.message.specs.Content.{Content}
 use Rattle.message.specs.Reading.{crlf, numberOf, countOf, readingOf, contentOf}
 use Rattle.writer.specs.Form.{sameContent}
 use Rattle.channel.specs.declared.Record.{Record}
-use Rattle.channel.specs.declared.Merged.{Merged}
 use Rattle.channel.specs.Modes.{keyMode, withMode}
 use Rattle.channel.specs.Channel.{member}
 use Rattle.channel.specs.Record.{encode, decode}
-use Rattle.channel.specs.Merging.{mergeAnswer}
+use Rattle.merging.specs.declared.Merged.{Merged}
+use Rattle.merging.specs.Merging.{mergeAnswer}
 
 -- ---- what the paper says
 pub data Case : Type 0 where

@@ -20,6 +20,7 @@ module _ {A : Type 0} (x : A) where
   sets-snoc [] l i v = let e : i + 0 ≡ i = omega arith in rw e
   sets-snoc (u ∷ vs) l i v = let e : i + suc (length vs) ≡ suc i + length vs = omega arith in rw e (sets-snoc vs (set l i u) (suc i) v)
 
+  -- set there, it is one of them
   pub set-padded : (n : ℕ) (l : List A) (v : A) → set (padded n x l) (length l) v ≡ padded n x (l ++ (v ∷ []))
   set-padded n l v =
       ap (λ (m : List A). set m (length l) v) (sym (sets-padded x n l))
@@ -45,16 +46,19 @@ pub record Gathers (list : List Member) (count : ℕ) (l : List Member) : Type 0
   pub holds : list ≡ padded memberLimit nobody l
   pub counts : count ≡ length l
 
+-- one member more
 pub gathers-more : (list : List Member) (count : ℕ) (l : List Member) (m : Member) → Gathers list count l → Gathers (set list count m) (count + 1) (l ++ (m ∷ []))
 gathers-more list count l m g = record {
   holds = rw (g .holds, g .counts) (set-padded nobody memberLimit l m);
   counts = omega (arith, g .counts, length-append l (m ∷ []));
 }
 
+-- they are a roster
 pub gathers-roster : (list : List Member) (count : ℕ) (l : List Member) → Gathers list count l → _≡_ {A = Roster} (record { list = list; count = count }) (roster l)
 unfolding roster
 gathers-roster list count l g = rw (g .holds, g .counts)
 
+-- and a roster is such a list
 pub roster-gathers : (r : Roster) (l : List Member) → r ≡ roster l → Gathers (r .list) (r .count) l
 unfolding roster
 roster-gathers r l e = record { holds = ap (λ (s : Roster). s .list) e; counts = ap (λ (s : Roster). s .count) e }

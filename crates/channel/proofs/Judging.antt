@@ -17,7 +17,7 @@ use Rattle.channel.specs.declared.Record.{Record}
 use Rattle.channel.specs.Limits.{memberLimit, keyLimit, timeLimit}
 use Rattle.channel.specs.Modes.{modeCount}
 use Rattle.channel.specs.Record.{decode}
-use Rattle.channel.specs.WellFormed.{isVacant, goodMember, goodTime, goodModes, goodKey, goodLimit, goodMembers, channelTests, inRoom, clear, wellFormed}
+use Rattle.channel.specs.WellFormed.{isVacant, goodTime, goodModes, goodKey, goodLimit, goodMembers, channelTests, inRoom, clear, wellFormed}
 use Rattle.channel.proofs.Places.{places}
 
 -- every test of a list passes

@@ -1,16 +1,15 @@
 -- Laws that the crates above cite, examples, and laws that only this crate's proofs share.
+pub mod Fields
 pub mod Keys
 pub mod Letters
-pub mod Sides
-pub mod Rules
 pub mod Records
 pub mod Proper
-pub mod Plains
-pub mod Merges
-pub mod Answers
+pub mod Statuses
+pub mod Standing
 pub mod Removals
 pub mod Blank
 pub mod Decoded
+pub mod Fronts
 pub mod Gathering
 pub mod Examples
 pub mod Witnesses
@@ -20,5 +19,3 @@ mod Judging
 mod Others
 mod Placing
 mod Ordering
-mod Uniting
-mod Rooms

@@ -19,8 +19,8 @@ use Rattle.channel.specs.Limits.{memberLimit}
 use Rattle.channel.specs.Channel.{byId}
 use Rattle.channel.specs.Record.{nobody}
 use Rattle.channel.specs.Members.{roster, ordered}
-use Rattle.channel.specs.Private.{Sorted}
-use Rattle.channel.proofs.Sides.{stays-byId}
+use Rattle.channel.specs.Private.Rosters.{Sorted}
+use Rattle.channel.proofs.Statuses.{stays-byId}
 use Rattle.channel.proofs.Gathering.{Gathers, gathers-more, gathers-take, roster-gathers}
 
 under-append : (x : List ℕ) (a b : List Member) → Under byId x a → Under byId x b → Under byId x (a ++ b)

@@ -13,7 +13,7 @@ use Rattle.ascending.specs.Ascending.{ascends}
 use Rattle.channel.specs.declared.Member.{Member}
 use Rattle.channel.specs.Channel.{byId}
 use Rattle.channel.specs.WellFormed.{isVacant, goodMember}
-use Rattle.channel.proofs.Tests.{front-step, all-front}
+use Rattle.channel.proofs.Fronts.{front-step, all-front}
 
 -- members that ascend
 abbrev pub proper : List Member → Bool

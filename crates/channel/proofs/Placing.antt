@@ -19,7 +19,7 @@ use Rattle.channel.specs.Limits.{memberLimit}
 use Rattle.channel.specs.Channel.{byId}
 use Rattle.channel.specs.Record.{nobody}
 use Rattle.channel.specs.Members.{roster}
-use Rattle.channel.specs.Private.{Sorted}
+use Rattle.channel.specs.Private.Rosters.{Sorted}
 use Rattle.channel.proofs.Gathering.{gathers-roster, set-padded-at, padded-more}
 
 -- Those from p on are moved up by one, and what stands at p is of no account.

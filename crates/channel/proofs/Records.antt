@@ -20,7 +20,7 @@ use Rattle.channel.specs.Limits.{keyLimit, memberLimit}
 use Rattle.channel.specs.Channel.{Channel, member}
 use Rattle.channel.specs.Record.{nobody, encode, decode}
 use Rattle.channel.specs.WellFormed.{isVacant, inRoom, clear}
-use Rattle.channel.proofs.Sides.{channel-path}
+use Rattle.channel.proofs.Fields.{channel-path}
 
 -- A channel keeps to the room that a record has.
 pub record Fits (c : Channel) : Type 0 where
@@ -35,16 +35,18 @@ pub record Sized (r : Record) : Type 0 where
   pub members : length (r .members) ≡ memberLimit
   pub ids : (k : ℕ) → k < memberLimit → length ((getD (r .members) k nobody) .id) ≡ userIdLength
 
+-- what is encoded is decoded again
 pub decode-encode : (c : Channel) → Fits c → decode (encode c) ≡ c
 unfolding encode decode
 decode-encode c f =
     channel-path (take-padded 0 nameLimit (c .name) (f .name)) refl refl (take-padded 0 keyLimit (c .key) (f .key)) refl (take-padded nobody memberLimit (c .members) (f .members))
 
--- what is encoded keeps to its room and leaves the rest zero
+-- it keeps to its room
 pub encode-room : (c : Channel) → Fits c → inRoom (encode c) ≡ true
 unfolding encode inRoom
 encode-room c f = simp (le-leb (length (c .name)) nameLimit (f .name), le-leb (length (c .key)) keyLimit (f .key), le-leb (length (c .members)) memberLimit (f .members))
 
+-- and leaves the rest zero
 pub encode-clear : (c : Channel) → clear (encode c) ≡ true
 unfolding encode clear all
 encode-clear c = simp (all-padded 0 isZero refl nameLimit (c .name), all-padded 0 isZero refl keyLimit (c .key), all-padded nobody isVacant refl memberLimit (c .members))

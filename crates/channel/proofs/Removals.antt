@@ -23,11 +23,10 @@ use Rattle.channel.specs.declared.Record.{Record}
 use Rattle.channel.specs.Limits.{memberLimit, keyLimit}
 use Rattle.channel.specs.Channel.{Channel, byId}
 use Rattle.channel.specs.Record.{nobody, emptyRecord, encode, decode}
-use Rattle.channel.specs.Members.{others, withMembers, without}
+use Rattle.channel.specs.Members.{statusIn, others, withMembers, without}
 use Rattle.channel.specs.WellFormed.{goodMember, isVacant, inRoom, clear, wellFormed}
-use Rattle.channel.specs.Plain.{statusIn}
-use Rattle.channel.proofs.Sides.{channel-path, named}
-use Rattle.channel.proofs.Rules.{peopled}
+use Rattle.channel.proofs.Fields.{channel-path, peopled}
+use Rattle.channel.proofs.Statuses.{named}
 use Rattle.channel.proofs.Others.{others-in}
 use Rattle.channel.proofs.Proper.{Proper, well-says, well-passes}
 

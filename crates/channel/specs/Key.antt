@@ -1,18 +1,13 @@
--- Keys: which bytes are one, and the greater of two.
+-- Keys: which bytes are one.
 use Prim.Native.Nat.{ℕ}
-use mathlib.Core.Bool.{Bool, not, cond, _&&_}
+use mathlib.Core.Bool.{Bool, not, _&&_}
 use mathlib.Core.List.{List}
 use lib.ListN.{length}
 use lib.Dec.{leb}
 use Rattle.octets.specs.Bytes.{colon, isKeyByte}
 use Rattle.laws.specs.Lists.{all, startsWith}
-use Rattle.octets.specs.Order.{compare, isLess}
 use Rattle.channel.specs.Limits.{keyLimit}
 
 -- 1 to 23 bytes from 33 to 126 without comma, not starting with ':'
 unfoldable pub isKey : List ℕ → Bool
 isKey k = leb 1 (length k) && (leb (length k) keyLimit && (not (startsWith colon k) && all isKeyByte k))
-
--- the second where the first is smaller, else the first; the empty list stands for no key, and is smaller than any
-unfoldable pub greater : List ℕ → List ℕ → List ℕ
-greater a b = cond (isLess (compare a b)) b a

@@ -4,7 +4,6 @@ pub mod Key
 pub mod Channel
 pub mod Record
 pub mod WellFormed
-pub mod Merging
 pub mod Members
-pub mod Plain
+pub mod Standing
 pub mod Private

@@ -1,9 +1,11 @@
--- Member lists in their room, and a member removed.
+-- Member lists in their room, which ids and statuses they give, and a member removed.
 use Prim.Native.Nat.{ℕ}
 use mathlib.Core.Bool.{Bool, false, cond, _||_}
 use mathlib.Core.List.{List, [], _∷_}
+use lib.Bits.{bitOr}
 use lib.ListN.{length}
 use Rattle.laws.specs.Lists.{isNil, padded, same}
+use Rattle.laws.specs.Joins.{total}
 use Rattle.ascending.specs.Ascending.{unite}
 use Rattle.channel.specs.declared.Member.{Member}
 use Rattle.channel.specs.declared.Record.{Record}
@@ -24,6 +26,10 @@ ordered l = unite byId [] l
 unfoldable pub hasMember : List ℕ → List Member → Bool
 hasMember id [] = false
 hasMember id (m ∷ l) = same id (m .id) || hasMember id l
+
+-- the status that some members give an id: voice if one gives it voice, operator if one gives it operator
+unfoldable pub statusIn : List ℕ → List Member → ℕ
+statusIn id l = total bitOr 0 (λ m. cond (same id (m .id)) (m .status) 0) l
 
 -- all but those with the id
 unfoldable pub others : List ℕ → List Member → List Member

@@ -1,8 +1,7 @@
-// A channel's record (document 01, 'The channel record'): its limits, its modes, its key, its members, and two records merged by the rules of SJOIN.
-// Any record is taken; those that aren't well formed are refused, or answered by the definition that the contract cites.
+// A channel's record (document 01, 'The channel record'): its limits, its modes, its key, its members, and whether it is well formed. Any record is taken;
+// those that aren't well formed are answered by the definition that the contract cites.
 pub mod key;
 pub mod members;
-pub mod merging;
 pub mod modes;
 mod well;
 
@@ -12,17 +11,11 @@ ghost use Rattle.channel.specs.Limits.{memberLimit, keyLimit, timeLimit,
 ghost use Rattle.channel.specs.Channel.{voice, operator, voicePlace, operatorPlace};
 ghost use Rattle.channel.specs.Record.{emptyRecord};
 ghost use Rattle.channel.specs.WellFormed.{wellFormed, isBlank};
-ghost use Rattle.channel.specs.Merging.{mergeAnswer};
 use members::vacant;
-use merging::combine;
-use merging::refused;
 use names::NAME_LIMIT;
 use names::USER_ID;
-use names::equal;
 use octets::part;
 use octets::zero_from;
-use refusal::BAD_NAME;
-use refusal::NOT_WELL_FORMED;
 use well::good_member;
 use well::in_room;
 use well::member_bits;
@@ -104,13 +97,6 @@ impl Record {
             count: 0,
         }
     }
-}
-
-// The number of a refusal, or ACCEPTED, and the merged record, or the first one as given.
-#[repr(C)]
-pub struct Merged {
-    pub number: u8,
-    pub result: Record,
 }
 
 // Members in room for all that a record can have, those in use first, the unused places zero.
@@ -197,23 +183,4 @@ pub fn is_well_formed(r: Record) -> bool
     }
     let last = r.members[i];
     good_member(last)
-}
-
-// Two records of one channel merged by the rules of SJOIN, the first one's spelling kept. Refused where either isn't well formed, where their names
-// differ, and where more members would result than a record has room for.
-pub fn merge(a: Record, b: Record) -> Merged
-    ensures { λ r. ⌜ r ≡ mergeAnswer a b ⌝ }
-{
-    if !is_well_formed(a) {
-        return refused(NOT_WELL_FORMED, a);
-    }
-    if !is_well_formed(b) {
-        return refused(NOT_WELL_FORMED, a);
-    }
-    let name = a.name;
-    let other = b.name;
-    if !equal(part(&name, 0, a.name_len), part(&other, 0, b.name_len)) {
-        return refused(BAD_NAME, a);
-    }
-    combine(a, b)
 }

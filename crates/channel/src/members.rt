@@ -9,7 +9,7 @@ ghost use Rattle.ascending.specs.Ascending.{put};
 ghost use Rattle.channel.specs.Limits.{memberLimit};
 ghost use Rattle.channel.specs.Record.{nobody as nobodyOf, decode};
 ghost use Rattle.channel.specs.Channel.{byId};
-ghost use Rattle.channel.specs.Private.{Sorted};
+ghost use Rattle.channel.specs.Private.Rosters.{Sorted};
 ghost use Rattle.channel.specs.Members.{roster, ordered as orderedOf, hasMember, others as othersOf, without as withoutOf};
 use crate::Member;
 use crate::Record;
@@ -37,7 +37,7 @@ pub fn vacant() -> [Member; Record::MEMBERS]
 }
 
 // A number of members, or all that there is room for where it is more.
-pub(crate) fn within(n: usize) -> usize
+pub fn within(n: usize) -> usize
     ensures { λ r. ⌜ r ≡ min n memberLimit ⌝ }
 {
     if n < Record::MEMBERS {

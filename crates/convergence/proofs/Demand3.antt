@@ -16,16 +16,16 @@ use Rattle.names.specs.Fold.{fold, sameName}
 use Rattle.names.specs.Names.{nameLimit}
 use Rattle.names.proofs.Folds.{folds-name, length-folds}
 use Rattle.channel.specs.declared.Record.{Record}
-use Rattle.channel.specs.declared.Merged.{Merged}
 use Rattle.channel.specs.Limits.{memberLimit}
 use Rattle.channel.specs.Channel.{Channel}
 use Rattle.channel.specs.Record.{encode, emptyRecord}
-use Rattle.channel.specs.Merging.{merge, mergeAnswer}
-use Rattle.channel.specs.Plain.{everyone, plain, spelled}
 use Rattle.channel.proofs.Proper.{Proper}
-use Rattle.channel.proofs.Plains.{length-everyone, everyone-same, plain-name, plain-time, length-plain, merge-plain, plain-same}
-use Rattle.channel.proofs.Merges.{folded, folded-plain}
-use Rattle.channel.proofs.Answers.{answer-encoded}
+use Rattle.merging.specs.declared.Merged.{Merged}
+use Rattle.merging.specs.Merging.{merge, mergeAnswer}
+use Rattle.merging.specs.Plain.{everyone, plain, spelled}
+use Rattle.merging.proofs.Plains.{length-everyone, everyone-same, plain-name, length-plain, merge-plain, plain-same}
+use Rattle.merging.proofs.Merges.{folded, folded-plain}
+use Rattle.merging.proofs.Answers.{answer-encoded}
 use Rattle.table.specs.declared.Table.{Table}
 use Rattle.convergence.specs.Demands.{Join, Empty, numberAt, isGood, goodLines, tableAfter, channelOf, Kept, plainRecord, holding, firstSlot, Among, Alike, Demand3}
 use Rattle.convergence.specs.Ours.{ours, ourMerging}
@@ -48,7 +48,7 @@ good-proper start empty (j ∷ js) c i = go (isGood start j) refl (good-proper s
 -- ---- the plain record of proper lines
 module _ (l : List ℕ) (s : List (List ℕ)) (p : Proper-all (l ∷ s)) where
   folds-plain : folded (channelOf l) (map channelOf s) ≡ plain (channelOf l) (map channelOf s)
-  folds-plain = folded-plain (channelOf l) (map channelOf s) (λ c i. (p c i .ascending, p c i .from))
+  folds-plain = folded-plain (channelOf l) (map channelOf s) (λ c i. p c i .ascending)
 
   plain-proper : (name : List ℕ) → Sound name (map channelOf (l ∷ s)) → Proper (plain (channelOf l) (map channelOf s))
   plain-proper name h = rw folds-plain at (h .0)
@@ -147,7 +147,6 @@ merged m n (l ∷ s) (j ∷ t) p q h i k e f =
     is : merge a b ≡ plain (channelOf l) (map channelOf (s ++ j ∷ t))
     is =
         merge-plain (channelOf l) (channelOf j) (map channelOf s) (map channelOf t)
-        (rw (← plain-time (channelOf l) (map channelOf s)) (a-proper .from)) (rw (← plain-time (channelOf j) (map channelOf t)) (b-proper .from))
         ∙ ap (plain (channelOf l)) (sym (map-append channelOf s (j ∷ t)))
 
     named : sameName (a .name) (b .name) ≡ true

@@ -19,15 +19,15 @@ use Rattle.ascending.specs.Ascending.{insert, put, unite}
 use Rattle.laws.proofs.Lists.{all-replicate}
 use Rattle.message.specs.Reading.{contentOf}
 use Rattle.channel.specs.declared.Record.{Record}
-use Rattle.channel.specs.declared.Merged.{Merged}
 use Rattle.channel.specs.Limits.{slotCount}
 use Rattle.channel.specs.Record.{encode, emptyRecord}
 use Rattle.channel.specs.WellFormed.{wellFormed}
-use Rattle.channel.specs.Merging.{mergeRules}
-use Rattle.channel.specs.Plain.{earliest, entries, everyone}
 use Rattle.channel.proofs.Examples.{2cd, 1ab, stored, incoming}
 use Rattle.channel.proofs.Blank.{empty-free}
-use Rattle.channel.proofs.Plains.{plain-time}
+use Rattle.merging.specs.declared.Merged.{Merged}
+use Rattle.merging.specs.Merging.{mergeRules}
+use Rattle.merging.specs.Plain.{earliest, entries, everyone}
+use Rattle.merging.proofs.Plains.{plain-time}
 use Rattle.links.specs.Links.{hasLink, setBelow, lessLink, relaySet, linksFrom, linksIn}
 use Rattle.table.specs.declared.Table.{Table}
 use Rattle.table.specs.Network.{networkOf, withNetwork, withSlots}

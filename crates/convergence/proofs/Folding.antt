@@ -19,12 +19,13 @@ use Rattle.channel.specs.declared.Record.{Record}
 use Rattle.channel.specs.Limits.{memberLimit, slotCount}
 use Rattle.channel.specs.Channel.{Channel, byId}
 use Rattle.channel.specs.Record.{encode, decode, emptyRecord}
-use Rattle.channel.specs.Merging.{merge}
-use Rattle.channel.specs.Plain.{everyone}
 use Rattle.channel.proofs.Records.{decode-encode}
-use Rattle.channel.proofs.Proper.{Proper, proper-fits, encode-well, proper-merge}
-use Rattle.channel.proofs.Plains.{length-everyone}
-use Rattle.channel.proofs.Merges.{folded, folded-name, folded-snoc, length-folded}
+use Rattle.channel.proofs.Proper.{Proper, proper-fits, encode-well}
+use Rattle.merging.specs.Merging.{merge}
+use Rattle.merging.specs.Plain.{everyone}
+use Rattle.merging.proofs.Proper.{proper-merge}
+use Rattle.merging.proofs.Plains.{length-everyone}
+use Rattle.merging.proofs.Merges.{folded, folded-name, folded-snoc, length-folded}
 use Rattle.table.specs.declared.Table.{Table}
 use Rattle.table.specs.declared.Slot.the-variants.{Held, Free}
 use Rattle.table.specs.Network.{Network, networkOf, withNetwork, withSlots}

@@ -27,8 +27,8 @@ use Rattle.channel.specs.Modes.{withMode, placeAmong}
 use Rattle.channel.specs.Key.{isKey}
 use Rattle.channel.specs.Channel.{Channel, member}
 use Rattle.channel.specs.Record.{emptyRecord}
-use Rattle.channel.specs.Plain.{everyone}
 use Rattle.channel.proofs.Examples.{2cd, 1ab, stored, incoming}
+use Rattle.merging.specs.Plain.{everyone}
 use Rattle.links.specs.Links.{hasLink, links}
 use Rattle.table.specs.declared.Table.{Table}
 use Rattle.sjoin.specs.Modes.{once, goodLetters, modesByte, parametered, isLimit, goodArgument, goodArguments, argumentOf, goodModes}

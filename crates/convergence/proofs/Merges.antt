@@ -6,8 +6,8 @@ use Rattle.refusal.specs.Numbers.{accepted}
 use Rattle.refusal.proofs.Rules.{first-listed}
 use Rattle.channel.specs.declared.Record.{Record}
 use Rattle.channel.specs.Record.{encode, decode}
-use Rattle.channel.specs.Merging.{merge, mergeRules, mergeAnswer}
-use Rattle.channel.proofs.Rules.{rules-ascend}
+use Rattle.merging.specs.Merging.{merge, mergeRules, mergeAnswer}
+use Rattle.merging.proofs.Rules.{rules-ascend}
 use Rattle.convergence.specs.Demands.{ruledMerge, Listed, Merges}
 use Rattle.convergence.specs.Ours.{ourMerging}
 

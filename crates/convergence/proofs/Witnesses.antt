@@ -11,14 +11,16 @@ use Rattle.laws.specs.Bits.{hasBit}
 use Rattle.laws.specs.Lists.{sameBy}
 use Rattle.octets.specs.Order.{compare}
 use Rattle.ascending.specs.Ascending.{insert, put, unite}
-use Rattle.channel.specs.declared.Merged.{Merged}
-use Rattle.channel.specs.Key.{greater}
 use Rattle.channel.specs.Channel.{Channel, member}
 use Rattle.channel.specs.Record.{encode, decode, emptyRecord}
 use Rattle.channel.specs.Modes.{withMode}
-use Rattle.channel.specs.Merging.{merge, mergeAnswer}
-use Rattle.channel.specs.Plain.{earliest, counts, entries, everyone, statusIn, statusAt, plain}
+use Rattle.channel.specs.Standing.{counts}
+use Rattle.channel.specs.Members.{statusIn}
 use Rattle.channel.proofs.Examples.{2cd, 1ab, stored, incoming}
+use Rattle.merging.specs.declared.Merged.{Merged}
+use Rattle.merging.specs.Key.{greater}
+use Rattle.merging.specs.Merging.{merge, mergeAnswer}
+use Rattle.merging.specs.Plain.{earliest, entries, everyone, statusAt, plain}
 use Rattle.links.specs.Links.{hasLink}
 use Rattle.table.specs.Network.{networkOf, withNetwork, withSlots}
 use Rattle.relay.specs.Arrival.{arrival}

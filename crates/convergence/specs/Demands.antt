@@ -16,12 +16,12 @@ use Rattle.octets.specs.Room.{front}
 use Rattle.names.specs.Fold.{fold}
 use Rattle.message.specs.Reading.{isRead, contentOf}
 use Rattle.channel.specs.declared.Record.{Record}
-use Rattle.channel.specs.declared.Merged.{Merged}
 use Rattle.channel.specs.Limits.{memberLimit, slotCount}
 use Rattle.channel.specs.Channel.{Channel}
 use Rattle.channel.specs.Record.{encode, decode, emptyRecord}
-use Rattle.channel.specs.Merging.{merge, mergeRules}
-use Rattle.channel.specs.Plain.{everyone, plain}
+use Rattle.merging.specs.declared.Merged.{Merged}
+use Rattle.merging.specs.Merging.{merge, mergeRules}
+use Rattle.merging.specs.Plain.{everyone, plain}
 use Rattle.links.specs.Links.{hasLink, linksIn}
 use Rattle.table.specs.declared.Table.{Table}
 use Rattle.table.specs.Network.{networkOf, withNetwork, withSlots}

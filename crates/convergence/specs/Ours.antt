@@ -1,7 +1,7 @@
 -- The relay's own taking and merging: what `process` (crate relay) and `merge` (crate channel) answer, by the contracts of `taking` and `merging` (src/lib.rt).
 use lib.ListN.{length}
 use Rattle.octets.specs.Room.{front}
-use Rattle.channel.specs.Merging.{mergeAnswer}
+use Rattle.merging.specs.Merging.{mergeAnswer}
 use Rattle.relay.specs.Relay.{processAnswer, sent}
 use Rattle.convergence.specs.Demands.{Taking, Merging}
 

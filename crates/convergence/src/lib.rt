@@ -3,8 +3,8 @@
 ghost use mathlib.Core.Path.{_≡_};
 ghost use Rattle.relay.specs.Arrival.{arrival};
 ghost use Rattle.convergence.specs.Ours.{ours, ourMerging};
-use channel::Merged;
 use channel::Record;
+use merging::Merged;
 use relay::Taken;
 use table::Table;
 
@@ -20,5 +20,5 @@ pub fn taking(t: Table, link: u32, line: &[u8], out: &mut [u8]) -> Taken
 pub fn merging(a: Record, b: Record) -> Merged
     ensures { λ r. ⌜ r ≡ ourMerging a b ⌝ }
 {
-    channel::merge(a, b)
+    merging::merge(a, b)
 }

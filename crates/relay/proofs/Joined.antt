@@ -20,8 +20,8 @@ use Rattle.message.proofs.Readings.{refused-number}
 use Rattle.channel.specs.Limits.{memberLimit}
 use Rattle.channel.specs.Channel.{Channel}
 use Rattle.channel.specs.Record.{encode, decode, emptyRecord}
-use Rattle.channel.specs.Merging.{merge}
 use Rattle.channel.proofs.Proper.{Proper}
+use Rattle.merging.specs.Merging.{merge}
 use Rattle.links.specs.declared.Links.{Links}
 use Rattle.links.specs.Links.{hasLink}
 use Rattle.table.specs.declared.Table.{Table}

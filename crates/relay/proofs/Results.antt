@@ -20,15 +20,16 @@ use Rattle.names.specs.Fold.{sameName}
 use Rattle.names.specs.Names.{isChannel}
 use Rattle.names.proofs.Folds.{name-refl, name-lengths}
 use Rattle.channel.specs.declared.Record.{Record}
-use Rattle.channel.specs.declared.Merged.{Merged}
 use Rattle.channel.specs.Limits.{memberLimit}
 use Rattle.channel.specs.Channel.{Channel}
 use Rattle.channel.specs.Record.{encode, decode, emptyRecord}
-use Rattle.channel.specs.Merging.{merge, roomRules, mergeRules, mergeAnswer, combined}
 use Rattle.channel.specs.WellFormed.{wellFormed}
-use Rattle.channel.proofs.Proper.{Proper, proper-fits, well-says, encode-well, proper-merge}
+use Rattle.channel.proofs.Proper.{Proper, proper-fits, well-says, encode-well}
 use Rattle.channel.proofs.Records.{decode-encode}
-use Rattle.channel.proofs.Answers.{combined-merge}
+use Rattle.merging.specs.declared.Merged.{Merged}
+use Rattle.merging.specs.Merging.{merge, roomRules, mergeRules, mergeAnswer, combined}
+use Rattle.merging.proofs.Proper.{proper-merge}
+use Rattle.merging.proofs.Answers.{combined-merge}
 use Rattle.table.specs.declared.Slot.{Slot}
 use Rattle.table.specs.declared.Slot.the-variants.{Held, Free, Full}
 use Rattle.table.specs.Network.{Network}

@@ -12,13 +12,14 @@ use Rattle.refusal.proofs.Rules.{append-none, both-none}
 use Rattle.laws.proofs.Lists.{take-map}
 use Rattle.message.specs.Reading.{isRead, messageOf}
 use Rattle.channel.specs.declared.Record.{Record}
-use Rattle.channel.specs.declared.Merged.{Merged}
 use Rattle.channel.specs.Limits.{slotCount}
 use Rattle.channel.specs.Channel.{Channel}
 use Rattle.channel.specs.Record.{encode, decode, emptyRecord}
-use Rattle.channel.specs.Merging.{stands, standing, bare, combined}
+use Rattle.channel.specs.Standing.{counts, standing, bare}
 use Rattle.channel.proofs.Proper.{Proper, proper-fits}
 use Rattle.channel.proofs.Records.{decode-encode}
+use Rattle.merging.specs.declared.Merged.{Merged}
+use Rattle.merging.specs.Merging.{combined}
 use Rattle.table.specs.declared.Found.{Found}
 use Rattle.table.specs.declared.Slot.{Slot}
 use Rattle.table.specs.declared.Slot.the-variants.{Held, Free, Full}
@@ -46,7 +47,7 @@ use Rattle.relay.proofs.Results.{back, held-inside, held-number, held-a
 
 -- ---- what goes out of an incoming record
 told-stands : (result incoming : Record) → decode (toldOf result incoming) ≡ outgoing (decode result) (decode incoming)
-unfolding toldOf decode outgoing stands standing bare
+unfolding toldOf decode outgoing counts standing bare
 told-stands result incoming = go (eqb (incoming .time) (result .time)) refl
   where
     go : (t : Bool) → eqb (incoming .time) (result .time) ≡ t → decode (toldOf result incoming) ≡ outgoing (decode result) (decode incoming)

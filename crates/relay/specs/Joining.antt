@@ -4,7 +4,8 @@ use lib.ListN.{set}
 use Rattle.refusal.specs.Rules.{Rule}
 use Rattle.channel.specs.Channel.{Channel}
 use Rattle.channel.specs.Record.{encode, decode}
-use Rattle.channel.specs.Merging.{given, standing, merge, roomRules}
+use Rattle.channel.specs.Standing.{given, standing}
+use Rattle.merging.specs.Merging.{merge, roomRules}
 use Rattle.table.specs.declared.Slot.{Slot}
 use Rattle.table.specs.declared.Slot.the-variants.{Held, Free, Full}
 use Rattle.table.specs.Network.{Network, withSlots}

@@ -2,7 +2,7 @@
 ghost use mathlib.Core.Path.{_≡_};
 ghost use Prim.Native.Nat.{_≤_};
 ghost use lib.ListN.{length};
-ghost use Rattle.channel.specs.Merging.{bare as bareOf};
+ghost use Rattle.channel.specs.Standing.{bare as bareOf};
 ghost use Rattle.message.specs.Grammar.{lineLimit};
 ghost use Rattle.message.specs.Parts.{contentBy};
 ghost use Rattle.relay.specs.declared.Command.the-variants.{Sjoin};
@@ -18,7 +18,7 @@ use crate::judging::refusal;
 use crate::requests::nothing;
 use channel::Member;
 use channel::Record;
-use channel::merging::combine;
+use merging::combine;
 use message::Message;
 use names::USER_ID;
 use refusal::ACCEPTED;

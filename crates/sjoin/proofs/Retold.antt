@@ -11,7 +11,7 @@ use Rattle.refusal.specs.Numbers.{accepted}
 use Rattle.refusal.specs.Rules.{firstOf}
 use Rattle.octets.specs.Bytes.{capital}
 use Rattle.names.specs.Names.{isChannel, isServerId}
-use Rattle.channel.proofs.Proper.{sided, proper-sided}
+use Rattle.channel.proofs.Standing.{sided, proper-sided}
 use Rattle.message.specs.Content.{Content}
 use Rattle.message.specs.Reading.{isRead, contentOf}
 use Rattle.message.proofs.Readings.{read-small}

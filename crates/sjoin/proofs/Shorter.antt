@@ -28,11 +28,11 @@ use Rattle.channel.specs.Limits.{limitLimit}
 use Rattle.channel.specs.Modes.{letters, modeCount, keyMode, limitMode, hasMode, withMode, placeAmong, modePlace}
 use Rattle.channel.specs.Channel.{Channel, voicePlace, operatorPlace, voice, operator, member, byId}
 use Rattle.channel.specs.Members.{ordered}
-use Rattle.channel.specs.Merging.{stands, bare, standing}
+use Rattle.channel.specs.Standing.{counts, bare, standing}
 use Rattle.channel.specs.WellFormed.{goodMember}
 use Rattle.channel.proofs.Letters.{has-no-mode, has-either, has-with}
-use Rattle.channel.proofs.Sides.{length-standing}
-use Rattle.channel.proofs.Proper.{Proper, sided, proper-sided}
+use Rattle.channel.proofs.Standing.{length-standing, sided, proper-sided}
+use Rattle.channel.proofs.Proper.{Proper}
 use Rattle.message.specs.Grammar.{isMiddle}
 use Rattle.message.specs.Content.{Content}
 use Rattle.message.specs.Words.{wordsOf}
@@ -241,7 +241,7 @@ list-length (m ∷ l) = λ h. omega (arith, length-append (entryOf m) (following
 module _ (c : Channel) (list : List ℕ) (is : c .members ≡ ordered (named list)) (time : ℕ) where
   standing-takes : weight takes (standing time c) ≤ suc (length list)
   unfolding standing
-  standing-takes = go (stands time c)
+  standing-takes = go (counts time c)
     where
       go : (t : Bool) → weight takes (cond t (c .members) (bare (c .members))) ≤ suc (length list)
       go true = rw is (listed-takes list)
@@ -336,6 +336,6 @@ module _ (c : Content) (none : firstOf (joinRules c) ≡ accepted) (p : Proper (
       (parts (c .params) (bounds c (good .count) .0) (bounds c (good .count) .1))
       (sym source)
       (omega (arith, command))
-      (omega (arith, before-room a b (digitsOf time) name (modesText (o .modes)) (o .key) (digitsOf (o .limit)), time-shorter time until, letters-shorter (stands time ch), arguments-shorter (stands time ch)))
+      (omega (arith, before-room a b (digitsOf time) name (modesText (o .modes)) (o .key) (digitsOf (o .limit)), time-shorter time until, letters-shorter (counts time ch), arguments-shorter (counts time ch)))
       (list-shorter ch (listIn c) refl time (p .some))
       (λ m. entry-alone (o .members) (q .some) (standing-one ch (listIn c) refl time m) (q .listed))

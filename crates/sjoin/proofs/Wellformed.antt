@@ -24,7 +24,7 @@ use Rattle.channel.specs.Record.{encode}
 use Rattle.channel.specs.WellFormed.{bothStatuses, goodMember, wellFormed}
 use Rattle.channel.proofs.Keys.{key-some}
 use Rattle.channel.proofs.Letters.{has-no-mode, has-either, has-with, one-small}
-use Rattle.channel.proofs.Sides.{stays-byId}
+use Rattle.channel.proofs.Statuses.{stays-byId}
 use Rattle.channel.proofs.Proper.{Proper, member-passes, both-statuses, encode-well}
 use Rattle.message.specs.Grammar.{lineLimit}
 use Rattle.message.specs.Content.{Content}

@@ -5,10 +5,11 @@ use lib.ListN.{getD, replicate}
 use lib.Dec.{eqb}
 use Rattle.refusal.specs.Numbers.{accepted, noFreeSlot}
 use Rattle.channel.specs.declared.Record.{Record}
-use Rattle.channel.specs.declared.Merged.{Merged}
 use Rattle.channel.specs.Limits.{keyLimit}
 use Rattle.channel.specs.Record.{encode}
-use Rattle.channel.specs.Merging.{bare, combined}
+use Rattle.channel.specs.Standing.{bare}
+use Rattle.merging.specs.declared.Merged.{Merged}
+use Rattle.merging.specs.Merging.{combined}
 use Rattle.table.specs.declared.Slot.{Slot}
 use Rattle.table.specs.declared.Slot.the-variants.{Held, Free, Full}
 use Rattle.sjoin.specs.Join.{channelIn}

@@ -13,7 +13,7 @@ use Rattle.channel.specs.Limits.{memberLimit}
 use Rattle.channel.specs.Members.{hasMember}
 use Rattle.channel.specs.Record.{decode}
 use Rattle.channel.proofs.Others.{has-stop, has-go, has-past}
-use Rattle.channel.proofs.Tests.{take-within}
+use Rattle.channel.proofs.Fronts.{take-within}
 use Rattle.channel.proofs.members.has_member.Statement.{statement}
 use Rattle.channel.proofs.members.has_member.Tie as tie
 

@@ -12,7 +12,7 @@ use Rattle.channel.specs.Members.{roster, others}
 use Rattle.channel.specs.Record.{decode}
 use Rattle.channel.proofs.Gathering.{Gathers, gathers-more, gathers-roster}
 use Rattle.channel.proofs.Others.{others-gone, others-stay}
-use Rattle.channel.proofs.Tests.{take-within}
+use Rattle.channel.proofs.Fronts.{take-within}
 use Rattle.channel.proofs.members.others.Statement.{statement}
 use Rattle.channel.proofs.members.others.Tie as tie
 

@@ -9,7 +9,7 @@ use Rattle.laws.proofs.Mapped.{mapped, mapped-none, mapped-step, mapped-all}
 use Rattle.channel.specs.declared.Member.{Member}
 use Rattle.channel.specs.Limits.{memberLimit}
 use Rattle.channel.specs.Channel.{member}
-use Rattle.channel.specs.Merging.{bare}
+use Rattle.channel.specs.Standing.{bare}
 use Rattle.relay.proofs.joining.bare.Statement.{statement}
 use Rattle.relay.proofs.joining.bare.Tie as tie
 

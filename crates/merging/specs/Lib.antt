@@ -1,0 +1,4 @@
+pub mod Key
+pub mod Merging
+pub mod Plain
+pub mod Private

@@ -1,0 +1,3 @@
+-- What private functions ask and promise. No public contract cites this: nobody needs to believe it.
+pub mod Sides
+pub mod Uniting
