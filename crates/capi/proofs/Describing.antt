@@ -1,6 +1,6 @@
 -- Laws of a record's text: it is never empty, so that nothing written means that it doesn't fit; and which rule then decides. Assumes nothing.
 use Prim.Native.Nat.{ℕ, _<_}
-use mathlib.Core.Path.{_≡_, refl, sym, ap, _∙_}
+use mathlib.Core.Path.{_≡_, refl, ap, _∙_}
 use mathlib.Core.Bool.{Bool, true, false, not, cond}
 use mathlib.Core.List.{List, [], _∷_}
 use native.Mathlib.Omega.{arith}
@@ -17,7 +17,7 @@ use Rattle.channel.specs.declared.Record.{Record}
 use Rattle.channel.specs.Channel.{Channel}
 use Rattle.channel.specs.Record.{decode}
 use Rattle.channel.specs.WellFormed.{wellFormed}
-use Rattle.sjoin.specs.Telling.{paramsOf, described, describedIn}
+use Rattle.telling.specs.Telling.{paramsOf, described, describedIn}
 use Rattle.capi.specs.Describing.{describeRules}
 
 -- it begins with the digits of the time

@@ -8,7 +8,7 @@ use Rattle.octets.specs.Room.{fits}
 use Rattle.channel.specs.declared.Record.{Record}
 use Rattle.channel.specs.Record.{decode}
 use Rattle.channel.specs.WellFormed.{wellFormed}
-use Rattle.sjoin.specs.Telling.{described}
+use Rattle.telling.specs.Telling.{described}
 
 -- the record isn't well formed, or its text doesn't fit the output
 unfoldable pub describeRules : Record → List ℕ → List Rule

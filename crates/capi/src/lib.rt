@@ -20,7 +20,7 @@ ghost use Rattle.glob.specs.Mask.{answerFor as matchAnswer};
 ghost use Rattle.channel.specs.Record.{decode};
 ghost use Rattle.merging.specs.Merging.{mergeAnswer};
 ghost use Rattle.table.specs.Table.{emptyTable, registerAnswer, unregisterAnswer};
-ghost use Rattle.sjoin.specs.Telling.{described};
+ghost use Rattle.telling.specs.Telling.{described};
 ghost use Rattle.relay.specs.Arrival.{arrival};
 ghost use Rattle.relay.specs.Relay.{processAnswer, sent};
 ghost use Rattle.journal.specs.Journal.{logRules, recordOf, answerFor as logAnswer};
@@ -166,7 +166,7 @@ pub extern "C" fn relay_describe(r: Record, out: &mut [u8]) -> Written
             len: 0,
         };
     }
-    let len = sjoin::describe(r, out);
+    let len = telling::describe(r, out);
     if len == 0 {
         return Written {
             number: NO_ROOM,

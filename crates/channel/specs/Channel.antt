@@ -27,6 +27,10 @@ voice = 2 ^ voicePlace
 abbrev pub operator : ℕ
 operator = 2 ^ operatorPlace
 
+-- '@', the mark of an operator
+abbrev pub at : ℕ
+at = 64
+
 abbrev pub member : List ℕ → ℕ → Member
 member id status = record { id = id; status = status }
 

@@ -20,6 +20,10 @@ keyMode = 6
 abbrev pub limitMode : ℕ
 limitMode = 7
 
+-- '+', the sign before the letters of modes, and the mark of a member with voice
+abbrev pub plus : ℕ
+plus = 43
+
 -- the byte has the mode at a place
 abbrev pub hasMode : ℕ → ℕ → Bool
 hasMode modes place = hasBit modes place

@@ -4,15 +4,15 @@ ghost use mathlib.Core.List.{[], _∷_, _++_};
 ghost use lib.ListN.{length};
 ghost use Rattle.octets.specs.Bytes.{lf};
 ghost use Rattle.channel.specs.Record.{decode};
-ghost use Rattle.sjoin.specs.Telling.{described};
+ghost use Rattle.telling.specs.Telling.{described};
 ghost use Rattle.console.specs.Stands.{answerRoom, Stands};
 use crate::answers::ROOM;
 use crate::answers::print;
 use channel::Record;
 use octets::part;
 use octets::put;
-use sjoin::describe;
 use table::Table;
+use telling::describe;
 
 // A channel's line: what an SJOIN tells of it, and LF.
 fn put_channel(r: Record, out: &mut [u8]) -> usize

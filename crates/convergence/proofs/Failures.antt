@@ -34,7 +34,7 @@ use Rattle.table.specs.Network.{networkOf, withNetwork, withSlots}
 use Rattle.table.specs.Table.{isFree}
 use Rattle.table.proofs.Alone.{free-slot}
 use Rattle.table.proofs.Changing.{well-used}
-use Rattle.sjoin.specs.Telling.{sjoin}
+use Rattle.telling.specs.Telling.{sjoin}
 use Rattle.relay.specs.declared.Taken.{Taken}
 use Rattle.relay.specs.Arrival.{arrival}
 use Rattle.relay.specs.Relay.{networkBy}

@@ -32,7 +32,7 @@ use Rattle.table.specs.Network.{Network, networkOf, withNetwork, withSlots}
 use Rattle.table.specs.Table.{goodTable}
 use Rattle.table.specs.Slots.{slotFor}
 use Rattle.table.proofs.Alone.{free-good, free-slot, alone-good, held-first, encoded-holds}
-use Rattle.sjoin.specs.Telling.{sjoin}
+use Rattle.telling.specs.Telling.{sjoin}
 use Rattle.relay.specs.declared.Taken.{Taken}
 use Rattle.relay.specs.Arrival.{said}
 use Rattle.relay.specs.Joining.{joined}

@@ -19,7 +19,7 @@ use Rattle.octets.specs.Decimals.{leadsWithZero, isDecimal, valueFrom}
 use Rattle.names.specs.Fold.{fold}
 use Rattle.names.specs.Names.{isChannel, isServerId, isUserId}
 use Rattle.message.specs.Grammar.{lineLimit, word, spaces, prefix, prefixEnd, commandStart, command, commandEnd, isCommand, rest, params}
-use Rattle.message.specs.Content.{contentIn}
+use Rattle.message.specs.Content.{contentIn, prefixIs}
 use Rattle.message.specs.Words.{wordsAt}
 use Rattle.message.specs.Reading.{crlf, endsLine, bodyOf, bodyRules, lineRules, numberFor, isRead, contentOf}
 use Rattle.channel.specs.Limits.{memberLimit, slotCount}
@@ -31,10 +31,10 @@ use Rattle.channel.proofs.Examples.{2cd, 1ab, stored, incoming}
 use Rattle.merging.specs.Plain.{everyone}
 use Rattle.links.specs.Links.{hasLink, links}
 use Rattle.table.specs.declared.Table.{Table}
-use Rattle.sjoin.specs.Modes.{once, goodLetters, modesByte, parametered, isLimit, goodArgument, goodArguments, argumentOf, goodModes}
+use Rattle.sjoin.specs.Modes.{once, goodLetters, modesByte, parametered, isLimit, goodArgument, goodArguments, argumentOf, isModes}
 use Rattle.sjoin.specs.Entries.{past, idOf, statusOf, isEntry, memberOf, goodEntries}
-use Rattle.sjoin.specs.Join.{argumentsIn, isSource, goodCount, goodTime, joinRules, channelIn}
-use Rattle.sjoin.specs.Telling.{sjoin}
+use Rattle.sjoin.specs.Join.{argumentsIn, goodCount, isTime, joinRules, channelIn}
+use Rattle.telling.specs.Telling.{sjoin}
 use Rattle.sjoin.proofs.Examples.{line, line-tells}
 use Rattle.relay.specs.Arrival.{arrival}
 use Rattle.relay.proofs.Joined.{IsJoin}
@@ -67,7 +67,7 @@ abbrev judge : List ℕ → ℕ
 judge l = firstOf (lineRules l ++ joinRules (contentOf l))
 
 judged : map judge (earlier ∷ later ∷ equal ∷ unread ∷ untimed ∷ []) ≡ accepted ∷ accepted ∷ accepted ∷ emptyPrefix ∷ zeroTime ∷ []
-unfolding earlier line equal unread untimed joinRules goodCount isSource goodTime isDecimal leadsWithZero valueFrom isDigit isChannel isNameByte isServerId isUserId isIdByte goodModes goodLetters once parametered goodArguments goodArgument isKey isKeyByte isLimit argumentsIn placeAmong goodEntries isEntry idOf past wordsAt contentOf contentIn isRead numberFor lineRules bodyRules firstOf endsLine sameBy bodyOf all isPlain startsWith prefix word prefixEnd commandStart spaces command isCommand isLetter within commandEnd rest params
+unfolding earlier line equal unread untimed joinRules goodCount prefixIs isTime isDecimal leadsWithZero valueFrom isDigit isChannel isNameByte isServerId isUserId isIdByte isModes goodLetters once parametered goodArguments goodArgument isKey isKeyByte isLimit argumentsIn placeAmong goodEntries isEntry idOf past wordsAt contentOf contentIn isRead numberFor lineRules bodyRules firstOf endsLine sameBy bodyOf all isPlain startsWith prefix word prefixEnd commandStart spaces command isCommand isLetter within commandEnd rest params
 judged = refl
 
 -- the commands, and the line that isn't read

@@ -26,7 +26,7 @@ use Rattle.links.specs.Links.{hasLink, linksIn}
 use Rattle.table.specs.declared.Table.{Table}
 use Rattle.table.specs.Network.{networkOf, withNetwork, withSlots}
 use Rattle.sjoin.specs.Join.{channelIn}
-use Rattle.sjoin.specs.Telling.{sjoin}
+use Rattle.telling.specs.Telling.{sjoin}
 use Rattle.relay.specs.declared.Taken.{Taken}
 use Rattle.relay.specs.Arrival.{Arrival}
 use Rattle.relay.specs.Relay.{networkBy, messageBy, relayed, processRules, refused}

@@ -32,6 +32,11 @@ module _ {A : Type 0} (join : A → A → A) (none : A) (J : Joining join none) 
   join-left a b c = sym (J .assoc a b c) ∙ ap (λ (x : A). join x c) (J .comm a b) ∙ J .assoc b a c
 
 -- ---- totals
+-- of mapped elements
+pub total-map : {A X Y : Type 0} (join : A → A → A) (none : A) (f : Y → A) (g : X → Y) (s : List X) → total join none f (map g s) ≡ total join none (λ x. f (g x)) s
+total-map join none f g [] = refl
+total-map join none f g (x ∷ s) = ap (join (f (g x))) (total-map join none f g s)
+
 module _ {A X : Type 0} (join : A → A → A) (none : A) (J : Joining join none) (f : X → A) where
   pub total-append : (s t : List X) → total join none f (s ++ t) ≡ join (total join none f s) (total join none f t)
   total-append [] t = sym (J .unit _)

@@ -7,3 +7,4 @@ pub mod Joins
 pub mod Bitwise
 pub mod Mapped
 pub mod Replaced
+pub mod Texts

@@ -129,10 +129,14 @@ module _ {A : Type 0} (p : A → Bool) where
   all-imp q f [] h = refl
   all-imp q f (x ∷ s) h = and-intro (q x) (all q s) (f x (all-head x s h)) (all-imp q f s (all-tail x s h))
 
-  pub all-map : (f : A → A) → ((x : A) → p x ≡ true → p (f x) ≡ true) → (s : List A) → all p s ≡ true → all p (map f s) ≡ true
+  -- what is made of each passes another test
+  pub all-imp-map : {B : Type 0} (q : B → Bool) (f : A → B) → ((x : A) → p x ≡ true → q (f x) ≡ true) → (s : List A) → all p s ≡ true → all q (map f s) ≡ true
   unfolding all
-  all-map f keeps [] h = refl
-  all-map f keeps (x ∷ s) h = and-intro (p (f x)) (all p (map f s)) (keeps x (all-head x s h)) (all-map f keeps s (all-tail x s h))
+  all-imp-map q f g [] h = refl
+  all-imp-map q f g (x ∷ s) h = and-intro (q (f x)) (all q (map f s)) (g x (all-head x s h)) (all-imp-map q f g s (all-tail x s h))
+
+  pub all-map : (f : A → A) → ((x : A) → p x ≡ true → p (f x) ≡ true) → (s : List A) → all p s ≡ true → all p (map f s) ≡ true
+  all-map = all-imp-map p
 
 -- ---- a list of tests that all pass
 abbrev pub Passed : List Bool → Type 0

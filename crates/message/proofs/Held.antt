@@ -4,7 +4,7 @@ use mathlib.Core.Path.{_≡_, refl, sym, ap, _∙_}
 use mathlib.Core.Bool.{Bool, true, false, cond}
 use mathlib.Core.List.{List, [], _∷_, map}
 use mathlib.Core.Option.{Option, some, none, Option·getD}
-use Prim.Native.Nat.{ℕ, _-_, _≤_, _<_}
+use Prim.Native.Nat.{ℕ, _-_, _≤_, _<_, min}
 use native.Mathlib.Omega.{arith}
 use lib.ListN.{length, take, getD, length-map, length-take, List·getD-map, List·getD-eq-default}
 use lib.Seq.{getD-take}
@@ -46,6 +46,11 @@ module _ (text : List ℕ) (m : Message) where
   pub prefix-span-none : m .«has_prefix» ≡ false → emptyAt (length text) ≡ prefixSpan (length text) m
   unfolding prefixSpan
   prefix-span-none h = rw h
+
+  -- It holds as many parameters as it counts, if it has room for them.
+  pub params-count : length (m .params) ≡ paramLimit → length (contentBy text m .params) ≡ min (m .count) paramLimit
+  unfolding contentBy
+  params-count e = length-map (take (m .count) (m .params)) (bytesAt text) ∙ length-take (m .count) (m .params) ∙ ap (min (m .count)) e
 
   module _ (k : ℕ) where
     pub param-held : bytesAt text (paramSpan (length text) m k) ≡ getD (contentBy text m .params) k []

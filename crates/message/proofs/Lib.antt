@@ -9,3 +9,4 @@ pub mod Examples
 pub mod Splits
 pub mod Sizes
 pub mod Words
+pub mod Prefixes

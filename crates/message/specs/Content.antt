@@ -1,6 +1,6 @@
 -- A message: perhaps a prefix, a command, parameters, each the bytes that it has.
 use Prim.Native.Nat.{ℕ}
-use mathlib.Core.Bool.{cond}
+use mathlib.Core.Bool.{Bool, false, cond}
 use mathlib.Core.List.{List, [], map}
 use mathlib.Core.Option.{Option, some, none}
 use Rattle.message.specs.Grammar as grammar
@@ -9,6 +9,11 @@ pub record Content : Type 0 where
   pub prefix : Option (List ℕ)
   pub command : List ℕ
   pub params : List (List ℕ)
+
+-- the prefix is there, and the test says yes of it
+unfoldable pub prefixIs : (List ℕ → Bool) → Option (List ℕ) → Bool
+prefixIs test none = false
+prefixIs test (some p) = test p
 
 -- the bytes of each part
 abbrev pub bytesOf : List grammar.Part → List (List ℕ)

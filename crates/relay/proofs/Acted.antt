@@ -15,7 +15,7 @@ use Rattle.writer.specs.Writing.{forwarded}
 use Rattle.writer.proofs.Rounds.{read-forwards}
 use Rattle.channel.specs.declared.Record.{Record}
 use Rattle.channel.specs.Record.{decode}
-use Rattle.sjoin.specs.Telling.{joinMessage, tellRules}
+use Rattle.telling.specs.Telling.{joinMessage, tellRules}
 use Rattle.relay.specs.declared.Change.{Change}
 use Rattle.relay.specs.declared.Sending.{Sending}
 use Rattle.relay.specs.declared.Sending.the-variants.{Silent, AsRead, Anew}

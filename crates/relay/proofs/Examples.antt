@@ -10,7 +10,7 @@ use lib.Dec.{ltb}
 use Rattle.refusal.specs.Numbers.{accepted}
 use Rattle.refusal.specs.Rules.{firstOf}
 use Rattle.octets.specs.Bytes.{within, isPlain, isLetter, isDigit, isIdByte, isNameByte, isKeyByte, capital}
-use Rattle.laws.specs.Lists.{all, sameBy, padded, startsWith}
+use Rattle.laws.specs.Lists.{all, sameBy, padded, startsWith, separated, prefixed}
 use Rattle.octets.specs.Order.{compare}
 use Rattle.laws.specs.Bits.{hasBit}
 use Rattle.ascending.specs.Ascending.{insert, put, unite, ascends}
@@ -19,7 +19,7 @@ use Rattle.names.specs.Fold.{fold, sameName}
 use Rattle.names.specs.Names.{isChannel, isServerId, isUserId}
 use Rattle.links.specs.Links.{isLink, links, setBelow, lessLink, relaySet, linksFrom, linksIn}
 use Rattle.message.specs.Grammar.{lineLimit, word, spaces, prefix, prefixEnd, commandStart, command, commandEnd, isCommand, rest, params}
-use Rattle.message.specs.Content.{contentIn}
+use Rattle.message.specs.Content.{contentIn, prefixIs}
 use Rattle.message.specs.Words.{wordsAt}
 use Rattle.message.specs.Reading.{crlf, endsLine, bodyOf, bodyRules, lineRules, numberFor, isRead, contentOf}
 use Rattle.writer.specs.Form.{takesColon, writtenParam, writtenParams, writtenPrefix, writtenBody, written, withCommand}
@@ -40,16 +40,13 @@ use Rattle.table.specs.declared.Table.{Table}
 use Rattle.table.specs.Table.{goodSlot, holds, alike, distinct, goodNetwork, goodTable}
 use Rattle.table.specs.Network.{networkOf}
 use Rattle.table.specs.Slots.{firstAt, freeSlot, slotFor, placeOf, slotRules}
-use Rattle.sjoin.specs.Modes.{once, goodLetters, modesByte, parametered, goodArguments, argumentOf}
-use Rattle.sjoin.specs.Modes as modes
+use Rattle.sjoin.specs.Modes.{once, goodLetters, modesByte, parametered, goodArguments, argumentOf, isModes}
 use Rattle.sjoin.specs.Entries.{past, idOf, statusOf, isEntry, memberOf, goodEntries}
-use Rattle.sjoin.specs.Join.{argumentsIn, isSource, goodCount, joinRules, channelIn}
-use Rattle.sjoin.specs.Join as join
-use Rattle.sjoin.specs.Telling.{lettersFrom, entryOf, following, listText, paramsOf}
+use Rattle.sjoin.specs.Join.{argumentsIn, goodCount, joinRules, channelIn, isTime}
+use Rattle.telling.specs.Telling.{lettersFrom, entryOf, paramsOf}
 use Rattle.relay.specs.declared.Taken.{Taken}
 use Rattle.relay.specs.declared.Command.the-variants.{Sjoin}
 use Rattle.relay.specs.Arrival.{Arrival, arrival}
-use Rattle.relay.specs.Users.{isUser}
 use Rattle.relay.specs.Joining.{slotOf, resulting, joinedRules, joined, outgoing}
 use Rattle.relay.specs.Parting.{partRules, partedRules, parted}
 use Rattle.relay.specs.Quitting.{quitRules, quitted}
@@ -89,7 +86,7 @@ unfolding water race stored 2cd withMode emptyRecord encode decode padded goodNe
 water-good = refl
 
 accepts : (firstOf (takenRules (networkOf water) (from3 joining)) ≡ accepted) × (firstOf (takenRules (networkOf water) (from3 parting)) ≡ accepted) × (firstOf (takenRules (networkOf water) (from3 quitting)) ≡ accepted)
-unfolding water race stored 2cd joining parting quitting takenRules slotRules commandAmong capital joinRules goodCount isSource join.goodTime isDecimal leadsWithZero valueFrom isDigit isChannel isNameByte isServerId isUserId isIdByte modes.goodModes goodLetters once parametered goodArguments argumentsIn placeAmong goodEntries isEntry idOf past wordsAt contentOf contentIn isRead numberFor lineRules bodyRules firstOf endsLine sameBy bodyOf all isPlain startsWith prefix word prefixEnd commandStart spaces command isCommand isLetter within commandEnd rest params joinedRules resulting channelIn argumentOf modesByte memberOf statusOf slotFor firstAt freeSlot holds sameName fold emptyRecord encode decode padded withMode merge standing counts bare insert put unite compare greater partRules partedRules isUser hasMember quitRules
+unfolding water race stored 2cd joining parting quitting takenRules slotRules commandAmong capital joinRules goodCount prefixIs isTime isDecimal leadsWithZero valueFrom isDigit isChannel isNameByte isServerId isUserId isIdByte isModes goodLetters once parametered goodArguments argumentsIn placeAmong goodEntries isEntry idOf past wordsAt contentOf contentIn isRead numberFor lineRules bodyRules firstOf endsLine sameBy bodyOf all isPlain startsWith prefix word prefixEnd commandStart spaces command isCommand isLetter within commandEnd rest params joinedRules resulting channelIn argumentOf modesByte memberOf statusOf slotFor firstAt freeSlot holds sameName fold emptyRecord encode decode padded withMode merge standing counts bare insert put unite compare greater partRules partedRules hasMember quitRules
 accepts = (refl, refl, refl)
 
 -- the lines that go out: `:1AB SJOIN 1000 #Race + :1ABAAAAAA 1ABAAAAAB`, `:2CDAAAAAA PART #race`, and the QUIT as it came
@@ -97,7 +94,7 @@ goes-out : (relayed (networkOf water) (from3 joining)
     ≡ 58 ∷ 49 ∷ 65 ∷ 66 ∷ 32 ∷ 83 ∷ 74 ∷ 79 ∷ 73 ∷ 78 ∷ 32 ∷ 49 ∷ 48 ∷ 48 ∷ 48 ∷ 32 ∷ 35 ∷ 82 ∷ 97 ∷ 99 ∷ 101 ∷ 32 ∷ 43 ∷ 32 ∷ 58 ∷ 49 ∷ 65 ∷ 66 ∷ 65 ∷ 65 ∷ 65 ∷ 65 ∷ 65 ∷ 65 ∷ 32 ∷ 49 ∷ 65 ∷ 66 ∷ 65 ∷ 65 ∷ 65 ∷ 65 ∷ 65 ∷ 66 ∷ crlf)
     × (relayed (networkOf water) (from3 parting) ≡ 58 ∷ 50 ∷ 67 ∷ 68 ∷ 65 ∷ 65 ∷ 65 ∷ 65 ∷ 65 ∷ 65 ∷ 32 ∷ 80 ∷ 65 ∷ 82 ∷ 84 ∷ 32 ∷ 35 ∷ 114 ∷ 97 ∷ 99 ∷ 101 ∷ crlf)
     × (relayed (networkOf water) (from3 quitting) ≡ quitting)
-unfolding water race stored 2cd joining parting quitting messageBy commandAmong capital written writtenBody writtenPrefix writtenParams writtenParam takesColon withCommand outgoing paramsOf listText following entryOf lettersFrom digitsOf digitsUpTo hasBit isDigit argumentsIn placeAmong idOf past wordsAt contentOf contentIn isRead numberFor lineRules bodyRules firstOf endsLine sameBy bodyOf all isPlain startsWith prefix word prefixEnd commandStart spaces command isCommand isLetter within commandEnd rest params resulting channelIn argumentOf parametered modesByte valueFrom memberOf statusOf slotFor firstAt freeSlot holds sameName fold emptyRecord encode decode padded withMode merge standing counts bare insert put unite compare greater
+unfolding water race stored 2cd joining parting quitting messageBy commandAmong capital written writtenBody writtenPrefix writtenParams writtenParam takesColon withCommand outgoing paramsOf separated prefixed entryOf lettersFrom digitsOf digitsUpTo hasBit isDigit argumentsIn placeAmong idOf past wordsAt contentOf contentIn isRead numberFor lineRules bodyRules firstOf endsLine sameBy bodyOf all isPlain startsWith prefix word prefixEnd commandStart spaces command isCommand isLetter within commandEnd rest params resulting channelIn argumentOf parametered modesByte valueFrom memberOf statusOf slotFor firstAt freeSlot holds sameName fold emptyRecord encode decode padded withMode merge standing counts bare insert put unite compare greater
 goes-out = (refl, refl, refl)
 
 -- the slots after: time 1000, k `buoy`, members 1ABAAAAAA 0, 1ABAAAAAB 0, 2CDAAAAAA 2; and none once the member has left

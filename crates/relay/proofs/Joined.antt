@@ -29,7 +29,7 @@ use Rattle.table.specs.declared.Slot.the-variants.{Held, Free}
 use Rattle.table.specs.Network.{Network, networkOf, withSlots}
 use Rattle.table.specs.Table.{goodTable}
 use Rattle.sjoin.specs.Join.{joinRules, channelIn}
-use Rattle.sjoin.specs.Telling.{sjoin}
+use Rattle.telling.specs.Telling.{sjoin}
 use Rattle.sjoin.proofs.Wellformed.{read-proper}
 use Rattle.relay.specs.declared.Command.the-variants.{Sjoin}
 use Rattle.relay.specs.Arrival.{Arrival, said}

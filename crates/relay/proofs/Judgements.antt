@@ -13,7 +13,7 @@ use Rattle.writer.specs.Form.{inCapitals}
 use Rattle.channel.specs.Limits.{slotCount}
 use Rattle.channel.specs.Record.{decode}
 use Rattle.table.specs.Network.{Network}
-use Rattle.sjoin.specs.Telling.{joinMessage}
+use Rattle.telling.specs.Telling.{joinMessage}
 use Rattle.relay.specs.declared.Change.{Change}
 use Rattle.relay.specs.declared.Sending.{Sending}
 use Rattle.relay.specs.declared.Sending.the-variants.{Silent, AsRead, Anew}

@@ -11,8 +11,8 @@ use Rattle.refusal.specs.Rules.{_when_, firstOf, ascendFrom, placeIn, rank}
 use Rattle.refusal.proofs.Rules.{skip, stop, first-nil, first-none, numbered, append-none, both-none}
 use Rattle.laws.proofs.Bools.{and-intro}
 use Rattle.laws.proofs.Replaced.{all-set}
-use Rattle.names.specs.Names.{isChannel}
-use Rattle.message.specs.Content.{Content}
+use Rattle.names.specs.Names.{isChannel, isUserId}
+use Rattle.message.specs.Content.{Content, prefixIs}
 use Rattle.channel.specs.declared.Record.{Record}
 use Rattle.channel.specs.Limits.{slotCount}
 use Rattle.channel.specs.Members.{hasMember, without}
@@ -29,7 +29,6 @@ use Rattle.table.proofs.Changing.{good-at, without-good, without-keeps, kept-se
 use Rattle.relay.specs.declared.Command.the-variants.{Part}
 use Rattle.relay.specs.declared.Change.{Change}
 use Rattle.relay.specs.Arrival.{Arrival, said, sourceIn}
-use Rattle.relay.specs.Users.{isUser}
 use Rattle.relay.specs.Parting.{partedIn, partRules, slotOf, partedRules, parted, meaning}
 use Rattle.relay.specs.Relay.{commandRules}
 use Rattle.relay.specs.Private.Parting.{parts, partsHeld, partsFound}
@@ -54,14 +53,14 @@ module _ (c : Content) where
     part-many k = stop _ _ (rw (le-leb 1 (length (c .params)) h, lt-leb (length (c .params)) 2 k))
 
     module _ (l : length (c .params) ≤ 2) where
-      part-counted : firstOf (partRules c) ≡ firstOf (badSource when not (isUser (c .prefix)) ∷ badName when not (isChannel (partedIn c)) ∷ [])
+      part-counted : firstOf (partRules c) ≡ firstOf (badSource when not (prefixIs isUserId (c .prefix)) ∷ badName when not (isChannel (partedIn c)) ∷ [])
       unfolding partRules
       part-counted = skip _ _ (rw (le-leb 1 (length (c .params)) h, le-leb (length (c .params)) 2 l))
 
-      pub part-unsourced : isUser (c .prefix) ≡ false → firstOf (partRules c) ≡ badSource
+      pub part-unsourced : prefixIs isUserId (c .prefix) ≡ false → firstOf (partRules c) ≡ badSource
       part-unsourced u = part-counted ∙ stop _ _ (ap not u)
 
-      module _ (u : isUser (c .prefix) ≡ true) where
+      module _ (u : prefixIs isUserId (c .prefix) ≡ true) where
         pub part-unnamed : isChannel (partedIn c) ≡ false → firstOf (partRules c) ≡ badName
         part-unnamed m = part-counted ∙ skip _ _ (ap not u) ∙ stop _ _ (ap not m)
 

@@ -11,7 +11,8 @@ use Rattle.refusal.specs.Rules.{_when_, firstOf, ascendFrom, placeIn, rank}
 use Rattle.refusal.proofs.Rules.{skip, stop, first-nil, numbered}
 use Rattle.laws.proofs.Bools.{and-intro}
 use Rattle.laws.proofs.Lists.{all-map}
-use Rattle.message.specs.Content.{Content}
+use Rattle.names.specs.Names.{isUserId}
+use Rattle.message.specs.Content.{Content, prefixIs}
 use Rattle.channel.specs.Members.{without}
 use Rattle.table.specs.Network.{Network}
 use Rattle.table.specs.Table.{goodSlot, goodNetwork}
@@ -21,7 +22,6 @@ use Rattle.relay.specs.declared.Command.the-variants.{Quit}
 use Rattle.relay.specs.declared.Change.{Change}
 use Rattle.relay.specs.declared.Sending.the-variants.{AsRead}
 use Rattle.relay.specs.Arrival.{Arrival, said, sourceIn}
-use Rattle.relay.specs.Users.{isUser}
 use Rattle.relay.specs.Quitting.{quitRules, quitted, meaning}
 use Rattle.relay.specs.Relay.{commandRules}
 use Rattle.relay.specs.Private.Work.{drops}
@@ -40,14 +40,14 @@ module _ (c : Content) where
   quit-many h = stop _ _ (ap not (lt-leb (length (c .params)) 1 h))
 
   module _ (h : length (c .params) ≤ 1) where
-    quit-counted : firstOf (quitRules c) ≡ firstOf (badSource when not (isUser (c .prefix)) ∷ [])
+    quit-counted : firstOf (quitRules c) ≡ firstOf (badSource when not (prefixIs isUserId (c .prefix)) ∷ [])
     unfolding quitRules
     quit-counted = skip _ _ (ap not (le-leb (length (c .params)) 1 h))
 
-    pub quit-unsourced : isUser (c .prefix) ≡ false → firstOf (quitRules c) ≡ badSource
+    pub quit-unsourced : prefixIs isUserId (c .prefix) ≡ false → firstOf (quitRules c) ≡ badSource
     quit-unsourced u = quit-counted ∙ stop _ _ (ap not u)
 
-    pub quit-passes : isUser (c .prefix) ≡ true → firstOf (quitRules c) ≡ accepted
+    pub quit-passes : prefixIs isUserId (c .prefix) ≡ true → firstOf (quitRules c) ≡ accepted
     quit-passes u = quit-counted ∙ skip _ _ (ap not u) ∙ first-nil
 
 -- ---- what it comes to

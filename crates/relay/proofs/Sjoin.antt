@@ -28,10 +28,10 @@ use Rattle.table.specs.Table.{goodNetwork}
 use Rattle.table.specs.Slots.{heldIn, foundFor, placeOf, slotRules}
 use Rattle.table.proofs.WellFormed.{slots-good}
 use Rattle.sjoin.specs.Join.{joinRules, channelIn}
-use Rattle.sjoin.specs.Telling.{joinMessage}
+use Rattle.telling.specs.Telling.{joinMessage}
 use Rattle.sjoin.proofs.Judged.{rules-numbered}
 use Rattle.sjoin.proofs.Wellformed.{read-proper}
-use Rattle.sjoin.proofs.Retold.{retold-reads}
+use Rattle.retelling.proofs.Retold.{retold-reads}
 use Rattle.relay.specs.declared.Command.the-variants.{Sjoin}
 use Rattle.relay.specs.declared.Change.{Change}
 use Rattle.relay.specs.Arrival.{Arrival, said, sourceIn}

@@ -11,7 +11,7 @@ use Rattle.table.specs.declared.Slot.the-variants.{Held, Free, Full}
 use Rattle.table.specs.Network.{Network, withSlots}
 use Rattle.table.specs.Slots.{slotFor, heldIn, placeOf, slotRules}
 use Rattle.sjoin.specs.Join.{joinRules, channelIn}
-use Rattle.sjoin.specs.Telling.{sjoin, joinMessage}
+use Rattle.telling.specs.Telling.{sjoin, joinMessage}
 use Rattle.relay.specs.Arrival.{said, sourceIn}
 use Rattle.relay.specs.Meaning.{Meaning}
 

@@ -1,6 +1,5 @@
 pub mod Arrival
 pub mod Meaning
-pub mod Users
 pub mod Joining
 pub mod Parting
 pub mod Quitting

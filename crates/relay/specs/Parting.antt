@@ -6,8 +6,8 @@ use lib.ListN.{length, getD, set}
 use lib.Dec.{leb}
 use Rattle.refusal.specs.Numbers.{wrongParamCount, badSource, badName, noSuchChannel, notOnChannel}
 use Rattle.refusal.specs.Rules.{Rule, _when_}
-use Rattle.names.specs.Names.{isChannel}
-use Rattle.message.specs.Content.{Content}
+use Rattle.names.specs.Names.{isChannel, isUserId}
+use Rattle.message.specs.Content.{Content, prefixIs}
 use Rattle.writer.specs.Form.{inCapitals}
 use Rattle.channel.specs.Record.{decode}
 use Rattle.channel.specs.Members.{hasMember, without}
@@ -16,7 +16,6 @@ use Rattle.table.specs.Network.{Network, withSlots}
 use Rattle.table.specs.Slots.{slotFor, heldIn, isHeld, placeOf}
 use Rattle.relay.specs.Arrival.{said, sourceIn}
 use Rattle.relay.specs.Meaning.{Meaning}
-use Rattle.relay.specs.Users.{isUser}
 
 -- the channel that it names
 abbrev pub partedIn : Content → List ℕ
@@ -25,7 +24,7 @@ partedIn c = getD (c .params) 0 []
 unfoldable pub partRules : Content → List Rule
 partRules c =
     wrongParamCount when not (leb 1 (length (c .params)) && leb (length (c .params)) 2)
-    ∷ badSource when not (isUser (c .prefix))
+    ∷ badSource when not (prefixIs isUserId (c .prefix))
     ∷ badName when not (isChannel (partedIn c))
     ∷ []
 

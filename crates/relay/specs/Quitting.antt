@@ -5,18 +5,18 @@ use lib.ListN.{length}
 use lib.Dec.{leb}
 use Rattle.refusal.specs.Numbers.{wrongParamCount, badSource}
 use Rattle.refusal.specs.Rules.{Rule, _when_}
-use Rattle.message.specs.Content.{Content}
+use Rattle.names.specs.Names.{isUserId}
+use Rattle.message.specs.Content.{Content, prefixIs}
 use Rattle.writer.specs.Form.{inCapitals}
 use Rattle.channel.specs.Members.{without}
 use Rattle.table.specs.Network.{Network, withSlots}
 use Rattle.relay.specs.Arrival.{said, sourceIn}
 use Rattle.relay.specs.Meaning.{Meaning}
-use Rattle.relay.specs.Users.{isUser}
 
 unfoldable pub quitRules : Content → List Rule
 quitRules c =
     wrongParamCount when not (leb (length (c .params)) 1)
-    ∷ badSource when not (isUser (c .prefix))
+    ∷ badSource when not (prefixIs isUserId (c .prefix))
     ∷ []
 
 -- emptied slots are zeroed

@@ -16,8 +16,8 @@ use channel::members::without;
 use message::Message;
 use message::spans::prefix_in;
 use names::USER_ID;
-use sjoin::write_join;
 use table::Table;
+use telling::write_join;
 use writer::forward_message;
 
 // The table with another record in slot k.

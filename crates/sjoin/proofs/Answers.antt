@@ -1,6 +1,6 @@
 -- The answer to a line: what `record_of` puts together is the record of its channel, and each answer is the number and the record that the rules give.
 -- Assumes nothing.
-use Prim.Native.Nat.{ℕ, _+_, _-_, _≤_, min}
+use Prim.Native.Nat.{ℕ, _+_, _-_, _≤_}
 use mathlib.Core.Path.{_≡_, sym, ap, _∙_}
 use mathlib.Core.Bool.{true, false}
 use mathlib.Core.List.{List, []}
@@ -24,9 +24,8 @@ use Rattle.channel.specs.Limits.{keyLimit, memberLimit}
 use Rattle.channel.specs.Record.{nobody, encode}
 use Rattle.channel.specs.Members.{roster, ordered}
 use Rattle.message.specs.declared.Message.{Message}
-use Rattle.message.specs.Grammar.{paramLimit}
 use Rattle.message.specs.Content.{Content}
-use Rattle.message.specs.Parts.{bytesAt, contentBy, paramSpan}
+use Rattle.message.specs.Parts.{contentBy, paramSpan}
 use Rattle.message.specs.Reading.{lineRules, numberFor, isRead, contentOf, messageOf}
 use Rattle.message.specs.Words.{wordsOf}
 use Rattle.message.proofs.Readings.{rules-numbered, number-none, read-small, refused-number}
@@ -35,7 +34,7 @@ use Rattle.sjoin.specs.declared.Told.{Told}
 use Rattle.sjoin.specs.Modes.{keyLetter, limitLetter, modesByte, argumentOf}
 use Rattle.sjoin.specs.Entries.{memberOf, named}
 use Rattle.sjoin.specs.Join.{timeIn, nameIn, modesIn, listIn, argumentsIn, fewest, most, goodCount, joinRules, channelIn, told, spanRules, toldIn, lineJoinRules, toldBy}
-use Rattle.sjoin.specs.Scan.{Parted, refusedBy}
+use Rattle.sjoin.specs.Private.Scanning.{Parted, refusedBy}
 use Rattle.sjoin.proofs.Judged.{span-rules}
 
 -- ---- the count of parameters
@@ -44,10 +43,6 @@ unfolding goodCount
 bounds c h =
     let n = length (c .params) in
     (leb-true fewest n (and-left (leb fewest n) (leb n most) h), leb-true n most (and-right (leb fewest n) (leb n most) h))
-
-pub params-count : (text : List ℕ) (m : Message) → length (m .params) ≡ paramLimit → length (contentBy text m .params) ≡ min (m .count) paramLimit
-unfolding contentBy
-params-count text m e = length-map (take (m .count) (m .params)) (bytesAt text) ∙ length-take (m .count) (m .params) ∙ ap (min (m .count)) e
 
 -- ---- the list
 pub list-at : (c : Content) (last : ℕ) → Parted c last → getD (c .params) last [] ≡ listIn c

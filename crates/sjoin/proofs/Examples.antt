@@ -1,9 +1,9 @@
 -- Document 01's whole case, the line: what it says, as computed from the definitions. Instances that meet the premises of this crate's laws, of a line that
--- is read, of one that no rule refuses and of a channel that is told. Assumes nothing.
+-- is read and of one that no rule refuses. Assumes nothing.
 use Prim.Native.Nat.{ℕ}
 use mathlib.Core.Path.{_≡_, refl}
 use mathlib.Core.Bool.{true}
-use mathlib.Core.List.{List, [], _∷_}
+use mathlib.Core.List.{List, _∷_}
 use Rattle.refusal.specs.Numbers.{accepted}
 use Rattle.refusal.specs.Rules.{firstOf}
 use Rattle.octets.specs.Bytes.{within, isPlain, isLetter, isDigit, isIdByte, isNameByte}
@@ -15,25 +15,22 @@ use Rattle.names.specs.Names.{isChannel, isServerId, isUserId}
 use Rattle.channel.specs.Modes.{withMode, placeAmong}
 use Rattle.channel.specs.WellFormed.{wellFormed}
 use Rattle.channel.proofs.Examples.{incoming, 1ab}
-use Rattle.channel.proofs.Witnesses.{second, second-in, proper}
 use Rattle.message.specs.Grammar.{word, spaces, prefix, prefixEnd, commandStart, command, commandEnd, isCommand, rest, params}
-use Rattle.message.specs.Content.{contentIn}
+use Rattle.message.specs.Content.{prefixIs, contentIn}
 use Rattle.message.specs.Words.{wordsAt}
 use Rattle.message.specs.Reading.{crlf, endsLine, bodyOf, bodyRules, lineRules, numberFor, isRead, contentOf, messageOf}
-use Rattle.sjoin.specs.Modes.{once, goodLetters, modesByte, parametered, goodArguments, argumentOf, goodModes}
+use Rattle.sjoin.specs.Modes.{once, goodLetters, modesByte, parametered, goodArguments, argumentOf, isModes}
 use Rattle.sjoin.specs.Entries.{past, idOf, statusOf, isEntry, memberOf, goodEntries}
-use Rattle.sjoin.specs.Join.{argumentsIn, isSource, goodCount, goodTime, joinRules, channelIn, toldIn, lineJoinRules, toldBy}
-use Rattle.sjoin.specs.Telling.{sjoin, joinMessage}
+use Rattle.sjoin.specs.Join.{argumentsIn, goodCount, isTime, joinRules, channelIn, toldIn, lineJoinRules, toldBy}
 use Rattle.sjoin.proofs.Answers.{told-same}
 use Rattle.sjoin.proofs.Wellformed.{line-well}
-use Rattle.sjoin.proofs.Back.{channel-back, rules-back}
 
 -- `:1AB SJOIN 1200 #race +nt :@1ABAAAAAA 1ABAAAAAB`
 unfoldable pub line : List ℕ
 line = 58 ∷ 49 ∷ 65 ∷ 66 ∷ 32 ∷ 83 ∷ 74 ∷ 79 ∷ 73 ∷ 78 ∷ 32 ∷ 49 ∷ 50 ∷ 48 ∷ 48 ∷ 32 ∷ 35 ∷ 114 ∷ 97 ∷ 99 ∷ 101 ∷ 32 ∷ 43 ∷ 110 ∷ 116 ∷ 32 ∷ 58 ∷ 64 ∷ 49 ∷ 65 ∷ 66 ∷ 65 ∷ 65 ∷ 65 ∷ 65 ∷ 65 ∷ 65 ∷ 32 ∷ 49 ∷ 65 ∷ 66 ∷ 65 ∷ 65 ∷ 65 ∷ 65 ∷ 65 ∷ 66 ∷ crlf
 
 line-taken : toldBy line .number ≡ accepted
-unfolding line toldBy lineJoinRules joinRules goodCount isSource goodTime isDecimal leadsWithZero valueFrom isDigit isChannel isNameByte isServerId isUserId isIdByte goodModes goodLetters once parametered goodArguments argumentsIn placeAmong goodEntries isEntry idOf past wordsAt contentOf contentIn isRead numberFor lineRules bodyRules firstOf endsLine sameBy bodyOf all isPlain startsWith prefix word prefixEnd commandStart spaces command isCommand isLetter within commandEnd rest params
+unfolding line toldBy lineJoinRules joinRules goodCount prefixIs isTime isDecimal leadsWithZero valueFrom isDigit isChannel isNameByte isServerId isUserId isIdByte isModes goodLetters once parametered goodArguments argumentsIn placeAmong goodEntries isEntry idOf past wordsAt contentOf contentIn isRead numberFor lineRules bodyRules firstOf endsLine sameBy bodyOf all isPlain startsWith prefix word prefixEnd commandStart spaces command isCommand isLetter within commandEnd rest params
 line-taken = refl
 
 -- the channel of channel/proofs/Examples.antt
@@ -52,14 +49,3 @@ line-spans = told-same line line-read
 -- ---- the law of a line that no rule refuses
 line-holds : wellFormed (toldBy line .«record») ≡ true
 line-holds = line-well line line-taken
-
--- ---- the laws of a channel that is told: one with key, limit and a status, by 1AB
-abbrev sid : List ℕ
-sid = 49 ∷ 65 ∷ 66 ∷ []
-
-second-back : channelIn (joinMessage sid second) ≡ second
-second-back = channel-back second (proper second second-in) sid sjoin
-
-second-taken : accepted ≡ firstOf (joinRules (joinMessage sid second))
-unfolding isServerId isDigit isIdByte all within
-second-taken = rules-back second (proper second second-in) sid sjoin refl

@@ -14,23 +14,23 @@ use Rattle.refusal.proofs.Rules.{first-none}
 use Rattle.laws.specs.Lists.{all, same}
 use Rattle.octets.specs.Decimals.{zeroDigit, isDecimal, valueFrom, valueOf}
 use Rattle.laws.proofs.Bools.{and-left, and-right}
-use Rattle.names.specs.Names.{isChannel}
+use Rattle.names.specs.Names.{isChannel, isServerId}
 use Rattle.channel.specs.Limits.{keyLimit}
 use Rattle.channel.specs.Modes.{placeAmong}
 use Rattle.channel.proofs.Keys.{key-length}
-use Rattle.message.specs.Content.{Content}
-use Rattle.sjoin.specs.Modes.{keyLetter, limitLetter, lettersOf, lacks, hasParameter, parametered, isLimit, limitIn, goodLetters, goodArgument, goodArguments, argumentAmong, argumentOf, goodModes}
+use Rattle.message.specs.Content.{Content, prefixIs}
+use Rattle.sjoin.specs.Modes.{keyLetter, limitLetter, lettersOf, lacks, hasParameter, parametered, isLimit, limitIn, goodLetters, goodArgument, goodArguments, argumentAmong, argumentOf, isModes}
 use Rattle.sjoin.specs.Entries.{goodEntries}
-use Rattle.sjoin.specs.Join.{timeIn, nameIn, modesIn, listIn, argumentsIn, isSource, goodCount, goodTime, joinRules}
+use Rattle.sjoin.specs.Join.{timeIn, nameIn, modesIn, listIn, argumentsIn, goodCount, isTime, joinRules}
 
 -- ---- each test is passed
 pub record Passes (c : Content) : Type 0 where
   pub count : goodCount c ≡ true
-  pub source : isSource (c .prefix) ≡ true
-  pub time : goodTime c ≡ true
+  pub source : prefixIs isServerId (c .prefix) ≡ true
+  pub time : isTime (timeIn c) ≡ true
   pub after : same (timeIn c) (zeroDigit ∷ []) ≡ false
   pub name : isChannel (nameIn c) ≡ true
-  pub modes : goodModes (modesIn c) (argumentsIn c) ≡ true
+  pub modes : isModes (modesIn c) (argumentsIn c) ≡ true
   pub list : goodEntries (listIn c) ≡ true
 
 pub passes : (c : Content) → firstOf (joinRules c) ≡ accepted → Passes c
@@ -85,8 +85,8 @@ module _ (letter : ℕ) (has : hasParameter letter ≡ true) where
       go true e (a ∷ args) g rec = let k = rw e at g in found a args (eqb x letter) refl e k (rec args (and-right (goodArgument x a) (goodArguments (parametered s) args) k))
       go false e args g rec = rw e (skip x s (argumentAmong letter s args) (other x e) (rec args (rw e at g)))
 
-pub argument-given : (modes : List ℕ) (args : List (List ℕ)) (letter : ℕ) → hasParameter letter ≡ true → goodModes modes args ≡ true → Given letter (lettersOf modes) (argumentOf letter modes args)
-unfolding goodModes argumentOf
+pub argument-given : (modes : List ℕ) (args : List (List ℕ)) (letter : ℕ) → hasParameter letter ≡ true → isModes modes args ≡ true → Given letter (lettersOf modes) (argumentOf letter modes args)
+unfolding isModes argumentOf
 argument-given modes args letter has h = given letter has (lettersOf modes) args (and-right (goodLetters modes) (goodArguments (parametered (lettersOf modes)) args) h)
 
 pub key-short : (s k : List ℕ) → Given keyLetter s k → length k ≤ keyLimit

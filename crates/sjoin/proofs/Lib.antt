@@ -1,20 +1,11 @@
--- Laws of SJOIN's parts, for the functions of this crate and for the crates above, and an example.
+-- Laws of what a line says, for the crates above, an example, and laws that only this crate's proofs share.
 pub mod Modes
-pub mod Parameters
-pub mod Limits
 pub mod Judged
 pub mod Joined
 pub mod Answers
-pub mod Listed
 pub mod Wellformed
-pub mod Entered
-pub mod Spaced
-pub mod Lettered
-pub mod Back
-pub mod Pieces
-pub mod Described
-pub mod Tellings
-pub mod Writable
-pub mod Shorter
-pub mod Retold
+pub mod Sizes
 pub mod Examples
+mod Parameters
+mod Limits
+mod Listed

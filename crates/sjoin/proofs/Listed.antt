@@ -26,8 +26,9 @@ use Rattle.message.specs.Grammar.{lineLimit}
 use Rattle.message.specs.Words.{wordsOf, nextWord}
 use Rattle.message.proofs.Sizes.{room, long, words-room, words-few}
 use Rattle.message.proofs.Splits.{wordsFrom, next-none, next-one, next-in}
-use Rattle.sjoin.specs.Modes.{plus}
-use Rattle.sjoin.specs.Entries.{at, past, idOf, isEntry, memberOf, goodEntries, named}
+use Rattle.channel.specs.Modes.{plus}
+use Rattle.channel.specs.Channel.{at}
+use Rattle.sjoin.specs.Entries.{past, idOf, isEntry, memberOf, goodEntries, named}
 
 -- ---- an entry
 entry-long : (e : List ℕ) → isEntry e ≡ true → length (idOf e) ≡ userIdLength

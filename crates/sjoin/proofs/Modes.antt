@@ -13,10 +13,10 @@ use Rattle.laws.specs.Joins.{total}
 use Rattle.laws.proofs.Bools.{both-ways, and-swap, not-or}
 use Rattle.laws.proofs.Lists.{drop-step}
 use Rattle.laws.proofs.Joins.{joining-bits}
-use Rattle.channel.specs.Modes.{letters, modeCount, hasMode, withMode, modePlace}
+use Rattle.channel.specs.Modes.{letters, modeCount, hasMode, withMode, modePlace, plus}
 use Rattle.channel.proofs.Letters.{has-no-mode, has-with, with-union, place-found}
-use Rattle.sjoin.specs.Modes.{plus, isMode, lacks, once, goodLetters, modesByte}
-use Rattle.sjoin.specs.Scan.{fresh}
+use Rattle.sjoin.specs.Modes.{isMode, lacks, once, goodLetters, modesByte}
+use Rattle.sjoin.specs.Private.Scanning.{fresh}
 
 -- ---- a letter's place
 -- a mode's place is no other letter's

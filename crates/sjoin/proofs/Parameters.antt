@@ -13,7 +13,7 @@ use Rattle.channel.specs.Modes.{placeAmong}
 use Rattle.message.specs.Content.{Content}
 use Rattle.sjoin.specs.Modes.{lettersOf, hasParameter, parametered, goodArgument, goodArguments, argumentOf}
 use Rattle.sjoin.specs.Join.{modesIn, argumentsIn}
-use Rattle.sjoin.specs.Scan.{upTo}
+use Rattle.sjoin.specs.Private.Scanning.{upTo}
 
 -- ---- letters that have a parameter, at a place
 module _ (s : List ℕ) (i : ℕ) where

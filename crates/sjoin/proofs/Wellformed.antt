@@ -13,13 +13,13 @@ use Rattle.refusal.specs.Numbers.{accepted}
 use Rattle.refusal.specs.Rules.{firstOf}
 use Rattle.laws.specs.Lists.{all, isNil, startsWith}
 use Rattle.octets.specs.Decimals.{isDecimal, valueFrom, valueOf}
-use Rattle.laws.proofs.Bools.{and-left, and-right, and-intro, or-not, eqb-swap}
-use Rattle.laws.proofs.Lists.{all-head, all-tail, nil-map}
+use Rattle.laws.proofs.Bools.{and-left, and-right, or-not, eqb-swap}
+use Rattle.laws.proofs.Lists.{all-head, all-tail, all-imp-map, nil-map}
 use Rattle.ascending.proofs.Ascends.{unite-some, unite-few, all-unite, ascending-unite}
 use Rattle.channel.specs.Limits.{timeLimit, limitLimit}
-use Rattle.channel.specs.Modes.{modeCount, hasMode, withMode, placeAmong, modePlace}
+use Rattle.channel.specs.Modes.{modeCount, hasMode, withMode, placeAmong, modePlace, plus}
 use Rattle.channel.specs.Key.{isKey}
-use Rattle.channel.specs.Channel.{voice, operator, byId}
+use Rattle.channel.specs.Channel.{voice, operator, byId, at}
 use Rattle.channel.specs.Record.{encode}
 use Rattle.channel.specs.WellFormed.{bothStatuses, goodMember, wellFormed}
 use Rattle.channel.proofs.Keys.{key-some}
@@ -32,9 +32,9 @@ use Rattle.message.specs.Reading.{numberFor, isRead, contentOf, messageOf}
 use Rattle.message.proofs.Readings.{read-small, refused-number}
 use Rattle.message.proofs.Held.{message-holds}
 use Rattle.message.specs.Words.{wordsOf}
-use Rattle.sjoin.specs.Modes.{plus, keyLetter, limitLetter, lettersOf, isMode, lacks, goodLetters, goodArgument, goodModes, modesByte}
-use Rattle.sjoin.specs.Entries.{at, past, statusOf, isEntry, memberOf, goodEntries, named}
-use Rattle.sjoin.specs.Join.{timeIn, modesIn, listIn, argumentsIn, goodTime, joinRules, channelIn, toldBy}
+use Rattle.sjoin.specs.Modes.{keyLetter, limitLetter, lettersOf, isMode, lacks, goodLetters, goodArgument, isModes, modesByte}
+use Rattle.sjoin.specs.Entries.{past, statusOf, isEntry, memberOf, goodEntries, named}
+use Rattle.sjoin.specs.Join.{timeIn, modesIn, listIn, argumentsIn, isTime, joinRules, channelIn, toldBy}
 use Rattle.sjoin.proofs.Modes.{bits, same-place}
 use Rattle.sjoin.specs.declared.Told.{Told}
 use Rattle.sjoin.proofs.Answers.{list-small, told-unread, told-number, told-says}
@@ -85,9 +85,7 @@ unfolding isEntry memberOf
 entry-good e h = member-passes (memberOf e) h (status-few e)
 
 named-good : (l : List (List ℕ)) → all isEntry l ≡ true → all goodMember (map memberOf l) ≡ true
-unfolding all
-named-good [] h = refl
-named-good (e ∷ l) h = and-intro (goodMember (memberOf e)) (all goodMember (map memberOf l)) (entry-good e (all-head isEntry e l h)) (named-good l (all-tail isEntry e l h))
+named-good l h = all-imp-map isEntry goodMember memberOf entry-good l h
 
 -- ---- all together
 module _ (c : Content) (none : firstOf (joinRules c) ≡ accepted) (small : length (listIn c) ≤ lineLimit) where
@@ -95,11 +93,11 @@ module _ (c : Content) (none : firstOf (joinRules c) ≡ accepted) (small : leng
   good = passes c none
 
   letters-good : all isMode (lettersOf (modesIn c)) ≡ true
-  unfolding goodModes goodLetters
+  unfolding isModes goodLetters
   letters-good = and-left _ _ (and-right (startsWith plus (modesIn c)) _ (and-left (goodLetters (modesIn c)) _ (good .modes)))
 
   time-to : valueOf (timeIn c) ≤ timeLimit
-  unfolding goodTime
+  unfolding isTime
   time-to = leb-true (valueOf (timeIn c)) timeLimit (and-right (isDecimal (timeIn c)) _ (good .time))
 
   words-some : isNil (wordsOf (listIn c)) ≡ false
@@ -115,7 +113,7 @@ module _ (c : Content) (none : firstOf (joinRules c) ≡ accepted) (small : leng
       let n = named (listIn c) in
       record {
         name = good .name;
-        from = omega (arith, eqb-false (valueOf (timeIn c)) 0 (sym (time-zero c (good .time)) ∙ good .after));
+        from = omega (arith, eqb-false (valueOf (timeIn c)) 0 (sym (time-zero (timeIn c) (good .time)) ∙ good .after));
         until = time-to;
         modes = bits-small s;
         keyed = bits-have keyLetter s letters-good ∙ k .0;

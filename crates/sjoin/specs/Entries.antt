@@ -7,12 +7,9 @@ use lib.ListN.{drop}
 use Rattle.laws.specs.Lists.{all, isNil, startsWith}
 use Rattle.names.specs.Names.{isUserId}
 use Rattle.channel.specs.declared.Member.{Member}
-use Rattle.channel.specs.Channel.{voice, operator, member}
+use Rattle.channel.specs.Channel.{voice, operator, at, member}
 use Rattle.message.specs.Words.{wordsOf}
-use Rattle.sjoin.specs.Modes.{plus}
-
-abbrev pub at : ℕ
-at = 64
+use Rattle.channel.specs.Modes.{plus}
 
 -- what follows a mark, or all where it doesn't stand first
 unfoldable pub past : ℕ → List ℕ → List ℕ

@@ -1,8 +1,7 @@
 -- What an SJOIN line says: `:sid SJOIN time name modes [key] [limit] list`. The numbers 12 to 18 of document 01, and the channel that it tells of.
 use Prim.Native.Nat.{ℕ, _-_}
-use mathlib.Core.Bool.{Bool, false, not, cond, _&&_}
+use mathlib.Core.Bool.{Bool, not, cond, _&&_}
 use mathlib.Core.List.{List, [], _∷_, _++_}
-use mathlib.Core.Option.{Option, some, none}
 use lib.ListN.{length, take, drop, getD}
 use lib.Dec.{eqb, leb, ltb}
 use Rattle.refusal.specs.Numbers.{accepted, lineTooLong, wrongParamCount, badSource, badTime, zeroTime, badName, badModes, badMembers}
@@ -16,11 +15,11 @@ use Rattle.channel.specs.Members.{ordered}
 use Rattle.channel.specs.Record.{encode, emptyRecord}
 use Rattle.message.specs.declared.Message.{Message}
 use Rattle.message.specs.Grammar.{lineLimit}
-use Rattle.message.specs.Content.{Content}
+use Rattle.message.specs.Content.{Content, prefixIs}
 use Rattle.message.specs.Parts.{contentBy}
 use Rattle.message.specs.Reading.{lineRules, contentOf}
 use Rattle.sjoin.specs.declared.Told.{Told}
-use Rattle.sjoin.specs.Modes.{keyLetter, limitLetter, goodModes, modesByte, argumentOf}
+use Rattle.sjoin.specs.Modes.{keyLetter, limitLetter, isModes, modesByte, argumentOf}
 use Rattle.sjoin.specs.Entries.{goodEntries, named}
 
 -- ---- the parameters
@@ -41,10 +40,6 @@ listIn c = getD (c .params) (length (c .params) - 1) []
 unfoldable pub argumentsIn : Content → List (List ℕ)
 argumentsIn c = take (length (c .params) - 4) (drop 3 (c .params))
 
-unfoldable pub isSource : Option (List ℕ) → Bool
-isSource none = false
-isSource (some p) = isServerId p
-
 -- ---- the rules
 -- the fewest and the most parameters
 abbrev pub fewest : ℕ
@@ -57,23 +52,23 @@ unfoldable pub goodCount : Content → Bool
 goodCount c = leb fewest (length (c .params)) && leb (length (c .params)) most
 
 -- decimal without leading zeros, and not too large
-unfoldable pub goodTime : Content → Bool
-goodTime c = isDecimal (timeIn c) && leb (valueOf (timeIn c)) timeLimit
+unfoldable pub isTime : List ℕ → Bool
+isTime s = isDecimal s && leb (valueOf s) timeLimit
 
 -- of count and source: 12 and 13
 abbrev pub sourceRules : Content → List Rule
 sourceRules c =
     wrongParamCount when not (goodCount c)
-    ∷ badSource when not (isSource (c .prefix))
+    ∷ badSource when not (prefixIs isServerId (c .prefix))
     ∷ []
 
 -- of time, name and modes: 14 to 17
 abbrev pub settingRules : Content → List Rule
 settingRules c =
-    badTime when not (goodTime c)
+    badTime when not (isTime (timeIn c))
     ∷ zeroTime when same (timeIn c) (zeroDigit ∷ [])
     ∷ badName when not (isChannel (nameIn c))
-    ∷ badModes when not (goodModes (modesIn c) (argumentsIn c))
+    ∷ badModes when not (isModes (modesIn c) (argumentsIn c))
     ∷ []
 
 -- of all that is told: 14 to 18

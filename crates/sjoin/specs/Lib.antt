@@ -1,6 +1,4 @@
 pub mod Modes
 pub mod Entries
 pub mod Join
-pub mod Telling
-pub mod Scan
-pub mod Pieces
+pub mod Private

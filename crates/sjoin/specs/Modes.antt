@@ -10,11 +10,8 @@ use Rattle.laws.specs.Lists.{all, startsWith}
 use Rattle.laws.specs.Joins.{total}
 use Rattle.octets.specs.Decimals.{isDecimal, valueOf}
 use Rattle.channel.specs.Limits.{limitLimit}
-use Rattle.channel.specs.Modes.{modeCount, withMode, placeAmong, modePlace}
+use Rattle.channel.specs.Modes.{modeCount, plus, withMode, placeAmong, modePlace}
 use Rattle.channel.specs.Key.{isKey}
-
-abbrev pub plus : ℕ
-plus = 43
 
 -- k and l
 abbrev pub keyLetter : ℕ
@@ -82,5 +79,6 @@ argumentAmong letter letters args = getD args (placeAmong (parametered letters) 
 unfoldable pub argumentOf : ℕ → List ℕ → List (List ℕ) → List ℕ
 argumentOf letter modes args = argumentAmong letter (lettersOf modes) args
 
-unfoldable pub goodModes : List ℕ → List (List ℕ) → Bool
-goodModes modes args = goodLetters modes && goodArguments (parametered (lettersOf modes)) args
+-- good letters, and the parameters that they ask for
+unfoldable pub isModes : List ℕ → List (List ℕ) → Bool
+isModes modes args = goodLetters modes && goodArguments (parametered (lettersOf modes)) args

@@ -4,7 +4,7 @@ ghost use Rattle.message.specs.Parts.{contentBy};
 ghost use Rattle.channel.specs.Modes.{placeAmong};
 ghost use Rattle.sjoin.specs.Modes.{lettersOf, parametered, goodArguments, argumentOf};
 ghost use Rattle.sjoin.specs.Join.{modesIn, argumentsIn};
-ghost use Rattle.sjoin.specs.Scan.{Parted};
+ghost use Rattle.sjoin.specs.Private.Scanning.{Parted};
 use crate::letters::good_argument;
 use crate::letters::has_parameter;
 use message::Message;

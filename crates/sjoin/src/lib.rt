@@ -1,27 +1,22 @@
 // What an SJOIN line says (document 01, 'SJOIN'): its time, name, modes with key and limit, and members, judged by the numbers 12 to 18 and put into a
-// record of their own; the line that tells of a record; and what is told as a text of its own.
+// record of their own.
 mod arguments;
 mod entries;
 mod letters;
-mod telling;
 
 ghost use mathlib.Core.Path.{_≡_};
 ghost use mathlib.Core.Bool.{true};
 ghost use Prim.Native.Nat.{_≤_};
 ghost use lib.ListN.{length};
-ghost use Rattle.refusal.specs.Rules.{firstOf, emitted};
+ghost use Rattle.refusal.specs.Rules.{firstOf};
 ghost use Rattle.laws.specs.Lists.{padded};
-ghost use Rattle.octets.specs.Room.{front};
 ghost use Rattle.octets.specs.Decimals.{valueOf};
 ghost use Rattle.names.specs.Names.{nameLimit};
 ghost use Rattle.channel.specs.Limits.{keyLimit};
-ghost use Rattle.channel.specs.Record.{encode, decode};
+ghost use Rattle.channel.specs.Record.{encode};
 ghost use Rattle.message.specs.Parts.{contentBy};
-ghost use Rattle.writer.specs.Form.{written};
-ghost use Rattle.writer.specs.Writing.{answerFor};
-ghost use Rattle.sjoin.specs.Join.{timeIn, goodTime, sourceRules, settingRules, channelIn, toldIn, toldBy};
-ghost use Rattle.sjoin.specs.Telling.{described, descriptionLimit, describedIn, joinMessage, tellRules};
-ghost use Rattle.sjoin.specs.Scan.{Parted, Tells, refusedBy};
+ghost use Rattle.sjoin.specs.Join.{timeIn, isTime, sourceRules, settingRules, channelIn, toldIn, toldBy};
+ghost use Rattle.sjoin.specs.Private.Scanning.{Parted, Tells, refusedBy};
 use arguments::MODES_AT;
 use arguments::argument;
 use arguments::good_arguments;
@@ -42,7 +37,6 @@ use names::is_channel;
 use names::is_server_id;
 use octets::Decimal;
 use octets::decimals::decimal;
-use octets::part;
 use octets::put;
 use refusal::ACCEPTED;
 use refusal::BAD_MEMBERS;
@@ -51,13 +45,8 @@ use refusal::BAD_NAME;
 use refusal::BAD_SOURCE;
 use refusal::BAD_TIME;
 use refusal::LINE_TOO_LONG;
-use refusal::NO_ROOM;
-use refusal::OUTPUT_TOO_SHORT;
 use refusal::WRONG_PARAM_COUNT;
 use refusal::ZERO_TIME;
-use telling::put_description;
-use telling::put_join;
-use writer::Written;
 
 // The fewest parameters of a line.
 const FEWEST: usize = 4;
@@ -70,12 +59,6 @@ const TIME_AT: usize = 0;
 
 // The place of the name among the parameters.
 const NAME_AT: usize = 1;
-
-// The most bytes that are told of a record.
-pub const DESCRIPTION_LIMIT: usize = 869;
-
-// Room for them, and for a SPACE before them.
-const SCRATCH: usize = DESCRIPTION_LIMIT + 1;
 
 // The number of a refusal, or ACCEPTED, and the record that the line tells of, or the empty one.
 pub struct Told {
@@ -145,7 +128,7 @@ fn key_room(key: &[u8]) -> [u8; Record::KEY]
 
 // The time, where it is good.
 fn time_of(text: &[u8], m: Message) -> u32
-    requires { ⌜ goodTime (contentBy (now text) m) ≡ true ⌝ }
+    requires { ⌜ isTime (timeIn (contentBy (now text) m)) ≡ true ⌝ }
     ensures { λ r. ⌜ r ≡ valueOf (timeIn (contentBy (now (text .entry)) m)) ⌝ }
 {
     match decimal(param_in(text, m, TIME_AT), Record::TIME) {
@@ -228,47 +211,4 @@ pub fn read_join(line: &[u8]) -> Told
         return refused(reading.number());
     };
     read_message(line, parsed.message)
-}
-
-// Writes the SJOIN by which a server tells of a record, to the front of the output.
-pub fn write_join(source: &[u8], r: Record, out: &mut [u8]) -> Written
-    ensures answer { λ w. ⌜ w ≡ answerFor (tellRules (now (source .entry)) (decode r) (now (out .entry))) (written (joinMessage (now (source .entry)) (decode r))) ⌝ }
-    ensures output { λ _. ⌜ now (out .exit) ≡ front (emitted (tellRules (now (source .entry)) (decode r) (now (out .entry))) (written (joinMessage (now (source .entry)) (decode r)))) (now (out .entry)) ⌝ }
-{
-    if out.len() < LINE_LIMIT {
-        return Written {
-            number: OUTPUT_TOO_SHORT,
-            len: 0,
-        };
-    }
-    let mut line = [0u8; LINE_LIMIT];
-    let len = put_join(source, r, &mut line);
-    if LINE_LIMIT < len {
-        return Written {
-            number: NO_ROOM,
-            len: 0,
-        };
-    }
-    put(out, 0, &line[..len]);
-    Written {
-        number: ACCEPTED,
-        len,
-    }
-}
-
-// Puts what an SJOIN tells of a record, its parameters with one SPACE between them and no ':', at the front of the output and answers how many bytes they
-// are; 0 where there is no room for all of them. They may be longer than a line; room for DESCRIPTION_LIMIT bytes is enough.
-pub fn describe(r: Record, out: &mut [u8]) -> usize
-    ensures answer { λ n. ⌜ n ≡ length (describedIn (now (out .entry)) (decode r)) ⌝ }
-    ensures output { λ _. ⌜ now (out .exit) ≡ front (describedIn (now (out .entry)) (decode r)) (now (out .entry)) ⌝ }
-    ensures limit { λ _. do ⌜ (length (described (decode r)) ≤ descriptionLimit) × ((← ⟦DESCRIPTION_LIMIT⟧ .entry) ≡ descriptionLimit) ⌝ }
-{
-    let mut text = [0u8; SCRATCH];
-    let end = put_description(r, &mut text);
-    let len = end - 1;
-    if out.len() < len {
-        return 0;
-    }
-    put(out, 0, part(&text, 1, end));
-    len
 }

@@ -19,7 +19,7 @@ const LIMITS: [(&str, &str, &str); 12] = [
     ("SLOTS", "channel", "Record::SLOTS"),
     ("LINKS", "links", "Links::COUNT"),
     ("LOG_HEAD", "journal", "HEAD"),
-    ("DESCRIPTION", "sjoin", "DESCRIPTION_LIMIT"),
+    ("DESCRIPTION", "telling", "DESCRIPTION_LIMIT"),
     ("REFUSAL_TEXT", "wording", "TEXT_LIMIT"),
 ];
 

@@ -9,7 +9,7 @@ use Rattle.refusal.specs.Numbers.{notWellFormed, noRoom}
 use Rattle.octets.specs.Room.{front}
 use Rattle.channel.specs.Record.{decode}
 use Rattle.writer.proofs.Answers.{answers-refused, answers-written}
-use Rattle.sjoin.specs.Telling.{described, describedIn}
+use Rattle.telling.specs.Telling.{described, describedIn}
 use Rattle.capi.specs.Describing.{describeRules}
 use Rattle.capi.proofs.Describing.{ill, full, whole, blank}
 use borrow.Author.Needs.{needs}

@@ -11,7 +11,7 @@ use Rattle.channel.specs.declared.Record.{Record}
 use Rattle.channel.specs.Record.{decode}
 use Rattle.channel.specs.Members.{without}
 use Rattle.table.specs.Network.{Network, withSlots}
-use Rattle.sjoin.specs.Telling.{joinMessage, tellRules}
+use Rattle.telling.specs.Telling.{joinMessage, tellRules}
 use Rattle.relay.specs.declared.Change.{Change}
 use Rattle.relay.specs.declared.Deed.{Deed}
 use Rattle.relay.specs.declared.Deed.the-variants.{Nothing, Set, Drop}

@@ -13,7 +13,7 @@ put-requires : tie.Need-put-requires
 put-requires c κs = search needs
 
 returns : tie.Need-returns
-returns c = c .before .put .ensures .1 ∙ put-padded keyLimit (c .before .before .before .before .args .key .now) (c .before .before .before .before .pre)
+returns c = let s = c .before .before .before .before in c .before .put .ensures .1 ∙ put-padded keyLimit (s .args .key .now) (s .pre)
 
 pub key-room-spec : {M : Type 1} → statement M
 key-room-spec = tie.close (tie.spec slice-aggregate-put put-requires returns)

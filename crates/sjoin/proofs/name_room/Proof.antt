@@ -13,7 +13,7 @@ put-requires : tie.Need-put-requires
 put-requires c κs = search needs
 
 returns : tie.Need-returns
-returns c = c .before .put .ensures .1 ∙ put-padded nameLimit (c .before .before .before .before .args .name .now) (c .before .before .before .before .pre)
+returns c = let s = c .before .before .before .before in c .before .put .ensures .1 ∙ put-padded nameLimit (s .args .name .now) (s .pre)
 
 pub name-room-spec : {M : Type 1} → statement M
 name-room-spec = tie.close (tie.spec slice-aggregate-put put-requires returns)

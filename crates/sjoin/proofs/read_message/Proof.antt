@@ -14,25 +14,43 @@ use Rattle.channel.specs.Members.{roster}
 use Rattle.message.specs.Grammar.{lineLimit}
 use Rattle.message.specs.Content.{Content}
 use Rattle.message.specs.Parts.{contentBy}
+use Rattle.message.proofs.Held.{params-count}
 use Rattle.sjoin.specs.Entries.{goodEntries, named}
 use Rattle.sjoin.specs.Join.{listIn, goodCount, sourceRules, settingRules, joinRules, spanRules}
-use Rattle.sjoin.specs.Scan.{Parted}
+use Rattle.sjoin.specs.Private.Scanning.{Parted}
 use Rattle.sjoin.proofs.Judged.{source-counts, source-decides, setting-decides, unlisted, listed, span-long, span-rules}
 use Rattle.sjoin.proofs.Listed.{list-room}
-use Rattle.sjoin.proofs.Answers.{bounds, params-count, list-at, parted, list-small, in-refused, in-record}
+use Rattle.sjoin.proofs.Answers.{bounds, list-at, parted, list-small, in-refused, in-record}
 use Rattle.sjoin.proofs.read_message.Statement.{statement}
 use Rattle.sjoin.proofs.read_message.Tie as tie
 
+-- ---- what is read of the spans, at each moment: at the start, count and source are good, the list was read and judged, and is good
 abbrev content : tie.Start → Content
 content c = contentBy (c .args .text .now) (c .args .m)
 
+abbrev begin : tie.Else2 → tie.Start
+begin c = c .before .before .before .before
+
+abbrev sourced : tie.Else2 → Content
+sourced c = content (begin c)
+
+abbrev settled : tie.After-param-in → Content
+settled c = sourced (c .before .before .before .before)
+
+abbrev judged : tie.After-entries-of → Content
+judged c = settled (c .before)
+
+abbrev taken : tie.Else4 → Content
+taken c = judged (c .before .before)
+
+-- ---- the text is too long
 refused-requires : tie.Need-refused-requires
 refused-requires c κs = search needs
 
 returns : tie.Need-returns
 returns c =
-    let s = c .before .before .before in
-    c .refused .ensures ∙ in-refused (s .args .text .now) (s .args .m) _ (span-long (s .args .text .now) (s .args .m) (c .before .if1 .taken)) (λ e. omega arith)
+    let a = c .before .before .before .args in
+    c .refused .ensures ∙ in-refused (a .text .now) (a .m) _ (span-long (a .text .now) (a .m) (c .before .if1 .taken)) (λ e. omega arith)
 
 source-number-requires : tie.Need-source-number-requires
 source-number-requires c κs = search needs
@@ -42,29 +60,31 @@ refused-requires-2 c κs = search needs
 
 -- ---- the text is short: the rules of what is read decide
 rules : (c : tie.Else1) → firstOf (spanRules (c .before .before .args .text .now) (c .before .before .args .m)) ≡ firstOf (joinRules (content (c .before .before)))
-rules c = span-rules (c .before .before .args .text .now) (c .before .before .args .m) (c .if1 .left)
+rules c = let a = c .before .before .args in span-rules (a .text .now) (a .m) (c .if1 .left)
 
 returns-2 : tie.Need-returns-2
 returns-2 c =
-    let s = c .before .before .before .before .before in
-    let e = c .before .before .source-number .ensures in
-    c .refused2 .ensures ∙ in-refused (s .args .text .now) (s .args .m) _ (e ∙ sym (rules (c .before .before .before) ∙ source-decides (content s) (λ z. c .before .if2 .taken (e ∙ z)))) (c .before .if2 .taken)
+    let test = c .before in
+    let short = test .before .before in
+    let s = short .before .before in
+    let e = test .before .source-number .ensures in
+    c .refused2 .ensures ∙ in-refused (s .args .text .now) (s .args .m) _ (e ∙ sym (rules short ∙ source-decides (content s) (λ z. test .if2 .taken (e ∙ z)))) (test .if2 .taken)
 
 -- ---- count and source are good
-source : (c : tie.Else2) → firstOf (sourceRules (content (c .before .before .before .before))) ≡ accepted
+source : (c : tie.Else2) → firstOf (sourceRules (sourced c)) ≡ accepted
 source c = sym (c .before .source-number .ensures) ∙ c .if2 .left
 
-good : (c : tie.Else2) → goodCount (content (c .before .before .before .before)) ≡ true
-good c = source-counts (content (c .before .before .before .before)) (source c)
+good : (c : tie.Else2) → goodCount (sourced c) ≡ true
+good c = source-counts (sourced c) (source c)
 
-count : (c : tie.Else2) → (1 ≤ c .before .before .before .before .args .m .count) × (length (content (c .before .before .before .before) .params) ≡ c .before .before .before .before .args .m .count - 1 + 1)
+count : (c : tie.Else2) → (1 ≤ begin c .args .m .count) × (length (sourced c .params) ≡ begin c .args .m .count - 1 + 1)
 count c =
-    let s = c .before .before .before .before in
+    let s = begin c in
     let n = params-count (s .args .text .now) (s .args .m) (search (needs, unmapped)) in
     omega (arith, n, bounds (content s) (good c))
 
-behind : (c : tie.Else2) → Parted (content (c .before .before .before .before)) (c .before .before .before .before .args .m .count - 1)
-behind c = parted (content (c .before .before .before .before)) _ (good c) (count c .1)
+behind : (c : tie.Else2) → Parted (sourced c) (begin c .args .m .count - 1)
+behind c = parted (sourced c) _ (good c) (count c .1)
 
 sub-last : tie.Need-sub-last
 sub-last c = count (c .before) .0
@@ -77,19 +97,25 @@ refused-requires-3 c κs = search needs
 
 returns-3 : tie.Need-returns-3
 returns-3 c =
-    let s = c .before .before .before .before .before .before .before .before in
-    let e = c .before .before .setting-number .ensures in
-    c .refused3 .ensures ∙ in-refused (s .args .text .now) (s .args .m) _ (e ∙ sym (rules (c .before .before .before .before .before .before) ∙ setting-decides (content s) (source (c .before .before .before .before)) (λ z. c .before .if3 .taken (e ∙ z)))) (c .before .if3 .taken)
+    let test = c .before in
+    let two = test .before .before .before in
+    let short = two .before .before in
+    let a = short .before .before .args in
+    let e = test .before .setting-number .ensures in
+    c .refused3 .ensures ∙ in-refused (a .text .now) (a .m) _ (e ∙ sym (rules short ∙ setting-decides (sourced two) (source two) (λ z. test .if3 .taken (e ∙ z)))) (test .if3 .taken)
 
 -- ---- time, name and modes are good
 param-in-requires : tie.Need-param-in-requires
 param-in-requires c κs = search needs
 
-list : (c : tie.After-param-in) → c .param-in .result .now ≡ listIn (content (c .before .before .before .before .before .before .before .before))
-list c = c .param-in .ensures .0 ∙ list-at (content (c .before .before .before .before .before .before .before .before)) _ (behind (c .before .before .before .before))
+list : (c : tie.After-param-in) → c .param-in .result .now ≡ listIn (settled c)
+list c = c .param-in .ensures .0 ∙ list-at (settled c) _ (behind (c .before .before .before .before))
 
-small : (c : tie.After-param-in) → length (listIn (content (c .before .before .before .before .before .before .before .before))) ≤ lineLimit
-small c = omega (arith, list-small (c .before .before .before .before .before .before .before .before .args .text .now) (c .before .before .before .before .before .before .before .before .args .m), c .before .before .before .before .before .before .if1 .left)
+small : (c : tie.After-param-in) → length (listIn (settled c)) ≤ lineLimit
+small c =
+    let short = c .before .before .before .before .before .before in
+    let a = short .before .before .args in
+    omega (arith, list-small (a .text .now) (a .m), short .if1 .left)
 
 entries-of-requires : tie.Need-entries-of-requires
 entries-of-requires c κs = omega (arith, small c, ap (λ (l : List ℕ). length l) (list c))
@@ -97,39 +123,47 @@ entries-of-requires c κs = omega (arith, small c, ap (λ (l : List ℕ). length
 refused-requires-4 : tie.Need-refused-requires-4
 refused-requires-4 c κs = search needs
 
-setting : (c : tie.After-param-in) → firstOf (settingRules (content (c .before .before .before .before .before .before .before .before))) ≡ accepted
+setting : (c : tie.After-param-in) → firstOf (settingRules (settled c)) ≡ accepted
 setting c = sym (c .before .before .setting-number .ensures) ∙ c .before .if3 .left
 
-entries : (c : tie.After-entries-of) (t : Bool) → c .entries-of .result .good ≡ t → goodEntries (listIn (content (c .before .before .before .before .before .before .before .before .before))) ≡ t
+entries : (c : tie.After-entries-of) (t : Bool) → c .entries-of .result .good ≡ t → goodEntries (listIn (judged c)) ≡ t
 entries c t e = sym (ap goodEntries (list (c .before))) ∙ sym (c .entries-of .ensures .0) ∙ e
 
 returns-4 : tie.Need-returns-4
 returns-4 c =
-    let s = c .before .before .before .before .before .before .before .before .before .before .before .before in
-    let p = c .before .before .before .before in
+    let read = c .before .before .before in
+    let three = read .before in
+    let two = three .before .before .before .before in
+    let short = two .before .before in
+    let a = short .before .before .args in
     c .refused4 .ensures
-    ∙ in-refused (s .args .text .now) (s .args .m) _ (sym (rules (c .before .before .before .before .before .before .before .before .before .before) ∙ unlisted (content s) (source (c .before .before .before .before .before .before .before .before)) (setting p) (entries (c .before .before .before) false (not-true _ (c .before .if4 .taken))))) (λ e. omega arith)
+    ∙ in-refused (a .text .now) (a .m) _ (sym (rules short ∙ unlisted (judged read) (source two) (setting three) (entries read false (not-true _ (c .before .if4 .taken))))) (λ e. omega arith)
 
 -- ---- and so is the list
-good-list : (c : tie.Else4) → goodEntries (listIn (content (c .before .before .before .before .before .before .before .before .before .before .before))) ≡ true
+good-list : (c : tie.Else4) → goodEntries (listIn (taken c)) ≡ true
 good-list c = entries (c .before .before) true (not-false _ (c .if4 .left))
 
-none : (c : tie.Else4) → firstOf (joinRules (content (c .before .before .before .before .before .before .before .before .before .before .before))) ≡ accepted
-none c = listed (content (c .before .before .before .before .before .before .before .before .before .before .before)) (source (c .before .before .before .before .before .before .before)) (setting (c .before .before .before)) (good-list c)
+none : (c : tie.Else4) → firstOf (joinRules (taken c)) ≡ accepted
+none c =
+    let three = c .before .before .before in
+    listed (taken c) (source (three .before .before .before .before)) (setting three) (good-list c)
 
 record-of-requires : tie.Need-record-of-requires
 record-of-requires c κs =
-    let p = c .before .before .before in
-    let l = listIn (content (c .before .before .before .before .before .before .before .before .before .before .before)) in
+    let three = c .before .before .before in
     record {
-      parted = behind (c .before .before .before .before .before .before .before);
+      parted = behind (three .before .before .before .before);
       passes = none c;
-      few = list-room l (good-list c) (small p);
-      named = c .before .before .entries-of .ensures .1 (ap goodEntries (list p) ∙ good-list c) ∙ ap (λ (s : List ℕ). roster (named s)) (list p);
+      few = list-room (listIn (taken c)) (good-list c) (small three);
+      named = c .before .before .entries-of .ensures .1 (ap goodEntries (list three) ∙ good-list c) ∙ ap (λ (s : List ℕ). roster (named s)) (list three);
     }
 
 returns-5 : tie.Need-returns-5
-returns-5 c = let s = c .before .before .before .before .before .before .before .before .before .before .before .before in in-record (s .args .text .now) (s .args .m) (c .record-of .result) (rules (c .before .before .before .before .before .before .before .before .before .before) ∙ none (c .before)) (c .record-of .ensures)
+returns-5 c =
+    let four = c .before in
+    let short = four .before .before .before .before .before .before .before .before .before in
+    let a = short .before .before .args in
+    in-record (a .text .now) (a .m) (c .record-of .result) (rules short ∙ none four) (c .record-of .ensures)
 
 pub read-message-spec : {M : Type 1} → statement M
 read-message-spec =

@@ -1,31 +1,43 @@
 -- `record_of` meets its contract: name, time, modes, key, limit and members are each what the line tells. Assumes nothing.
-use mathlib.Core.Path.{refl, ap, _∙_}
+use mathlib.Core.Path.{_≡_, refl, ap, _∙_}
+use mathlib.Core.Bool.{true}
 use mathlib.Core.List.{List}
 use Prim.Native.Nat.{ℕ}
 use native.Mathlib.Omega.{arith}
 use lib.ListN.{length}
 use borrow.Author.Needs.{needs}
+use Rattle.message.specs.Content.{Content}
 use Rattle.message.specs.Parts.{contentBy}
 use Rattle.names.proofs.Channels.{channel-length}
-use Rattle.sjoin.specs.Modes.{keyLetter, limitLetter, lettersOf, modesByte, limitIn, argumentOf}
+use Rattle.sjoin.specs.Modes.{keyLetter, limitLetter, lettersOf, hasParameter, modesByte, limitIn, argumentOf}
 use Rattle.sjoin.specs.Join.{listIn, nameIn, modesIn, argumentsIn}
-use Rattle.sjoin.proofs.Joined.{Passes, passes, argument-given, key-short, limit-read}
+use Rattle.sjoin.proofs.Joined.{Passes, passes, Given, argument-given, key-short, limit-read}
 use Rattle.sjoin.proofs.Answers.{ordered-is, made}
 use Rattle.sjoin.proofs.record_of.Statement.{statement}
 use Rattle.sjoin.proofs.record_of.Tie as tie
 
+-- what is read of the spans, and what the tests tell of it
+abbrev content : tie.Start → Content
+content c = contentBy (c .args .text .now) (c .args .m)
+
+good : (c : tie.Start) → Passes (content c)
+good c = passes (content c) (c .pre .passes)
+
+-- a letter that has a parameter, and its own
+abbrev argument : ℕ → tie.Start → List ℕ
+argument letter c = argumentOf letter (modesIn (content c)) (argumentsIn (content c))
+
+given : (letter : ℕ) (c : tie.Start) → hasParameter letter ≡ true → Given letter (lettersOf (modesIn (content c))) (argument letter c)
+given letter c has = argument-given (modesIn (content c)) (argumentsIn (content c)) letter has (good c .modes)
+
 param-in-requires : tie.Need-param-in-requires
 param-in-requires c κs = search needs
 
--- what the tests tell
-good : (c : tie.After-param-in) → Passes (contentBy (c .before .before .args .text .now) (c .before .before .args .m))
-good c = passes (contentBy (c .before .before .args .text .now) (c .before .before .args .m)) (c .before .before .pre .passes)
-
 name-room-requires : tie.Need-name-room-requires
-name-room-requires c κs = omega (arith, channel-length (nameIn (contentBy (c .before .before .args .text .now) (c .before .before .args .m))) (good c .name), ap (λ (l : List ℕ). length l) (c .param-in .ensures .0))
+name-room-requires c κs = let s = c .before .before in omega (arith, channel-length (nameIn (content s)) (good s .name), ap (λ (l : List ℕ). length l) (c .param-in .ensures .0))
 
 time-of-requires : tie.Need-time-of-requires
-time-of-requires c κs = good (c .before) .time
+time-of-requires c κs = good (c .before .before .before) .time
 
 param-in-requires-2 : tie.Need-param-in-requires-2
 param-in-requires-2 c κs = search needs
@@ -38,8 +50,8 @@ argument-requires c κs = c .before .before .before .before .before .before .pre
 
 key-room-requires : tie.Need-key-room-requires
 key-room-requires c κs =
-    let d = contentBy (c .before .before .before .before .before .before .before .args .text .now) (c .before .before .before .before .before .before .before .args .m) in
-    omega (arith, key-short (lettersOf (modesIn d)) (argumentOf keyLetter (modesIn d) (argumentsIn d)) (argument-given (modesIn d) (argumentsIn d) keyLetter refl (good (c .before .before .before .before .before) .modes)), ap (λ (l : List ℕ). length l) (c .argument .ensures))
+    let s = c .before .before .before .before .before .before .before in
+    omega (arith, key-short (lettersOf (modesIn (content s))) (argument keyLetter s) (given keyLetter s refl), ap (λ (l : List ℕ). length l) {y = argument keyLetter s} (c .argument .ensures))
 
 argument-requires-2 : tie.Need-argument-requires-2
 argument-requires-2 c κs = c .before .before .before .before .before .before .before .before .pre .parted
@@ -52,12 +64,22 @@ ordered-requires c κs = search needs
 
 returns : tie.Need-returns
 returns c =
-    let e = c .before .before .before .before .before .before .before .before .before .before .before .before .before in
-    let d = contentBy (e .args .text .now) (e .args .m) in
-    made d _ _ _ _ _ _ _ (c .before .ordered .result) (c .before .before .before .before .before .before .before .before .before .before .before .param-in .ensures .0) (c .before .before .before .before .before .before .before .before .before .before .name-room .ensures) (c .before .before .before .before .before .before .before .before .before .time-of .ensures) (c .before .before .before .before .before .before .before .modes-byte .ensures ∙ ap modesByte (c .before .before .before .before .before .before .before .before .param-in2 .ensures .0))
-    (c .before .before .before .before .before .before .argument .ensures) (c .before .before .before .before .before .key-room .ensures)
-    (c .before .before .before .limit-in .ensures ∙ ap limitIn {y = argumentOf limitLetter (modesIn d) (argumentsIn d)} (c .before .before .before .before .argument2 .ensures) ∙ limit-read (lettersOf (modesIn d)) (argumentOf limitLetter (modesIn d) (argumentsIn d)) (argument-given (modesIn d) (argumentsIn d) limitLetter refl (good (c .before .before .before .before .before .before .before .before .before .before .before) .modes)))
-    (ordered-is (e .args .entries) (c .before .ordered .result) (listIn d) (e .pre .named) (e .pre .few) (c .before .ordered .ensures))
+    let members = c .before in
+    let limited = members .before .before in
+    let found = limited .before in
+    let keyed = found .before in
+    let looked = keyed .before in
+    let lettered = looked .before in
+    let read = lettered .before in
+    let timed = read .before in
+    let named = timed .before in
+    let first = named .before in
+    let s = first .before .before in
+    made (content s) _ _ _ _ _ _ _ (members .ordered .result) (first .param-in .ensures .0) (named .name-room .ensures) (timed .time-of .ensures)
+    (lettered .modes-byte .ensures ∙ ap modesByte (read .param-in2 .ensures .0))
+    (looked .argument .ensures) (keyed .key-room .ensures)
+    (limited .limit-in .ensures ∙ ap limitIn {y = argument limitLetter s} (found .argument2 .ensures) ∙ limit-read (lettersOf (modesIn (content s))) (argument limitLetter s) (given limitLetter s refl))
+    (ordered-is (s .args .entries) (members .ordered .result) (listIn (content s)) (s .pre .named) (s .pre .few) (members .ordered .ensures))
 
 pub record-of-spec : {M : Type 1} → statement M
 record-of-spec =

@@ -11,36 +11,51 @@ use Rattle.names.specs.Names.{isChannel}
 use Rattle.channel.specs.Limits.{timeLimit}
 use Rattle.message.specs.Content.{Content}
 use Rattle.message.specs.Parts.{contentBy}
-use Rattle.sjoin.specs.Modes.{lettersOf, goodLetters, parametered, goodArguments, goodModes}
-use Rattle.sjoin.specs.Join.{timeIn, nameIn, modesIn, argumentsIn, goodTime}
+use Rattle.sjoin.specs.Modes.{lettersOf, goodLetters, parametered, goodArguments}
+use Rattle.sjoin.specs.Join.{timeIn, nameIn, modesIn, argumentsIn, isTime}
 use Rattle.sjoin.proofs.Judged.{time-value, time-none, modes-parts, modes-letters, untimed, zero-time, unnamed, unfit, settled}
 use Rattle.sjoin.proofs.setting_number.Statement.{statement}
 use Rattle.sjoin.proofs.setting_number.Tie as tie
 
--- ---- what is known once each test is passed
+-- ---- what is read of the spans, at each moment: the time was read and is not 0, the name and the letters are good, the arguments were judged
 abbrev content : tie.After-param-in → Content
 content c = contentBy (c .before .before .args .text .now) (c .before .before .args .m)
 
-time : (c : tie.After-known-told) → decimalUpTo timeLimit (timeIn (content (c .before .before .before .before))) ≡ Value (c .before .time .given .0 .0)
-time c = sym (ap (decimalUpTo timeLimit) (c .before .before .before .before .param-in .ensures .0)) ∙ sym (c .before .before .before .decimal .ensures .0) ∙ c .before .time .given .1
+abbrev timed : tie.After-known-told → Content
+timed c = content (c .before .before .before .before)
 
-timely : (c : tie.After-known-told) → goodTime (content (c .before .before .before .before)) ≡ true
-timely c = time-value (content (c .before .before .before .before)) (c .before .time .given .0 .0) (time c) .0
+abbrev dated : tie.Else1 → Content
+dated c = timed (c .before)
 
-after : (c : tie.Else1) → valueOf (timeIn (content (c .before .before .before .before .before))) ≡ 0 → ⊥
-after c e = c .if1 .left (sym (time-value (content (c .before .before .before .before .before)) (c .before .before .time .given .0 .0) (time (c .before)) .1) ∙ e)
+abbrev named : tie.Else2 → Content
+named c = dated (c .before .before .before)
 
-name : (c : tie.Else2) → isChannel (nameIn (content (c .before .before .before .before .before .before .before .before))) ≡ true
+abbrev lettered : tie.Else3 → Content
+lettered c = named (c .before .before .before)
+
+abbrev argued : tie.After-good-arguments → Content
+argued c = lettered (c .before)
+
+-- ---- what is known then
+time : (c : tie.After-known-told) → decimalUpTo timeLimit (timeIn (timed c)) ≡ Value (c .before .time .given .0 .0)
+time c =
+    let parsed = c .before .before .before in
+    sym (ap (decimalUpTo timeLimit) (parsed .before .param-in .ensures .0)) ∙ sym (parsed .decimal .ensures .0) ∙ c .before .time .given .1
+
+timely : (c : tie.After-known-told) → isTime (timeIn (timed c)) ≡ true
+timely c = time-value (timeIn (timed c)) _ (time c) .0
+
+after : (c : tie.Else1) → valueOf (timeIn (dated c)) ≡ 0 → ⊥
+after c e = c .if1 .left (sym (time-value (timeIn (dated c)) _ (time (c .before)) .1) ∙ e)
+
+name : (c : tie.Else2) → isChannel (nameIn (named c)) ≡ true
 name c = sym (ap isChannel (c .before .before .param-in2 .ensures .0)) ∙ sym (c .before .is-channel .ensures) ∙ not-false _ (c .if2 .left)
 
-letters : (c : tie.Else3) → goodLetters (modesIn (content (c .before .before .before .before .before .before .before .before .before .before .before))) ≡ true
+letters : (c : tie.Else3) → goodLetters (modesIn (lettered c)) ≡ true
 letters c = sym (ap goodLetters (c .before .before .param-in3 .ensures .0)) ∙ sym (c .before .good-letters .ensures) ∙ not-false _ (c .if3 .left)
 
-arguments : (c : tie.After-good-arguments) → c .good-arguments .result ≡ goodArguments (parametered (lettersOf (modesIn (content (c .before .before .before .before .before .before .before .before .before .before .before .before))))) (argumentsIn (content (c .before .before .before .before .before .before .before .before .before .before .before .before)))
-arguments c = c .good-arguments .ensures ∙ ap (λ (m : List ℕ). goodArguments (parametered (lettersOf m)) (argumentsIn (content (c .before .before .before .before .before .before .before .before .before .before .before .before)))) (c .before .before .before .param-in3 .ensures .0)
-
-modes : (c : tie.Else4) → goodModes (modesIn (content (c .before .before .before .before .before .before .before .before .before .before .before .before .before))) (argumentsIn (content (c .before .before .before .before .before .before .before .before .before .before .before .before .before))) ≡ true
-modes c = modes-parts (content (c .before .before .before .before .before .before .before .before .before .before .before .before .before)) true true (letters (c .before .before)) (sym (arguments (c .before)) ∙ not-false _ (c .if4 .left))
+arguments : (c : tie.After-good-arguments) → c .good-arguments .result ≡ goodArguments (parametered (lettersOf (modesIn (argued c)))) (argumentsIn (argued c))
+arguments c = c .good-arguments .ensures ∙ ap (λ (m : List ℕ). goodArguments (parametered (lettersOf m)) (argumentsIn (argued c))) (c .before .before .before .param-in3 .ensures .0)
 
 -- ---- the returns
 param-in-requires : tie.Need-param-in-requires
@@ -56,12 +71,13 @@ enum-told : tie.Need-enum-told
 enum-told c = search needs
 
 returns : tie.Need-returns
-returns c = untimed (content (c .before .before .before)) (time-none (content (c .before .before .before)) (sym (ap (decimalUpTo timeLimit) (c .before .before .before .param-in .ensures .0)) ∙ sym (c .before .before .decimal .ensures .0) ∙ c .enum-told .given .1))
+returns c =
+    let parsed = c .before .before in
+    let read = parsed .before in
+    untimed (content read) (time-none (timeIn (content read)) (sym (ap (decimalUpTo timeLimit) (read .param-in .ensures .0)) ∙ sym (parsed .decimal .ensures .0) ∙ c .enum-told .given .1))
 
 returns-2 : tie.Need-returns-2
-returns-2 c =
-    let p = c .before .before .before .before .before in
-    zero-time (content p) (timely (c .before)) (time-value (content p) (c .before .before .time .given .0 .0) (time (c .before)) .1 ∙ c .if1 .taken)
+returns-2 c = let told = c .before in zero-time (timed told) (timely told) (time-value (timeIn (timed told)) _ (time told) .1 ∙ c .if1 .taken)
 
 param-in-requires-2 : tie.Need-param-in-requires-2
 param-in-requires-2 c κs = search needs
@@ -70,7 +86,9 @@ is-channel-requires : tie.Need-is-channel-requires
 is-channel-requires c κs = search needs
 
 returns-3 : tie.Need-returns-3
-returns-3 c = unnamed (content (c .before .before .before .before .before .before .before .before)) (timely (c .before .before .before .before)) (after (c .before .before .before)) (sym (ap isChannel (c .before .before .param-in2 .ensures .0)) ∙ sym (c .before .is-channel .ensures) ∙ not-true _ (c .if2 .taken))
+returns-3 c =
+    let one = c .before .before .before in
+    unnamed (dated one) (timely (one .before)) (after one) (sym (ap isChannel (c .before .before .param-in2 .ensures .0)) ∙ sym (c .before .is-channel .ensures) ∙ not-true _ (c .if2 .taken))
 
 param-in-requires-3 : tie.Need-param-in-requires-3
 param-in-requires-3 c κs = search needs
@@ -80,19 +98,32 @@ good-letters-requires c κs = search needs
 
 returns-4 : tie.Need-returns-4
 returns-4 c =
-    let p = c .before .before .before .before .before .before .before .before .before .before .before in
-    unfit (content p) (timely (c .before .before .before .before .before .before .before)) (after (c .before .before .before .before .before .before)) (name (c .before .before .before)) (modes-letters (content p) (sym (ap goodLetters (c .before .before .param-in3 .ensures .0)) ∙ sym (c .before .good-letters .ensures) ∙ not-true _ (c .if3 .taken)))
+    let two = c .before .before .before in
+    let one = two .before .before .before in
+    let d = named two in
+    unfit d (timely (one .before)) (after one) (name two)
+    (modes-letters d (sym (ap goodLetters (c .before .before .param-in3 .ensures .0)) ∙ sym (c .before .good-letters .ensures) ∙ not-true _ (c .if3 .taken)))
 
 good-arguments-requires : tie.Need-good-arguments-requires
 good-arguments-requires c κs = search needs
 
 returns-5 : tie.Need-returns-5
 returns-5 c =
-    let p = c .before .before .before .before .before .before .before .before .before .before .before .before .before in
-    unfit (content p) (timely (c .before .before .before .before .before .before .before .before .before)) (after (c .before .before .before .before .before .before .before .before)) (name (c .before .before .before .before .before)) (modes-parts (content p) true false (letters (c .before .before)) (sym (arguments (c .before)) ∙ not-true _ (c .if4 .taken)))
+    let judged = c .before in
+    let three = judged .before in
+    let two = three .before .before .before in
+    let one = two .before .before .before in
+    let d = lettered three in
+    unfit d (timely (one .before)) (after one) (name two) (modes-parts d true false (letters three) (sym (arguments judged) ∙ not-true _ (c .if4 .taken)))
 
 returns-6 : tie.Need-returns-6
-returns-6 c = settled (content (c .before .before .before .before .before .before .before .before .before .before .before .before .before)) (timely (c .before .before .before .before .before .before .before .before .before)) (after (c .before .before .before .before .before .before .before .before)) (name (c .before .before .before .before .before)) (modes c)
+returns-6 c =
+    let judged = c .before in
+    let three = judged .before in
+    let two = three .before .before .before in
+    let one = two .before .before .before in
+    let d = lettered three in
+    settled d (timely (one .before)) (after one) (name two) (modes-parts d true true (letters three) (sym (arguments judged) ∙ not-false _ (c .if4 .left)))
 
 pub setting-number-spec : {M : Type 1} → statement M
 setting-number-spec =

@@ -7,12 +7,15 @@ use lib.ListN.{length}
 use borrow.Author.Needs.{needs}
 use borrow.Author.Tests.{not-true, not-false}
 use Rattle.laws.proofs.Lists.{unmapped}
+use Rattle.names.specs.Names.{isServerId}
+use Rattle.names.proofs.UserIds.{no-server-id}
 use Rattle.message.specs.Grammar.{paramLimit}
-use Rattle.message.specs.Content.{Content}
+use Rattle.message.specs.Content.{Content, prefixIs}
 use Rattle.message.specs.Parts.{contentBy}
-use Rattle.sjoin.specs.Join.{isSource, goodCount}
-use Rattle.sjoin.proofs.Judged.{source-told, few, many, counted, unsourced, sourced}
-use Rattle.sjoin.proofs.Answers.{params-count}
+use Rattle.message.proofs.Held.{params-count}
+use Rattle.message.proofs.Prefixes.{prefix-told}
+use Rattle.sjoin.specs.Join.{goodCount}
+use Rattle.sjoin.proofs.Judged.{few, many, counted, unsourced, sourced}
 use Rattle.sjoin.proofs.source_number.Statement.{statement}
 use Rattle.sjoin.proofs.source_number.Tie as tie
 
@@ -24,10 +27,10 @@ count : (c : tie.Start) → length (content c .params) ≡ min (c .args .m .coun
 count c = params-count (c .args .text .now) (c .args .m) (search (needs, unmapped))
 
 returns : tie.Need-returns
-returns c = few (content (c .before .before .before)) (omega (arith, count (c .before .before .before), c .if1 .taken))
+returns c = let s = c .before .before .before in few (content s) (omega (arith, count s, c .if1 .taken))
 
 returns-2 : tie.Need-returns-2
-returns-2 c = many (content (c .before .before .before .before .before)) (omega (arith, count (c .before .before .before .before .before), c .if2 .taken))
+returns-2 c = let s = c .before .before .before .before .before in many (content s) (omega (arith, count s, c .if2 .taken))
 
 prefix-in-requires : tie.Need-prefix-in-requires
 prefix-in-requires c κs = search needs
@@ -36,19 +39,24 @@ is-server-id-requires : tie.Need-is-server-id-requires
 is-server-id-requires c κs = search needs
 
 -- ---- once the count is good
-good : (c : tie.After-is-server-id) → goodCount (content (c .before .before .before .before .before .before .before)) ≡ true
-good c =
-    let s = c .before .before .before .before .before .before .before in
-    counted (content s) (omega (arith, count s, c .before .before .before .before .if1 .left, c .before .before .if2 .left)) (omega (arith, count s, c .before .before .if2 .left))
+abbrev counting : tie.After-is-server-id → Content
+counting c = content (c .before .before .before .before .before .before .before)
 
-source : (c : tie.After-is-server-id) (t : Bool) → c .is-server-id .result ≡ t → isSource (content (c .before .before .before .before .before .before .before) .prefix) ≡ t
-source c t e = source-told (content (c .before .before .before .before .before .before .before) .prefix) _ _ t (c .before .prefix-in .ensures .0) (c .is-server-id .ensures) e
+good : (c : tie.After-is-server-id) → goodCount (counting c) ≡ true
+good c =
+    let two = c .before .before in
+    let one = two .before .before in
+    let n = count (one .before .before .before) in
+    counted (counting c) (omega (arith, n, one .if1 .left, two .if2 .left)) (omega (arith, n, two .if2 .left))
+
+source : (c : tie.After-is-server-id) (t : Bool) → c .is-server-id .result ≡ t → prefixIs isServerId (counting c .prefix) ≡ t
+source c t e = prefix-told isServerId no-server-id (counting c .prefix) _ _ t (c .before .prefix-in .ensures .0) (c .is-server-id .ensures) e
 
 returns-3 : tie.Need-returns-3
-returns-3 c = unsourced (content (c .before .before .before .before .before .before .before .before)) (good (c .before)) (source (c .before) false (not-true _ (c .if3 .taken)))
+returns-3 c = let tested = c .before in unsourced (counting tested) (good tested) (source tested false (not-true _ (c .if3 .taken)))
 
 returns-4 : tie.Need-returns-4
-returns-4 c = sourced (content (c .before .before .before .before .before .before .before .before)) (good (c .before)) (source (c .before) true (not-false _ (c .if3 .left)))
+returns-4 c = let tested = c .before in sourced (counting tested) (good tested) (source tested true (not-false _ (c .if3 .left)))
 
 pub source-number-spec : {M : Type 1} → statement M
 source-number-spec =

@@ -4,7 +4,6 @@ use mathlib.Core.Bool.{true≢false}
 use borrow.Author.Needs.{needs}
 use Rattle.octets.specs.Decimals.{decimalUpTo}
 use Rattle.channel.specs.Limits.{timeLimit}
-use Rattle.message.specs.Parts.{contentBy}
 use Rattle.sjoin.proofs.Judged.{time-value, time-none}
 use Rattle.sjoin.proofs.time_of.Statement.{statement}
 use Rattle.sjoin.proofs.time_of.Tie as tie
@@ -22,11 +21,16 @@ enum-told : tie.Need-enum-told
 enum-told c = search needs
 
 returns : tie.Need-returns
-returns c = sym (time-value (contentBy (c .before .before .before .before .before .before .args .text .now) (c .before .before .before .before .before .before .args .m)) (c .before .time .given .0 .0) (sym (ap (decimalUpTo timeLimit) (c .before .before .before .before .param-in .ensures .0)) ∙ sym (c .before .before .before .decimal .ensures .0) ∙ c .before .time .given .1) .1)
+returns c =
+    let parsed = c .before .before .before in
+    let read = parsed .before .param-in .ensures .0 in
+    sym (time-value _ _ (ap (decimalUpTo timeLimit) (sym read) ∙ sym (parsed .decimal .ensures .0) ∙ c .before .time .given .1) .1)
 
 returns-2 : tie.Need-returns-2
 returns-2 c =
-    absurd (true≢false (sym (c .before .before .before .before .before .pre) ∙ time-none (contentBy (c .before .before .before .before .before .args .text .now) (c .before .before .before .before .before .args .m)) (sym (ap (decimalUpTo timeLimit) (c .before .before .before .param-in .ensures .0)) ∙ sym (c .before .before .decimal .ensures .0) ∙ c .enum-told .given .1)))
+    let parsed = c .before .before in
+    let read = parsed .before .param-in .ensures .0 in
+    absurd (true≢false (sym (parsed .before .before .before .pre) ∙ time-none _ (ap (decimalUpTo timeLimit) (sym read) ∙ sym (parsed .decimal .ensures .0) ∙ c .enum-told .given .1)))
 
 pub time-of-spec : {M : Type 1} → statement M
 time-of-spec =

@@ -7,8 +7,8 @@ use mathlib.Core.List.{List}
 use lib.ListN.{length}
 use Rattle.octets.specs.Room.{front}
 use Rattle.channel.specs.Record.{decode}
-use Rattle.sjoin.specs.Telling.{described}
-use Rattle.sjoin.proofs.Described.{described-all}
+use Rattle.telling.specs.Telling.{described}
+use Rattle.telling.proofs.Described.{described-all}
 use Rattle.console.proofs.Answering.{line-stands}
 use Rattle.console.proofs.listing.put_channel.Statement.{statement}
 use Rattle.console.proofs.listing.put_channel.Tie as tie

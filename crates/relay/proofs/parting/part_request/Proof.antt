@@ -9,14 +9,13 @@ use borrow.Author.Needs.{needs}
 use Rattle.refusal.specs.Numbers.{accepted}
 use Rattle.refusal.specs.Rules.{firstOf}
 use Rattle.laws.proofs.Lists.{unmapped}
-use Rattle.names.specs.Names.{isChannel}
+use Rattle.names.specs.Names.{isChannel, isUserId}
 use Rattle.message.specs.Grammar.{paramLimit}
-use Rattle.message.specs.Content.{Content}
+use Rattle.message.specs.Content.{Content, prefixIs}
 use Rattle.message.specs.Parts.{contentBy}
-use Rattle.sjoin.proofs.Answers.{params-count}
+use Rattle.message.proofs.Held.{params-count}
 use Rattle.relay.specs.declared.Asked.{Asked}
 use Rattle.relay.specs.declared.Command.the-variants.{Part}
-use Rattle.relay.specs.Users.{isUser}
 use Rattle.relay.specs.Parting.{partedIn, partRules}
 use Rattle.relay.specs.Private.Work.{nothing}
 use Rattle.relay.specs.Private.Commands.{askedBy}
@@ -39,10 +38,10 @@ some c = omega (arith, c .if1 .left, count (c .before .before))
 few : (c : tie.Else2) → length (content (c .before .before .before) .params) ≤ 2
 few c = omega (arith, c .if2 .left, count (c .before .before .before))
 
-sourced : (c : tie.After-is-user-id) (t : Bool) → c .is-user-id .result ≡ t → isUser (content (c .before .before .before .before .before) .prefix) ≡ t
+sourced : (c : tie.After-is-user-id) (t : Bool) → c .is-user-id .result ≡ t → prefixIs isUserId (content (c .before .before .before .before .before) .prefix) ≡ t
 sourced c t e = user-told (content (c .before .before .before .before .before)) (c .before .prefix-in .result .now) (c .before .prefix-in .ensures .0) _ t (c .is-user-id .ensures) e
 
-user : (c : tie.Else3) → isUser (content (c .before .before .before .before .before .before) .prefix) ≡ true
+user : (c : tie.Else3) → prefixIs isUserId (content (c .before .before .before .before .before .before) .prefix) ≡ true
 user c = sourced (c .before) true (not-false _ (c .if3 .left))
 
 channel : (c : tie.After-is-channel) (t : Bool) → c .is-channel .result ≡ t → isChannel (partedIn (content (c .before .before .before .before .before .before .before .before))) ≡ t

@@ -9,13 +9,13 @@ use borrow.Author.Needs.{needs}
 use Rattle.refusal.specs.Numbers.{accepted}
 use Rattle.refusal.specs.Rules.{firstOf}
 use Rattle.laws.proofs.Lists.{unmapped}
+use Rattle.names.specs.Names.{isUserId}
 use Rattle.message.specs.Grammar.{paramLimit}
-use Rattle.message.specs.Content.{Content}
+use Rattle.message.specs.Content.{Content, prefixIs}
 use Rattle.message.specs.Parts.{contentBy}
-use Rattle.sjoin.proofs.Answers.{params-count}
+use Rattle.message.proofs.Held.{params-count}
 use Rattle.relay.specs.declared.Asked.{Asked}
 use Rattle.relay.specs.declared.Command.the-variants.{Quit}
-use Rattle.relay.specs.Users.{isUser}
 use Rattle.relay.specs.Quitting.{quitRules}
 use Rattle.relay.specs.Private.Work.{nothing}
 use Rattle.relay.specs.Private.Commands.{askedBy}
@@ -35,7 +35,7 @@ count c = params-count (c .args .line .now) (c .args .m) (search (needs, unmappe
 few : (c : tie.Else1) → length (content (c .before .before) .params) ≤ 1
 few c = omega (arith, c .if1 .left, count (c .before .before))
 
-sourced : (c : tie.After-is-user-id) (t : Bool) → c .is-user-id .result ≡ t → isUser (content (c .before .before .before .before) .prefix) ≡ t
+sourced : (c : tie.After-is-user-id) (t : Bool) → c .is-user-id .result ≡ t → prefixIs isUserId (content (c .before .before .before .before) .prefix) ≡ t
 sourced c t e = user-told (content (c .before .before .before .before)) (c .before .prefix-in .result .now) (c .before .prefix-in .ensures .0) _ t (c .is-user-id .ensures) e
 
 -- ---- a refusal
@@ -77,7 +77,7 @@ returns-3 c =
     let u = c .before .before .before in
     let s = u .before .before .before .before in
     let source = u .before .prefix-in in
-    let user : isUser (content s .prefix) ≡ true = sourced u _ (not-false _ (c .before .before .if2 .left)) in
+    let user : prefixIs isUserId (content s .prefix) ≡ true = sourced u _ (not-false _ (c .before .before .if2 .left)) in
     rw (c .empty .ensures .0, user-held (content s) (source .result .now) (source .ensures .0) user _ (c .before .user-id .ensures)) (asked-passes Quit (s .args .m) (content s) (quit-passes _ (few (u .before .before)) user))
 
 pub quit-request-spec : {M : Type 1} → statement M

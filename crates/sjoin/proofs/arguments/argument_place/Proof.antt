@@ -32,16 +32,19 @@ loop-less c = search needs
 
 loop-again : tie.Need-loop-again Inv-loop μ-loop
 loop-again c =
-    let a = c .before .before .before .before .before .before .args in
-    let l = c .before .before .before .before .loop in
-    let e = place-skip (a .modes .now) (a .letter) (l .i) (c .before .before .before .loop-test .taken) (sym (c .before .has-parameter .ensures) ∙ not-true _ (c .if1 .taken)) in
+    let test = c .before .before .before in
+    let a = test .before .before .before .args in
+    let l = test .before .loop in
+    let e = place-skip (a .modes .now) (a .letter) (l .i) (test .loop-test .taken) (sym (c .before .has-parameter .ensures) ∙ not-true _ (c .if1 .taken)) in
     (omega arith, omega arith)
 
 returns : tie.Need-returns Inv-loop μ-loop
 returns c =
-    let a = c .before .before .before .before .before .before .before .args in
-    let l = c .before .before .before .before .before .loop in
-    let e = place-stop (a .modes .now) (a .letter) (l .i) (c .before .before .before .before .loop-test .taken) (sym (c .before .before .has-parameter .ensures) ∙ not-false _ (c .before .if1 .left)) (c .if2 .taken) in
+    let one = c .before in
+    let test = one .before .before .before in
+    let a = test .before .before .before .args in
+    let l = test .before .loop in
+    let e = place-stop (a .modes .now) (a .letter) (l .i) (test .loop-test .taken) (sym (one .before .has-parameter .ensures) ∙ not-false _ (one .if1 .left)) (c .if2 .taken) in
     omega arith
 
 add-place : tie.Need-add-place Inv-loop μ-loop
@@ -52,9 +55,11 @@ loop-less-2 c = search needs
 
 loop-again-2 : tie.Need-loop-again-2 Inv-loop μ-loop
 loop-again-2 c =
-    let a = c .before .before .before .before .before .before .before .args in
-    let l = c .before .before .before .before .before .loop in
-    let e = place-go (a .modes .now) (a .letter) (l .i) (c .before .before .before .before .loop-test .taken) (sym (c .before .before .has-parameter .ensures) ∙ not-false _ (c .before .if1 .left)) (c .if2 .left) in
+    let one = c .before in
+    let test = one .before .before .before in
+    let a = test .before .before .before .args in
+    let l = test .before .loop in
+    let e = place-go (a .modes .now) (a .letter) (l .i) (test .loop-test .taken) (sym (one .before .has-parameter .ensures) ∙ not-false _ (one .if1 .left)) (c .if2 .left) in
     (omega arith, omega arith)
 
 returns-2 : tie.Need-returns-2 Inv-loop μ-loop

@@ -26,8 +26,9 @@ abbrev μ-loop : tie.MeasureT-loop
 
 loop-holds : tie.Need-loop-holds Inv-loop μ-loop
 loop-holds c =
-    let a = c .before .before .args in
-    (c .before .before .pre .behind, ap (goodArguments (parametered (lettersOf (a .modes .now)))) (sym (arguments-are (contentBy (a .text .now) (a .m)) (a .last) (c .before .before .pre .count))))
+    let s = c .before .before in
+    let a = s .args in
+    (s .pre .behind, ap (goodArguments (parametered (lettersOf (a .modes .now)))) (sym (arguments-are (contentBy (a .text .now) (a .m)) (a .last) (s .pre .count))))
 
 shared-slice-read-letter : tie.Need-shared-slice-read-letter Inv-loop μ-loop
 shared-slice-read-letter c = search needs
@@ -43,15 +44,18 @@ loop-less c = search needs
 
 loop-again : tie.Need-loop-again Inv-loop μ-loop
 loop-again c =
-    let a = c .before .before .before .before .before .before .before .args in
-    let l = c .before .before .before .before .loop in
-    (l .inv .0, good-skip (a .modes .now) (params (a .text .now) (a .m)) (a .last) (l .at) (l .i) (c .before .before .before .loop-test .taken) (sym (c .before .has-parameter .ensures) ∙ not-true _ (c .if1 .taken)) ∙ l .inv .1)
+    let test = c .before .before .before in
+    let a = test .before .before .before .before .args in
+    let l = test .before .loop in
+    (l .inv .0, good-skip (a .modes .now) (params (a .text .now) (a .m)) (a .last) (l .at) (l .i) (test .loop-test .taken) (sym (c .before .has-parameter .ensures) ∙ not-true _ (c .if1 .taken)) ∙ l .inv .1)
 
 returns : tie.Need-returns Inv-loop μ-loop
 returns c =
-    let a = c .before .before .before .before .before .before .before .before .args in
-    let l = c .before .before .before .before .before .loop in
-    sym (good-missing (a .modes .now) (params (a .text .now) (a .m)) (a .last) (l .at) (l .i) (c .before .before .before .before .loop-test .taken) (sym (c .before .before .has-parameter .ensures) ∙ not-false _ (c .before .if1 .left)) (c .if2 .taken)) ∙ l .inv .1
+    let one = c .before in
+    let test = one .before .before .before in
+    let a = test .before .before .before .before .args in
+    let l = test .before .loop in
+    sym (good-missing (a .modes .now) (params (a .text .now) (a .m)) (a .last) (l .at) (l .i) (test .loop-test .taken) (sym (one .before .has-parameter .ensures) ∙ not-false _ (one .if1 .left)) (c .if2 .taken)) ∙ l .inv .1
 
 param-in-requires : tie.Need-param-in-requires Inv-loop μ-loop
 param-in-requires c κs = search needs
@@ -59,15 +63,31 @@ param-in-requires c κs = search needs
 good-argument-requires : tie.Need-good-argument-requires Inv-loop μ-loop
 good-argument-requires c κs = search needs
 
--- the parameter at hand, and those behind it
-here : (c : tie.After-good-argument Inv-loop μ-loop) (t : Bool) → c .good-argument .result ≡ t → t && Good (c .before .before .before .before .before .before .before .before .before .before .args .modes .now) (params (c .before .before .before .before .before .before .before .before .before .before .args .text .now) (c .before .before .before .before .before .before .before .before .before .before .args .m)) (c .before .before .before .before .before .before .before .before .before .before .args .last) (c .before .before .before .before .before .before .before .loop .at) (c .before .before .before .before .before .before .before .loop .i) (c .before .before .before .before .before .before .before .loop .i + 1) (c .before .before .before .before .before .before .before .loop .at + 1) ≡ goodArguments (parametered (lettersOf (c .before .before .before .before .before .before .before .before .before .before .args .modes .now))) (argumentsIn (contentBy (c .before .before .before .before .before .before .before .before .before .before .args .text .now) (c .before .before .before .before .before .before .before .before .before .before .args .m)))
+-- the start and the turn at hand, when its parameter was judged
+abbrev begin : tie.After-good-argument Inv-loop μ-loop → tie.Start Inv-loop μ-loop
+begin c = c .before .before .before .before .before .before .before .before .before .before
+
+abbrev turn : tie.After-good-argument Inv-loop μ-loop → tie.At-loop Inv-loop μ-loop
+turn c = c .before .before .before .before .before .before .before
+
+-- the parameters behind it are good
+abbrev behind : tie.After-good-argument Inv-loop μ-loop → Bool
+behind c =
+    let a = begin c .args in
+    let l = turn c .loop in
+    Good (a .modes .now) (params (a .text .now) (a .m)) (a .last) (l .at) (l .i) (l .i + 1) (l .at + 1)
+
+-- it and those behind it are good exactly if all are
+here : (c : tie.After-good-argument Inv-loop μ-loop) (t : Bool) → c .good-argument .result ≡ t
+    → t && behind c ≡ goodArguments (parametered (lettersOf (begin c .args .modes .now))) (argumentsIn (contentBy (begin c .args .text .now) (begin c .args .m)))
 here c t e =
-    let a = c .before .before .before .before .before .before .before .before .before .before .args in
-    let l = c .before .before .before .before .before .before .before .loop in
-    let k : a .last < length (params (a .text .now) (a .m)) = omega (arith, c .before .before .before .before .before .before .before .before .before .before .pre .count) in
-    let rest = Good (a .modes .now) (params (a .text .now) (a .m)) (a .last) (l .at) (l .i) (l .i + 1) (l .at + 1) in
-    ap (λ (u : Bool). u && rest) (sym e ∙ c .good-argument .ensures ∙ ap (goodArgument (getD (a .modes .now) (l .i) 0)) (c .before .param-in .ensures .0))
-    ∙ sym (good-one (a .modes .now) (params (a .text .now) (a .m)) (a .last) (l .at) (l .i) (c .before .before .before .before .before .before .loop-test .taken) (sym (c .before .before .before .before .has-parameter .ensures) ∙ not-false _ (c .before .before .before .if1 .left)) (l .inv .0) (c .before .before .if2 .left) k)
+    let a = begin c .args in
+    let l = turn c .loop in
+    let k : a .last < length (params (a .text .now) (a .m)) = omega (arith, begin c .pre .count) in
+    let two = c .before .before in
+    let one = two .before in
+    ap (λ (u : Bool). u && behind c) (sym e ∙ c .good-argument .ensures ∙ ap (goodArgument (getD (a .modes .now) (l .i) 0)) (c .before .param-in .ensures .0))
+    ∙ sym (good-one (a .modes .now) (params (a .text .now) (a .m)) (a .last) (l .at) (l .i) (one .before .before .before .loop-test .taken) (sym (one .before .has-parameter .ensures) ∙ not-false _ (one .if1 .left)) (l .inv .0) (two .if2 .left) k)
     ∙ l .inv .1
 
 returns-2 : tie.Need-returns-2 Inv-loop μ-loop
@@ -87,9 +107,10 @@ loop-again-2 c =
 
 returns-3 : tie.Need-returns-3 Inv-loop μ-loop
 returns-3 c =
-    let a = c .before .before .before .before .args in
+    let s = c .before .before .before .before in
+    let a = s .args in
     let l = c .before .loop in
-    let k : a .last < length (params (a .text .now) (a .m)) = omega (arith, c .before .before .before .before .pre .count) in
+    let k : a .last < length (params (a .text .now) (a .m)) = omega (arith, s .pre .count) in
     sym (good-end (a .modes .now) (params (a .text .now) (a .m)) (a .last) (l .at) (l .i) (l .inv .0) k (c .loop-test .left)) ∙ l .inv .1
 
 pub good-arguments-spec : {M : Type 1} → statement M

@@ -35,15 +35,18 @@ part-requires c κs = search needs
 entry-of-requires : tie.Need-entry-of-requires Inv-loop μ-loop
 entry-of-requires c κs = search needs
 
--- the list, and the word at hand
+-- the turn at hand, the list and its word
+abbrev turn : tie.After-entry-of Inv-loop μ-loop → tie.At-loop Inv-loop μ-loop
+turn c = c .before .before .before .before
+
 abbrev list : tie.After-entry-of Inv-loop μ-loop → List ℕ
-list c = c .before .before .before .before .before .before .before .before .args .list .now
+list c = turn c .before .before .before .before .args .list .now
 
 abbrev word : tie.After-entry-of Inv-loop μ-loop → Span
-word c = c .before .before .before .before .loop .word
+word c = turn c .loop .word
 
-before : (c : tie.After-entry-of Inv-loop μ-loop) → Before (list c) (c .before .before .before .before .loop .held) (c .before .before .before .before .loop .count) (word c)
-before c = c .before .before .before .before .loop .inv
+before : (c : tie.After-entry-of Inv-loop μ-loop) → Before (list c) (turn c .loop .held) (turn c .loop .count) (word c)
+before c = turn c .loop .inv
 
 some : (c : tie.After-entry-of Inv-loop μ-loop) → word c .start ≡ length (list c) → ⊥
 some c = c .before .before .if1 .taken
@@ -58,11 +61,14 @@ returns c =
     (sym n, λ t. absurd (true≢false (sym t ∙ n)))
 
 -- it is an entry
-good : (c : tie.After-member Inv-loop μ-loop) → isEntry (part (list (c .before .before .before)) (word (c .before .before .before) .start) (word (c .before .before .before) .end)) ≡ true
-good c = entry (c .before .before .before) true (not-false _ (c .before .if2 .left))
+abbrev judged : tie.After-member Inv-loop μ-loop → tie.After-entry-of Inv-loop μ-loop
+judged c = c .before .before .before
 
-room : (c : tie.After-member Inv-loop μ-loop) → c .before .before .before .before .before .before .before .loop .count < memberLimit
-room c = let p = c .before .before .before in before-room (list p) _ _ (word p) (before p) (some p) (good c) (c .before .before .before .before .before .before .before .before .before .before .before .pre)
+good : (c : tie.After-member Inv-loop μ-loop) → isEntry (part (list (judged c)) (word (judged c) .start) (word (judged c) .end)) ≡ true
+good c = entry (judged c) true (not-false _ (c .before .if2 .left))
+
+room : (c : tie.After-member Inv-loop μ-loop) → turn (judged c) .loop .count < memberLimit
+room c = let p = judged c in before-room (list p) _ _ (word p) (before p) (some p) (good c) (turn p .before .before .before .before .pre)
 
 mul-held : tie.Need-mul-held Inv-loop μ-loop
 mul-held c = let h = room c in search needs

@@ -1,7 +1,7 @@
 -- `id_of` meets its contract: '@' is passed over, then '+'. Assumes nothing.
 use mathlib.Core.Path.{ap, _∙_}
 use borrow.Author.Needs.{needs}
-use Rattle.sjoin.specs.Modes.{plus}
+use Rattle.channel.specs.Modes.{plus}
 use Rattle.sjoin.specs.Entries.{past, idOf}
 use Rattle.sjoin.proofs.entries.id_of.Statement.{statement}
 use Rattle.sjoin.proofs.entries.id_of.Tie as tie

@@ -1,13 +1,13 @@
 -- `status_of` meets its contract: the two marks decide. Assumes nothing.
 use mathlib.Core.Path.{_≡_, sym, ap, _∙_}
-use mathlib.Core.Bool.{Bool, cond}
+use mathlib.Core.Bool.{Bool, true, false, cond}
 use mathlib.Core.List.{List}
 use Prim.Native.Nat.{ℕ, _+_}
 use borrow.Author.Needs.{needs}
 use Rattle.laws.specs.Lists.{startsWith}
-use Rattle.channel.specs.Channel.{voice, operator}
-use Rattle.sjoin.specs.Modes.{plus}
-use Rattle.sjoin.specs.Entries.{at, past, statusOf}
+use Rattle.channel.specs.Channel.{voice, operator, at}
+use Rattle.channel.specs.Modes.{plus}
+use Rattle.sjoin.specs.Entries.{past, statusOf}
 use Rattle.sjoin.proofs.entries.status_of.Statement.{statement}
 use Rattle.sjoin.proofs.entries.status_of.Tie as tie
 
@@ -28,17 +28,23 @@ starts-with-requires-2 c κs = search needs
 add-result : tie.Need-add-result
 add-result c = search needs
 
+-- both marks were looked for
+marks : (c : tie.After-starts-with2) (t u : Bool) → c .starts-with2 .result ≡ t → c .before .starts-with .result ≡ u → cond t operator 0 + cond u voice 0 ≡ statusOf (c .before .before .before .before .args .entry .now)
+marks c t u e f =
+    let after = c .before .before in
+    status (after .before .before .args .entry .now) _ _ _ t u (after .past .ensures) (c .starts-with2 .ensures) (c .before .starts-with .ensures) e f
+
 returns : tie.Need-returns
-returns c = status (c .before .before .before .before .before .before .args .entry .now) _ _ _ _ _ (c .before .before .before .before .past .ensures) (c .before .before .starts-with2 .ensures) (c .before .before .before .starts-with .ensures) (c .before .if1 .taken) (c .if2 .taken)
+returns c = marks (c .before .before) true true (c .before .if1 .taken) (c .if2 .taken)
 
 returns-2 : tie.Need-returns-2
-returns-2 c = status (c .before .before .before .before .before .before .args .entry .now) _ _ _ _ _ (c .before .before .before .before .past .ensures) (c .before .before .starts-with2 .ensures) (c .before .before .before .starts-with .ensures) (c .before .if1 .taken) (c .if2 .left)
+returns-2 c = marks (c .before .before) true false (c .before .if1 .taken) (c .if2 .left)
 
 returns-3 : tie.Need-returns-3
-returns-3 c = status (c .before .before .before .before .before .before .args .entry .now) _ _ _ _ _ (c .before .before .before .before .past .ensures) (c .before .before .starts-with2 .ensures) (c .before .before .before .starts-with .ensures) (c .before .if1 .left) (c .if3 .taken)
+returns-3 c = marks (c .before .before) false true (c .before .if1 .left) (c .if3 .taken)
 
 returns-4 : tie.Need-returns-4
-returns-4 c = status (c .before .before .before .before .before .before .args .entry .now) _ _ _ _ _ (c .before .before .before .before .past .ensures) (c .before .before .starts-with2 .ensures) (c .before .before .before .starts-with .ensures) (c .before .if1 .left) (c .if3 .left)
+returns-4 c = marks (c .before .before) false false (c .before .if1 .left) (c .if3 .left)
 
 pub status-of-spec : {M : Type 1} → statement M
 status-of-spec =

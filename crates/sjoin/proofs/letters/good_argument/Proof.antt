@@ -22,7 +22,9 @@ limit-in-requires c κs = search needs
 
 returns-2 : tie.Need-returns-2
 unfolding goodArgument
-returns-2 c = rw (ne-eqb (c .before .before .before .args .letter) keyLetter (c .before .if1 .left)) (ap (λ (n : ℕ). not (eqb n 0)) (c .limit-in .ensures) ∙ limit-is (c .before .before .before .args .s .now))
+returns-2 c =
+    let a = c .before .before .before .args in
+    rw (ne-eqb (a .letter) keyLetter (c .before .if1 .left)) (ap (λ (n : ℕ). not (eqb n 0)) (c .limit-in .ensures) ∙ limit-is (a .s .now))
 
 pub good-argument-spec : {M : Type 1} → statement M
 good-argument-spec = tie.close (tie.spec is-key-requires returns limit-in-requires returns-2)

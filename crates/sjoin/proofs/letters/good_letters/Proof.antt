@@ -5,7 +5,7 @@ use lib.ListN.{length, drop}
 use borrow.Author.Needs.{needs}
 use borrow.Author.Tests.{not-true, not-false}
 use Rattle.sjoin.specs.Modes.{goodLetters}
-use Rattle.sjoin.specs.Scan.{fresh}
+use Rattle.sjoin.specs.Private.Scanning.{fresh}
 use Rattle.sjoin.proofs.Modes.{good-fresh, good-none, fresh-past, fresh-other, fresh-twice, fresh-go}
 use Rattle.sjoin.proofs.letters.good_letters.Statement.{statement}
 use Rattle.sjoin.proofs.letters.good_letters.Tie as tie
@@ -33,16 +33,25 @@ mode-place-requires c κs = search needs
 
 returns-2 : tie.Need-returns-2 Inv-loop μ-loop
 returns-2 c =
-    let l = c .before .before .before .before .loop in
-    sym (fresh-other (c .before .before .before .before .before .before .before .before .args .modes .now) (l .i) (l .seen) (c .before .mode-place .result) (c .before .before .before .loop-test .taken) (c .before .mode-place .ensures) (c .if2 .taken)) ∙ l .inv
+    let placed = c .before in
+    let test = placed .before .before in
+    let turn = test .before in
+    let s = turn .before .before .before .before .args .modes .now in
+    let l = turn .loop in
+    sym (fresh-other s (l .i) (l .seen) (placed .mode-place .result) (test .loop-test .taken) (placed .mode-place .ensures) (c .if2 .taken)) ∙ l .inv
 
 has-mode-requires : tie.Need-has-mode-requires Inv-loop μ-loop
 has-mode-requires c κs = search needs
 
 returns-3 : tie.Need-returns-3 Inv-loop μ-loop
 returns-3 c =
-    let l = c .before .before .before .before .before .before .loop in
-    sym (fresh-twice (c .before .before .before .before .before .before .before .before .before .before .args .modes .now) (l .i) (l .seen) (c .before .before .before .mode-place .result) (c .before .before .before .before .before .loop-test .taken) (c .before .before .before .mode-place .ensures) (c .before .before .if2 .left) (sym (c .before .has-mode .ensures) ∙ c .if3 .taken)) ∙ l .inv
+    let one = c .before .before in
+    let placed = one .before in
+    let test = placed .before .before in
+    let turn = test .before in
+    let s = turn .before .before .before .before .args .modes .now in
+    let l = turn .loop in
+    sym (fresh-twice s (l .i) (l .seen) (placed .mode-place .result) (test .loop-test .taken) (placed .mode-place .ensures) (one .if2 .left) (sym (c .before .has-mode .ensures) ∙ c .if3 .taken)) ∙ l .inv
 
 with-mode-requires : tie.Need-with-mode-requires Inv-loop μ-loop
 with-mode-requires c κs = search needs
@@ -55,14 +64,22 @@ loop-less c = search needs
 
 loop-again : tie.Need-loop-again Inv-loop μ-loop
 loop-again c =
-    let s = c .before .before .before .before .before .before .before .before .before .before .before .args .modes .now in
-    let l = c .before .before .before .before .before .before .before .loop in
+    let new = c .before in
+    let one = new .before .before in
+    let placed = one .before in
+    let test = placed .before .before in
+    let turn = test .before in
+    let s = turn .before .before .before .before .args .modes .now in
+    let l = turn .loop in
     ap (λ (n : ℕ). fresh n (drop (l .i + 1) s)) (c .with-mode .ensures)
-    ∙ sym (fresh-go s (l .i) (l .seen) (c .before .before .before .before .mode-place .result) (c .before .before .before .before .before .before .loop-test .taken) (c .before .before .before .before .mode-place .ensures) (c .before .before .before .if2 .left) (sym (c .before .before .has-mode .ensures) ∙ c .before .if3 .left))
+    ∙ sym (fresh-go s (l .i) (l .seen) (placed .mode-place .result) (test .loop-test .taken) (placed .mode-place .ensures) (one .if2 .left) (sym (new .before .has-mode .ensures) ∙ new .if3 .left))
     ∙ l .inv
 
 returns-4 : tie.Need-returns-4 Inv-loop μ-loop
-returns-4 c = sym (fresh-past (c .before .before .before .before .before .args .modes .now) (c .before .loop .i) (c .before .loop .seen) (c .loop-test .left)) ∙ c .before .loop .inv
+returns-4 c =
+    let turn = c .before in
+    let l = turn .loop in
+    sym (fresh-past (turn .before .before .before .before .args .modes .now) (l .i) (l .seen) (c .loop-test .left)) ∙ l .inv
 
 pub good-letters-spec : {M : Type 1} → statement M
 good-letters-spec =

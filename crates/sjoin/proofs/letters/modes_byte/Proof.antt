@@ -36,14 +36,18 @@ loop-less c = search needs
 
 loop-again : tie.Need-loop-again Inv-loop μ-loop
 loop-again c =
-    let s = c .before .before .before .before .before .before .args .modes .now in
-    let l = c .before .before .before .before .loop in
+    let test = c .before .before .before in
+    let s = test .before .before .before .args .modes .now in
+    let l = test .before .loop in
     ap (λ (n : ℕ). bitOr n (bits (drop (l .i + 1) s))) (c .with-mode .ensures ∙ ap (withMode (l .byte)) (c .before .mode-place .ensures))
-    ∙ bits-go s (l .i) (l .byte) (c .before .before .before .loop-test .taken)
+    ∙ bits-go s (l .i) (l .byte) (test .loop-test .taken)
     ∙ l .inv
 
 returns : tie.Need-returns Inv-loop μ-loop
-returns c = sym (bits-past (c .before .before .before .args .modes .now) (c .before .loop .i) (c .before .loop .byte) (c .loop-test .left)) ∙ c .before .loop .inv
+returns c =
+    let turn = c .before in
+    let l = turn .loop in
+    sym (bits-past (turn .before .before .args .modes .now) (l .i) (l .byte) (c .loop-test .left)) ∙ l .inv
 
 pub modes-byte-spec : {M : Type 1} → statement M
 modes-byte-spec =

@@ -1,0 +1,1 @@
+// What is told of a channel reads back as it; what stands of a line's channel is told in no more bytes than the line had: laws in proofs/. No code.
