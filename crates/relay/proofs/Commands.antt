@@ -38,6 +38,7 @@ strange = record {
   ordered = λ n a. refl;
   asks = λ m c. refl;
   judged = λ n a good sixteen read own j e. absurd (unknown-refused (said a) own);
+  leaves = λ n a. refl;
   keeps = λ n a p. absurd (unknown-met n a (p .none));
   reads = λ n a p. absurd (unknown-met n a (p .none));
 }

@@ -140,7 +140,7 @@ is-sjoin : commandIn joining ≡ Sjoin
 unfolding joining commandAmong capital contentOf contentIn isRead numberFor lineRules bodyRules firstOf endsLine sameBy bodyOf all isPlain startsWith prefix word prefixEnd commandStart spaces command isCommand isLetter within commandEnd rest params
 is-sjoin = refl
 
-changes-one : OneChanged (water .slots) (networkBy (networkOf water) (from3 joining) .slots) (channelIn (contentOf joining)) (placeOf (water .slots) (slotOf (networkOf water) (channelIn (contentOf joining)))) (encode (resulting (networkOf water) (channelIn (contentOf joining))))
+changes-one : OneChanged (networkOf water) (networkBy (networkOf water) (from3 joining)) (channelIn (contentOf joining)) (placeOf (water .slots) (slotOf (networkOf water) (channelIn (contentOf joining)))) (encode (resulting (networkOf water) (channelIn (contentOf joining))))
 changes-one = join-one (networkOf water) (from3 joining) water-good is-sjoin (accepts .0)
 
 -- and does so whatever the other links are: here link 3 alone is registered

@@ -14,7 +14,7 @@ use Rattle.message.specs.Content.{Content}
 use Rattle.message.specs.Reading.{isRead, contentOf, messageOf}
 use Rattle.writer.specs.Form.{written}
 use Rattle.channel.specs.Limits.{slotCount}
-use Rattle.table.specs.Network.{Network}
+use Rattle.table.specs.Network.{Network, withSlots}
 use Rattle.table.specs.Table.{goodNetwork}
 use Rattle.relay.specs.declared.Command.{Command}
 use Rattle.relay.specs.declared.Change.{Change}
@@ -48,7 +48,9 @@ pub record Lawful (k : Command) : Type 0 where
   -- and what it is settled to is its judgement
   pub judged : (n : Network) (a : Arrival) → goodNetwork n ≡ true → length (n .slots) ≡ slotCount → isRead (a .line) ≡ true → firstOf (meaningOf k .own (said a)) ≡ accepted
       → (j : Change) → j ≡ settledIn (n .slots) (a .line) (workOf k .asks (messageOf (a .line)) (said a)) → Judged (meaningOf k) n a j
-  -- the network stays well formed
+  -- it changes the slots, and all else of the network stays
+  pub leaves : (n : Network) (a : Arrival) → meaningOf k .after n a ≡ withSlots n (meaningOf k .after n a .slots)
+  -- a line that no rule refuses keeps the network well formed
   pub keeps : (n : Network) (a : Arrival) → Passes (meaningOf k) n a → goodNetwork (meaningOf k .after n a) ≡ true
   -- and the message that goes out can be read
   pub reads : (n : Network) (a : Arrival) → Passes (meaningOf k) n a → Reads (a .line) (meaningOf k .out n a)

@@ -150,6 +150,7 @@ lawful = record {
   judged = λ n a good sixteen read own j e.
       let found = name-found (a .line) (n .slots) 0 (omega arith) (names-channel (said a) own) in
       settled n a own sixteen j (slotOf n (said a)) refl (e ∙ ap (λ (f : Found). partsFound (f .slot) (f .«record») (sourceIn (said a))) found);
+  leaves = λ n a. refl;
   keeps = λ n a p. keeps n a (p .good) (names-held n a (p .none));
   reads = λ n a p. as-read (a .line) (p .read);
 }

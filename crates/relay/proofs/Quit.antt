@@ -75,6 +75,7 @@ lawful = record {
   ordered = ordered;
   asks = λ m c. refl;
   judged = λ n a good sixteen read own j e. judged n a own j e;
+  leaves = λ n a. refl;
   keeps = λ n a p. keeps n a (p .good);
   reads = λ n a p. as-read (a .line) (p .read);
 }

@@ -32,7 +32,7 @@ use Rattle.merging.proofs.Proper.{proper-merge}
 use Rattle.merging.proofs.Answers.{combined-merge}
 use Rattle.table.specs.declared.Slot.{Slot}
 use Rattle.table.specs.declared.Slot.the-variants.{Held, Free, Full}
-use Rattle.table.specs.Network.{Network}
+use Rattle.table.specs.Network.{Network, withSlots}
 use Rattle.table.specs.Table.{isFree, goodSlot, holds, distinct, goodNetwork}
 use Rattle.table.specs.Slots.{slotNumber, placeOf, slotRules}
 use Rattle.table.proofs.First.{IsFirst}
@@ -139,15 +139,16 @@ full-rules n c e =
 abbrev pub MergesOrOpens : Record → Channel → Record → Type 0
 MergesOrOpens old c r = ((holds (c .name) old ≡ true) × (r ≡ encode (merge (decode old) c))) ⊎ ((isFree old ≡ true) × (r ≡ encode c))
 
--- One slot changes: slot k, which comes to hold r.
-pub record OneChanged (slots after : List Record) (c : Channel) (k : ℕ) (r : Record) : Type 0 where
-  pub inside : k < length slots
-  pub sets : after ≡ set slots k r
-  pub comes : MergesOrOpens (getD slots k emptyRecord) c r
+-- One slot of the network changes: slot k, which comes to hold r.
+pub record OneChanged (n after : Network) (c : Channel) (k : ℕ) (r : Record) : Type 0 where
+  pub inside : k < length (n .slots)
+  -- all else of the network stays
+  pub sets : after ≡ withSlots n (set (n .slots) k r)
+  pub comes : MergesOrOpens (getD (n .slots) k emptyRecord) c r
   -- slot k holds the name then
-  pub holding : (d : Record) → holds (c .name) (getD after k d) ≡ true
+  pub holding : (d : Record) → holds (c .name) (getD (after .slots) k d) ≡ true
   -- and every other slot stays
-  pub others : (j : ℕ) (d : Record) → (j ≡ k → ⊥) → getD after j d ≡ getD slots j d
+  pub others : (j : ℕ) (d : Record) → (j ≡ k → ⊥) → getD (after .slots) j d ≡ getD (n .slots) j d
 
 module _ (n : Network) (good : goodNetwork n ≡ true) (c : Channel) (p : Proper c) (none : firstOf (joinedRules n c) ≡ accepted) where
   not-full : slotOf n c ≡ Full → ⊥
@@ -215,7 +216,7 @@ module _ (n : Network) (good : goodNetwork n ≡ true) (c : Channel) (p : Proper
   result-holds = rw (well-used result result-well, result-name) (place-used .2)
 
   -- An incoming channel changes the slot that its name uses, and no other.
-  pub joined-one : OneChanged (n .slots) (joined n c .slots) c place result
+  pub joined-one : OneChanged n (joined n c) c place result
   unfolding joined
   joined-one = record {
     inside = place-used .0;

@@ -132,6 +132,7 @@ lawful = record {
   judged = λ n a good sixteen read own j e.
       settled n a read own good sixteen j (slotOf n (channelIn (said a))) refl
       (e ∙ ap (λ (f : Found). joinsFound (f .slot) (f .«record») (encode (channelIn (said a)))) (found n a read own));
+  leaves = λ n a. refl;
   keeps = keeps;
   reads = reads;
 }

@@ -15,7 +15,7 @@ use Rattle.message.specs.Reading.{bodyRules, lineRules, numberFor, isRead}
 use Rattle.message.proofs.Readings.{rules-numbered}
 use Rattle.channel.specs.Record.{encode}
 use Rattle.table.specs.declared.Table.{Table}
-use Rattle.table.specs.Network.{Network, networkOf}
+use Rattle.table.specs.Network.{Network, networkOf, withSlots}
 use Rattle.table.specs.Table.{goodNetwork, goodTable}
 use Rattle.table.specs.Slots.{placeOf}
 use Rattle.sjoin.specs.Join.{channelIn}
@@ -63,6 +63,12 @@ module _ (n : Network) (a : Arrival) (none : firstOf (takenRules n a) ≡ accept
     unfolding messageBy
     relayed-reads = lawful (commandIn (a .line)) .reads n a passes
 
+-- ---- what a line leaves alone
+-- Whatever its command, it changes the slots, and all else of the network stays.
+pub slots-alone : (n : Network) (a : Arrival) → networkBy n a ≡ withSlots n (networkBy n a .slots)
+unfolding networkBy
+slots-alone n a = lawful (commandIn (a .line)) .leaves n a
+
 -- ---- an SJOIN changes one slot
 -- its channel is what comes into the network
 pub network-joined : (n : Network) (a : Arrival) → commandIn (a .line) ≡ Sjoin → networkBy n a ≡ joined n (channelIn (said a))
@@ -70,7 +76,7 @@ unfolding networkBy
 network-joined n a is = ap (λ (k : Command). meaningOf k .after n a) is
 
 pub join-one : (n : Network) (a : Arrival) → goodNetwork n ≡ true → commandIn (a .line) ≡ Sjoin → firstOf (takenRules n a) ≡ accepted
-    → OneChanged (n .slots) (networkBy n a .slots) (channelIn (said a)) (placeOf (n .slots) (slotOf n (channelIn (said a)))) (encode (resulting n (channelIn (said a))))
+    → OneChanged n (networkBy n a) (channelIn (said a)) (placeOf (n .slots) (slotOf n (channelIn (said a)))) (encode (resulting n (channelIn (said a))))
 join-one n a good is none =
     let r = rules-none n a none in
     let j = join-none n a (rw is at (r .1)) in
