@@ -14,16 +14,16 @@ ghost use Rattle.message.specs.Parts.{contentBy};
 ghost use Rattle.feed.specs.Lines.{nothing};
 ghost use Rattle.feed.specs.Feeder.{stateOf, feedAnswer};
 ghost use Rattle.writer.specs.Form.{written};
-ghost use Rattle.writer.specs.Writing.{writeRules, answerFor as writeAnswer};
+ghost use Rattle.writer.specs.Writing.{writeRules, writtenAnswer};
 ghost use Rattle.names.specs.Fold.{sameName};
-ghost use Rattle.glob.specs.Mask.{answerFor as matchAnswer};
+ghost use Rattle.glob.specs.Mask.{matchAnswer};
 ghost use Rattle.channel.specs.Record.{decode};
 ghost use Rattle.merging.specs.Merging.{mergeAnswer};
 ghost use Rattle.table.specs.Table.{emptyTable, registerAnswer, unregisterAnswer};
 ghost use Rattle.telling.specs.Telling.{described};
 ghost use Rattle.relay.specs.Arrival.{arrival};
 ghost use Rattle.relay.specs.Relay.{processAnswer, sent};
-ghost use Rattle.journal.specs.Journal.{logRules, recordOf, answerFor as logAnswer};
+ghost use Rattle.journal.specs.Journal.{logRules, recordOf, loggedAnswer};
 ghost use Rattle.wording.specs.Wording.{textOf};
 ghost use Rattle.capi.specs.Reading.{readAnswer};
 ghost use Rattle.capi.specs.Finding.{heldAt, findAnswer};
@@ -112,7 +112,7 @@ pub extern "C" fn relay_feed(state: Feeder, bytes: &[u8]) -> Fed
 // Writes a message to the front of the output.
 #[no_mangle]
 pub extern "C" fn relay_write(text: &[u8], m: Message, out: &mut [u8]) -> Written
-    ensures answer { λ r. ⌜ r ≡ writeAnswer (writeRules (now (text .entry)) m (now (out .entry))) (written (contentBy (now (text .entry)) m)) ⌝ }
+    ensures answer { λ r. ⌜ r ≡ writtenAnswer (writeRules (now (text .entry)) m (now (out .entry))) (written (contentBy (now (text .entry)) m)) ⌝ }
     ensures output { λ _. ⌜ now (out .exit) ≡ front (emitted (writeRules (now (text .entry)) m (now (out .entry))) (written (contentBy (now (text .entry)) m))) (now (out .entry)) ⌝ }
 {
     writer::write(text, m, out)
@@ -157,7 +157,7 @@ pub extern "C" fn relay_merge(a: Record, b: Record) -> Merged
 // Writes what an SJOIN tells of a record, as a text of its own, to the front of the output.
 #[no_mangle]
 pub extern "C" fn relay_describe(r: Record, out: &mut [u8]) -> Written
-    ensures answer { λ w. ⌜ w ≡ writeAnswer (describeRules r (now (out .entry))) (described (decode r)) ⌝ }
+    ensures answer { λ w. ⌜ w ≡ writtenAnswer (describeRules r (now (out .entry))) (described (decode r)) ⌝ }
     ensures output { λ _. ⌜ now (out .exit) ≡ front (emitted (describeRules r (now (out .entry))) (described (decode r))) (now (out .entry)) ⌝ }
 {
     if !channel::is_well_formed(r) {
@@ -245,7 +245,7 @@ pub extern "C" fn relay_process(t: Table, link: u32, line: &[u8], out: &mut [u8]
 // Writes the day-log record of a line to the front of the log.
 #[no_mangle]
 pub extern "C" fn relay_log(link: u32, line: &[u8], log: &mut [u8]) -> Logged
-    ensures answer { λ r. ⌜ r ≡ logAnswer link (now (line .entry)) (now (log .entry)) ⌝ }
+    ensures answer { λ r. ⌜ r ≡ loggedAnswer link (now (line .entry)) (now (log .entry)) ⌝ }
     ensures log { λ _. ⌜ now (log .exit) ≡ front (emitted (logRules link (now (line .entry)) (now (log .entry))) (recordOf link (now (line .entry)))) (now (log .entry)) ⌝ }
 {
     journal::write_record(link, line, log)

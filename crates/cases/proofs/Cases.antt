@@ -13,7 +13,7 @@ use Rattle.laws.specs.Bits.{hasBit}
 use Rattle.ascending.specs.Ascending.{insert, put, unite, ascends}
 use Rattle.names.specs.Fold.{fold, sameName}
 use Rattle.names.specs.Names.{isChannel, isServerId, isUserId}
-use Rattle.glob.specs.Mask.{star, question, matchesByte, firstThen, afterRun, matchRules, answerFor}
+use Rattle.glob.specs.Mask.{star, question, matchesByte, firstThen, afterRun, matchRules, matchAnswer}
 use Rattle.glob.specs.Mask as mask
 use Rattle.message.specs.Grammar.{word, spaces, prefix, prefixEnd, commandStart, command, commandEnd, isCommand, rest, params}
 use Rattle.message.specs.Content.{contentIn}
@@ -29,7 +29,7 @@ use Rattle.merging.specs.Merging.{merge, mergeRules, mergeAnswer}
 use Rattle.cases.specs.Cases.{Case, reads, gets, equals, matches, keys, keyed, holds, cases}
 
 pub cases-hold : all holds cases ≡ true
-unfolding cases holds all sameBy samePrefix sameContent readingOf answer numberFor contentOf contentIn isRead lineRules bodyRules firstOf endsLine bodyOf isPlain startsWith within word spaces prefix prefixEnd commandStart command commandEnd isCommand isLetter isDigit rest params sameName fold answerFor matchRules mask.matches afterRun firstThen matchesByte mergeAnswer mergeRules keyed wellFormed inRoom clear channelTests goodTime goodModes goodKey goodLimit goodMember goodMembers isChannel isNameByte isKey isKeyByte isUserId isServerId isIdByte hasBit ascends encode decode padded withMode merge standing counts greater compare unite put insert
+unfolding cases holds all sameBy samePrefix sameContent readingOf answer numberFor contentOf contentIn isRead lineRules bodyRules firstOf endsLine bodyOf isPlain startsWith within word spaces prefix prefixEnd commandStart command commandEnd isCommand isLetter isDigit rest params sameName fold matchAnswer matchRules mask.matches afterRun firstThen matchesByte mergeAnswer mergeRules keyed wellFormed inRoom clear channelTests goodTime goodModes goodKey goodLimit goodMember goodMembers isChannel isNameByte isKey isKeyByte isUserId isServerId isIdByte hasBit ascends encode decode padded withMode merge standing counts greater compare unite put insert
 cases-hold = refl
 
 -- ---- the same cases with wrong answers
@@ -58,5 +58,5 @@ wrong =
     ∷ []
 
 wrong-fail : all (λ c. not (holds c)) wrong ≡ true
-unfolding wrong holds all sameBy samePrefix sameContent readingOf answer numberFor contentOf contentIn isRead lineRules bodyRules firstOf endsLine bodyOf isPlain startsWith within word spaces prefix prefixEnd commandStart command commandEnd isCommand isLetter isDigit rest params sameName fold answerFor matchRules mask.matches afterRun firstThen matchesByte mergeAnswer mergeRules keyed wellFormed inRoom clear channelTests goodTime goodModes goodKey goodLimit goodMember goodMembers isChannel isNameByte isKey isKeyByte isUserId isServerId isIdByte hasBit ascends encode decode padded withMode merge standing counts greater compare unite put insert
+unfolding wrong holds all sameBy samePrefix sameContent readingOf answer numberFor contentOf contentIn isRead lineRules bodyRules firstOf endsLine bodyOf isPlain startsWith within word spaces prefix prefixEnd commandStart command commandEnd isCommand isLetter isDigit rest params sameName fold matchAnswer matchRules mask.matches afterRun firstThen matchesByte mergeAnswer mergeRules keyed wellFormed inRoom clear channelTests goodTime goodModes goodKey goodLimit goodMember goodMembers isChannel isNameByte isKey isKeyByte isUserId isServerId isIdByte hasBit ascends encode decode padded withMode merge standing counts greater compare unite put insert
 wrong-fail = refl

@@ -10,7 +10,7 @@ use Rattle.refusal.specs.Numbers.{accepted, emptyLine, emptyPrefix, badCommand}
 use Rattle.laws.specs.Lists.{same}
 use Rattle.names.specs.Fold.{sameName}
 use Rattle.glob.specs.declared.Match.{Match}
-use Rattle.glob.specs.Mask.{star, question, answerFor}
+use Rattle.glob.specs.Mask.{star, question, matchAnswer}
 use Rattle.message.specs.Content.{Content}
 use Rattle.message.specs.Reading.{crlf, numberOf, countOf, readingOf, contentOf}
 use Rattle.writer.specs.Form.{sameContent}
@@ -66,7 +66,7 @@ unfoldable pub holds : Case → Bool
 holds (reads text c) = answers (lineOf text) accepted (length (c .params)) && sameContent (contentOf (lineOf text)) c
 holds (gets text number) = answers (lineOf text) number 0
 holds (equals a b expected) = Bool·beq (sameName a b) expected
-holds (matches mask text expected) = matched (answerFor mask text) expected
+holds (matches mask text expected) = matched (matchAnswer mask text) expected
 -- whichever of the two records comes first
 holds (keys a b key) = merged (mergeAnswer (keyed a) (keyed b)) key && merged (mergeAnswer (keyed b) (keyed a)) key
 

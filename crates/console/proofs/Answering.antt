@@ -15,30 +15,32 @@ use Rattle.laws.specs.Bits.{hasBit}
 use Rattle.laws.specs.Lists.{isNil, prefixed, separated}
 use Rattle.octets.specs.Decimals.{digitsOf}
 use Rattle.octets.specs.Room.{part, putAt, endOf, front}
-use Rattle.octets.specs.Held.{Adds}
+use Rattle.octets.specs.Private.Additions.{Adds}
 use Rattle.octets.proofs.Digits.{digits-ten, digits-within}
 use Rattle.laws.proofs.Lists.{nil-length}
 use Rattle.octets.proofs.Room.{part-front, end-fits, put-behind, holds-nothing}
 use Rattle.links.specs.Links.{linkCount, isLink, linksFrom, linksIn}
 use Rattle.message.specs.Grammar.{lineLimit}
 use Rattle.journal.specs.declared.Logged.{Logged}
-use Rattle.journal.specs.Journal.{recordOf, logRules, answerFor}
+use Rattle.journal.specs.Journal.{recordOf, logRules, loggedAnswer}
 use Rattle.journal.proofs.Records.{accepts}
 use Rattle.wording.specs.declared.Text.{Text}
 use Rattle.wording.specs.Wording.{wordsOf, textLimit, textOf}
 use Rattle.wording.proofs.Fitting.{words-few, words-back}
 use Rattle.console.specs.Answers.{spaced, numberedText, noLink, linksText, relayedText}
-use Rattle.console.specs.Stands.{answerRoom, recordRoom, Stands}
+use Rattle.console.specs.Buffers.{answerRoom, recordRoom, AtFront}
 
 -- ---- what stands at the front
-pub stands : (empty out : List ℕ) (n : ℕ) (w : List ℕ) → Adds empty 0 out n w → length w ≤ length empty → Stands out n w
-stands empty out n w adds fits =
+-- what was added to an empty buffer stands at its front, if there is room for it
+pub added-at-front : (empty out : List ℕ) (n : ℕ) (w : List ℕ) → Adds empty 0 out n w → length w ≤ length empty → AtFront out n w
+added-at-front empty out n w adds fits =
     let held = adds .adds [] (holds-nothing empty) in
     let counts : n ≡ length w = omega (arith, held .counts, adds .keeps) in
     record { counts = counts; begins = held .begins (omega (arith, adds .keeps)) }
 
-pub stands-front : (out next : List ℕ) (n : ℕ) (w : List ℕ) → n ≡ length w → next ≡ front w out → Stands next n w
-stands-front out next n w e f = record { counts = e; begins = rw (e, f) (take-append-seam w (drop (length w) out)) }
+-- what was put at the front stands there
+pub at-front : (out next : List ℕ) (n : ℕ) (w : List ℕ) → n ≡ length w → next ≡ front w out → AtFront next n w
+at-front out next n w e f = record { counts = e; begins = rw (e, f) (take-append-seam w (drop (length w) out)) }
 
 -- the front of some room is no longer than the room
 pub front-few : {m : ℕ} (s p : List ℕ) (n : ℕ) → p ≡ part s 0 n → length s ≤ m → length p ≤ m
@@ -83,25 +85,27 @@ numbered-few mark n worded h =
 
 -- ---- links, one by one
 -- those from a place on, a comma before each
-abbrev pub leftAt : ℕ → ℕ → List ℕ
-leftAt set k = prefixed comma (map digitsOf (linksFrom k (linkCount - k) set))
+abbrev pub prefixedLinks : ℕ → ℕ → List ℕ
+prefixedLinks set k = prefixed comma (map digitsOf (linksFrom k (linkCount - k) set))
 
-pub left-step : (set k : ℕ) → k < linkCount → leftAt set k ≡ cond (hasBit set k) (comma ∷ digitsOf k) [] ++ leftAt set (k + 1)
+-- the link at a place comes first, if it is in the set
+pub prefixed-links-step : (set k : ℕ) → k < linkCount → prefixedLinks set k ≡ cond (hasBit set k) (comma ∷ digitsOf k) [] ++ prefixedLinks set (k + 1)
 unfolding linksFrom prefixed
-left-step set k h =
+prefixed-links-step set k h =
     let n : linkCount - k ≡ suc (linkCount - (k + 1)) = omega arith in
     rw n (go (hasBit set k))
   where
     behind : List ℕ
     behind = linksFrom (suc k) (linkCount - (k + 1)) set
 
-    go : (t : Bool) → prefixed comma (map digitsOf (cond t (k ∷ behind) behind)) ≡ cond t (comma ∷ digitsOf k) [] ++ leftAt set (k + 1)
+    go : (t : Bool) → prefixed comma (map digitsOf (cond t (k ∷ behind) behind)) ≡ cond t (comma ∷ digitsOf k) [] ++ prefixedLinks set (k + 1)
     go true = rw add-one
     go false = rw add-one
 
-pub left-past : (set k : ℕ) → linkCount ≤ k → leftAt set k ≡ []
+-- past the last link there is none
+pub prefixed-links-past : (set k : ℕ) → linkCount ≤ k → prefixedLinks set k ≡ []
 unfolding linksFrom prefixed
-left-past set k h = let n : linkCount - k ≡ 0 = omega arith in rw n
+prefixed-links-past set k h = let n : linkCount - k ≡ 0 = omega arith in rw n
 
 -- ---- the links of a set
 pub set-none : (set : ℕ) → length (linksIn set) ≡ 0 → comma ∷ linksText set ≡ comma ∷ noLink
@@ -117,10 +121,10 @@ set-some set h = go (linksIn set) h
     go (x ∷ l) h = refl
 
 -- ---- every answer has room
-left-few : (set i n : ℕ) → i + n ≤ linkCount → length (prefixed comma (map digitsOf (linksFrom i n set))) ≤ 3 * n
+prefixed-links-few : (set i n : ℕ) → i + n ≤ linkCount → length (prefixed comma (map digitsOf (linksFrom i n set))) ≤ 3 * n
 unfolding linksFrom prefixed
-left-few set i zero = λ h. omega arith
-left-few set i (suc n) = λ h. go h (hasBit set i) (left-few set (suc i) n (omega arith))
+prefixed-links-few set i zero = λ h. omega arith
+prefixed-links-few set i (suc n) = λ h. go h (hasBit set i) (prefixed-links-few set (suc i) n (omega arith))
   where
     behind : List ℕ
     behind = linksFrom (suc i) n set
@@ -138,25 +142,27 @@ set-few set = go (isNil (linksIn set)) refl
     go false e =
         let some : length (linksIn set) ≡ 0 → ⊥ = eqb-false (length (linksIn set)) 0 (sym (nil-length (linksIn set)) ∙ e) in
         let text : linksText set ≡ separated comma (map digitsOf (linksIn set)) = rw e in
-        omega (arith, left-few set 0 linkCount (omega arith), ap (λ (l : List ℕ). length l) (set-some set some), ap (λ (l : List ℕ). length l) text)
+        omega (arith, prefixed-links-few set 0 linkCount (omega arith), ap (λ (l : List ℕ). length l) (set-some set some), ap (λ (l : List ℕ). length l) text)
 
 pub relayed-few : (set : ℕ) (line : List ℕ) → length line ≤ lineLimit → length (comma ∷ relayedText set line) ≤ answerRoom
 unfolding relayedText
 relayed-few set line h = omega (arith, set-few set, length-append (linksText set ++ (space ∷ [])) line, length-append (linksText set) (space ∷ []))
 
 -- ---- a channel's line
-pub line-stands : (out first next : List ℕ) (n r : ℕ) (w : List ℕ) → length w < length out → n ≡ length w → first ≡ front w out → r ≡ endOf first n (lf ∷ []) → next ≡ putAt first n (lf ∷ [])
-    → Stands next r (w ++ (lf ∷ []))
-line-stands out first next n r w room e f g h =
+-- a text and LF behind it
+pub line-at-front : (out first next : List ℕ) (n r : ℕ) (w : List ℕ) → length w < length out → n ≡ length w → first ≡ front w out → r ≡ endOf first n (lf ∷ []) → next ≡ putAt first n (lf ∷ [])
+    → AtFront next r (w ++ (lf ∷ []))
+line-at-front out first next n r w room e f g h =
     let long : length first ≡ length out = omega (arith, ap (λ (l : List ℕ). length l) f, length-append w (drop (length w) out), length-drop (length w) out) in
-    stands-front out next r (w ++ (lf ∷ []))
+    at-front out next r (w ++ (lf ∷ []))
     (g ∙ end-fits first n (lf ∷ []) (omega (arith, long)) ∙ omega (arith, length-append w (lf ∷ [])))
     (h ∙ rw (f, e) (put-behind out w (lf ∷ []) (omega arith)))
 
 -- ---- the record of an accepted line
 module _ (link : ℕ) (line log : List ℕ) (known : isLink link ≡ true) (small : length line ≤ lineLimit) (room : length log ≡ recordRoom) where
-  pub record-stands : (next : List ℕ) (r : Logged) → r ≡ answerFor link line log → next ≡ front (emitted (logRules link line log) (recordOf link line)) log → Stands next (r .size) (recordOf link line)
-  unfolding answerFor
-  record-stands next r e f =
+  -- it is written whole
+  pub record-at-front : (next : List ℕ) (r : Logged) → r ≡ loggedAnswer link line log → next ≡ front (emitted (logRules link line log) (recordOf link line)) log → AtFront next (r .size) (recordOf link line)
+  unfolding loggedAnswer
+  record-at-front next r e f =
       let all : emitted (logRules link line log) (recordOf link line) ≡ recordOf link line = emitted-all (logRules link line log) (recordOf link line) (accepts link line log (ltb-true link linkCount known) small (omega arith)) in
-      stands-front log next (r .size) (recordOf link line) (ap (λ (x : Logged). x .size) e ∙ rw all) (f ∙ rw all)
+      at-front log next (r .size) (recordOf link line) (ap (λ (x : Logged). x .size) e ∙ rw all) (f ∙ rw all)

@@ -3,7 +3,7 @@ use Prim.Native.Nat.{ℕ, zero, suc, _+_, _-_, _≤_}
 use mathlib.Core.Path.{_≡_, refl, sym, ap, _∙_}
 use mathlib.Core.Bool.{Bool, true, false, cond}
 use mathlib.Core.Logic.{_⊎_, inl, inr}
-use mathlib.Core.List.{List as ListOf, [], _∷_}
+use mathlib.Core.List.{List, [], _∷_}
 use native.Mathlib.Nat.{zero-add}
 use native.Mathlib.Omega.{arith}
 use lib.ListN.{length, take, drop, getD, length-drop}
@@ -23,16 +23,16 @@ use Rattle.message.specs.Words.{nextWord}
 use Rattle.message.proofs.Runs.{word-front, word-in, start-in}
 use Rattle.message.proofs.Splits.{next-found}
 use Rattle.console.specs.declared.requests.Request.{Request}
-use Rattle.console.specs.declared.requests.Request.the-variants.{Register, Unregister, Take, List, Unknown}
+use Rattle.console.specs.declared.requests.Request.the-variants.{Register, Unregister, Take, Channels, Unknown}
 use Rattle.console.specs.Requests.{plus, minus, question, ended, linkIn, numbered, takingIn, requestIn}
 
 -- ---- the end of a line passed over
-module _ (s : ListOf ℕ) where
+module _ (s : List ℕ) where
   pub ended-nothing : length s ≡ 0 → s ≡ ended s
   unfolding ended
   ended-nothing h = go s h
     where
-      go : (s : ListOf ℕ) → length s ≡ 0 → s ≡ ended s
+      go : (s : List ℕ) → length s ≡ 0 → s ≡ ended s
       go [] h = refl
       go (b ∷ s) h = absurd (omega arith)
 
@@ -65,20 +65,22 @@ pub asks-none : (f : ℕ → Request) (d : Decimal) → d ≡ Malformed → Unkn
 asks-none f d e = rw e
 
 -- ---- the table
-pub asks-table : (s : ListOf ℕ) → length s ≡ 0 → List ≡ cond (isNil s) List Unknown
+-- nothing behind '?' asks for it
+pub asks-table : (s : List ℕ) → length s ≡ 0 → Channels ≡ cond (isNil s) Channels Unknown
 asks-table s h = rw (nil-length s, eq-eqb (length s) 0 h)
 
-pub asks-more : (s : ListOf ℕ) → (length s ≡ 0 → ⊥) → Unknown ≡ cond (isNil s) List Unknown
+-- anything else is no request
+pub asks-more : (s : List ℕ) → (length s ≡ 0 → ⊥) → Unknown ≡ cond (isNil s) Channels Unknown
 asks-more s h = rw (nil-length s, ne-eqb (length s) 0 h)
 
 -- ---- a line from a link
 -- what begins with a SPACE is no number
-spaced-none : (s : ListOf ℕ) (n : ℕ) → linkIn (take n (space ∷ s)) ≡ Malformed
+spaced-none : (s : List ℕ) (n : ℕ) → linkIn (take n (space ∷ s)) ≡ Malformed
 unfolding decimalUpTo isDecimal all isDigit within
 spaced-none s zero = refl
 spaced-none s (suc n) = refl
 
-module _ (s : ListOf ℕ) (w : Span) (is : w ≡ nextWord s 0) where
+module _ (s : List ℕ) (w : Span) (is : w ≡ nextWord s 0) where
   abbrev start : ℕ
   start = 0 + spaces (drop 0 s)
 
@@ -89,22 +91,22 @@ module _ (s : ListOf ℕ) (w : Span) (is : w ≡ nextWord s 0) where
   end-in = omega (arith, end-is, start-in s 0 start (omega arith) refl, word-in (drop start s), length-drop start s)
 
 -- what doesn't begin with a SPACE begins with the word that is found
-end-word : (b : ℕ) (s : ListOf ℕ) (w : Span) → w ≡ nextWord (b ∷ s) 0 → eqb b space ≡ false → w .end ≡ length (word (b ∷ s))
+end-word : (b : ℕ) (s : List ℕ) (w : Span) → w ≡ nextWord (b ∷ s) 0 → eqb b space ≡ false → w .end ≡ length (word (b ∷ s))
 unfolding spaces
 end-word b s w is e =
     let none : start (b ∷ s) w is ≡ 0 = rw e in
     end-is (b ∷ s) w is ∙ ap (λ (k : ℕ). k + length (word (drop k (b ∷ s)))) none ∙ zero-add (length (word (b ∷ s)))
 
 -- and what does asks for nothing
-spaced-asks : (s : ListOf ℕ) → Unknown ≡ takingIn (space ∷ s)
+spaced-asks : (s : List ℕ) → Unknown ≡ takingIn (space ∷ s)
 unfolding takingIn word decimalUpTo isDecimal
 spaced-asks s = rw (lt-ltb 0 (length (space ∷ s)) (omega arith))
 
 -- the word stands first, or a SPACE does
-abbrev Found : ListOf ℕ → ℕ → Type 0
+abbrev Found : List ℕ → ℕ → Type 0
 Found s end = (end ≡ length (word s)) ⊎ ((Unknown ≡ takingIn s) × (linkIn (part s 0 end) ≡ Malformed))
 
-found : (s : ListOf ℕ) (w : Span) → w ≡ nextWord s 0 → Found s (w .end)
+found : (s : List ℕ) (w : Span) → w ≡ nextWord s 0 → Found s (w .end)
 unfolding spaces word
 found [] w is = inl (end-is [] w is)
 found (b ∷ s) w is = go (eqb b space) refl
@@ -115,7 +117,7 @@ found (b ∷ s) w is = go (eqb b space) refl
         inr (rw q (spaced-asks s), rw q (ap linkIn (part-front (space ∷ s) (w .end)) ∙ spaced-none s (w .end)))
     go false e = inl (end-word b s w is e)
 
-module _ (s : ListOf ℕ) (w : Span) (is : w ≡ nextWord s 0) where
+module _ (s : List ℕ) (w : Span) (is : w ≡ nextWord s 0) where
   -- no SPACE follows
   pub asks-end : w .end ≡ length s → Unknown ≡ takingIn s
   unfolding takingIn
@@ -147,27 +149,27 @@ module _ (s : ListOf ℕ) (w : Span) (is : w ≡ nextWord s 0) where
         go (inr f) = f .0
 
 -- ---- by the first byte
-rest-is : (b : ℕ) (s : ListOf ℕ) → part (b ∷ s) 1 (length (b ∷ s)) ≡ s
+rest-is : (b : ℕ) (s : List ℕ) → part (b ∷ s) 1 (length (b ∷ s)) ≡ s
 rest-is b s = part-back (b ∷ s) 1 (length (b ∷ s)) (omega arith)
 
-pub asks-nothing : (s : ListOf ℕ) → length s ≡ 0 → Unknown ≡ requestIn s
+pub asks-nothing : (s : List ℕ) → length s ≡ 0 → Unknown ≡ requestIn s
 unfolding requestIn
 asks-nothing [] h = refl
 asks-nothing (b ∷ s) h = absurd (omega arith)
 
-abbrev rest : ListOf ℕ → ListOf ℕ
+abbrev rest : List ℕ → List ℕ
 rest s = ended (part s 1 (length s))
 
-request-is : (s : ListOf ℕ) → (length s ≡ 0 → ⊥)
+request-is : (s : List ℕ) → (length s ≡ 0 → ⊥)
     → requestIn s
     ≡ cond (eqb (getD s 0 0) plus) (numbered Register (linkIn (rest s)))
     (cond (eqb (getD s 0 0) minus) (numbered Unregister (linkIn (rest s)))
-    (cond (eqb (getD s 0 0) question) (cond (isNil (rest s)) List Unknown) (takingIn s)))
+    (cond (eqb (getD s 0 0) question) (cond (isNil (rest s)) Channels Unknown) (takingIn s)))
 unfolding requestIn
 request-is [] some = absurd (some refl)
 request-is (b ∷ s) some = rw (rest-is b s)
 
-module _ (s : ListOf ℕ) (some : length s ≡ 0 → ⊥) where
+module _ (s : List ℕ) (some : length s ≡ 0 → ⊥) where
   pub asks-register : getD s 0 0 ≡ plus → numbered Register (linkIn (rest s)) ≡ requestIn s
   asks-register e = rw (request-is s some, e)
 
@@ -176,8 +178,9 @@ module _ (s : ListOf ℕ) (some : length s ≡ 0 → ⊥) where
     asks-unregister e = rw (request-is s some, e)
 
     module _ (not-minus : getD s 0 0 ≡ minus → ⊥) where
-      pub asks-list : getD s 0 0 ≡ question → cond (isNil (rest s)) List Unknown ≡ requestIn s
-      asks-list e = rw (request-is s some, e)
+      -- '?' asks for the channels
+      pub asks-channels : getD s 0 0 ≡ question → cond (isNil (rest s)) Channels Unknown ≡ requestIn s
+      asks-channels e = rw (request-is s some, e)
 
       pub asks-line : (getD s 0 0 ≡ question → ⊥) → takingIn s ≡ requestIn s
       asks-line not-asking = rw (request-is s some, ne-eqb (getD s 0 0) plus not-plus, ne-eqb (getD s 0 0) minus not-minus, ne-eqb (getD s 0 0) question not-asking)

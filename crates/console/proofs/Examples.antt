@@ -2,7 +2,7 @@
 use Prim.Native.Nat.{ℕ}
 use mathlib.Core.Path.{_≡_, refl}
 use mathlib.Core.Bool.{true, false}
-use mathlib.Core.List.{List as ListOf, [], _∷_, map}
+use mathlib.Core.List.{List, [], _∷_, map}
 use Rattle.octets.specs.Bytes.{cr, lf, space, isDigit, within}
 use Rattle.octets.specs.Order.{compare}
 use Rattle.laws.specs.Bits.{hasBit}
@@ -11,7 +11,7 @@ use Rattle.octets.specs.Decimals.{leadsWithZero, isDecimal, valueFrom, valueUpT
 use Rattle.links.specs.Links.{linksFrom}
 use Rattle.message.specs.Grammar.{word}
 use Rattle.wording.specs.Wording.{bytesOf, table, wordsIn}
-use Rattle.console.specs.declared.requests.Request.the-variants.{Register, Unregister, Take, List, Unknown, Help, Nothing}
+use Rattle.console.specs.declared.requests.Request.the-variants.{Register, Unregister, Take, Channels, Unknown, Help, Nothing}
 use Rattle.console.specs.Lines.{kept, firstLine}
 use Rattle.console.specs.Requests.{plus, minus, question, ended, takingIn, requestIn, lineFrom}
 use Rattle.console.specs.Answers.{spaced, numberedText, linksText, relayedText}
@@ -20,7 +20,7 @@ use Rattle.console.proofs.Keeping.{kept-line}
 
 -- ---- requests
 -- `31 X`, with CR LF
-line : ListOf ℕ
+line : List ℕ
 line = 51 ∷ 49 ∷ space ∷ 88 ∷ cr ∷ lf ∷ []
 
 -- `+31`; `+31` with CR LF; `+01`; `-0` unfinished; `-1` with CR and no LF; `?` with CR LF; `??`; `31 X`; ` 31`; `31`; nothing but LF
@@ -37,7 +37,7 @@ asked : map requestIn (
     ∷ (51 ∷ 49 ∷ lf ∷ [])
     ∷ (lf ∷ [])
     ∷ [])
-    ≡ Register 31 ∷ Register 31 ∷ Unknown ∷ Unregister 0 ∷ Unknown ∷ List ∷ Unknown ∷ Take 31 3 ∷ Unknown ∷ Unknown ∷ Unknown ∷ []
+    ≡ Register 31 ∷ Register 31 ∷ Unknown ∷ Unregister 0 ∷ Unknown ∷ Channels ∷ Unknown ∷ Take 31 3 ∷ Unknown ∷ Unknown ∷ Unknown ∷ []
 unfolding line requestIn ended takingIn word decimalUpTo isDecimal all isDigit within leadsWithZero startsWith valueUpTo valueFrom
 asked = refl
 
@@ -70,7 +70,7 @@ unfolding numberedText digitsOf digitsUpTo spaced table wordsIn bytesOf
 wordless = refl
 
 -- ---- lines that are typed: `help`, an empty line, `?`
-typing : map typedIn (bytesOf "help\n" ∷ bytesOf "\r\n" ∷ bytesOf "?\n" ∷ []) ≡ Help ∷ Nothing ∷ List ∷ []
+typing : map typedIn (bytesOf "help\n" ∷ bytesOf "\r\n" ∷ bytesOf "?\n" ∷ []) ≡ Help ∷ Nothing ∷ Channels ∷ []
 unfolding typedIn ended compare requestIn bytesOf
 typing = refl
 

@@ -3,7 +3,7 @@
 use Prim.Native.Nat.{ℕ, zero, suc, _+_, _-_, _≤_, _<_}
 use mathlib.Core.Path.{_≡_, refl, sym, ap, _∙_}
 use mathlib.Core.Bool.{Bool, true, false, cond}
-use mathlib.Core.List.{List as ListOf, [], _∷_, _++_, append-nil, append-assoc}
+use mathlib.Core.List.{List, [], _∷_, _++_, append-nil, append-assoc}
 use native.Mathlib.Omega.{arith}
 use lib.ListN.{length, take, drop, getD, length-take}
 use lib.Seq.{take-all, take-append-le, take-take, take-nil}
@@ -18,48 +18,48 @@ use Rattle.octets.proofs.Digits.{digits-within, decimal-read}
 use Rattle.laws.proofs.Lists.{nil-length}
 use Rattle.message.specs.Grammar.{word}
 use Rattle.console.specs.declared.requests.Request.{Request}
-use Rattle.console.specs.declared.requests.Request.the-variants.{Register, Unregister, Take, List, Unknown}
-use Rattle.console.specs.Lines.{inputLimit, kept, keptAfter, endsLine}
+use Rattle.console.specs.declared.requests.Request.the-variants.{Register, Unregister, Take, Channels, Unknown}
+use Rattle.console.specs.Lines.{inputLimit, kept, keptAfter, endsInLf}
 use Rattle.console.specs.Requests.{plus, minus, question, ended, linkIn, takingIn, requestIn, lineFrom}
 
 -- ---- pieces
-kept-behind : (a b : ListOf ℕ) → kept (kept a ++ b) ≡ kept (a ++ b)
+kept-behind : (a b : List ℕ) → kept (kept a ++ b) ≡ kept (a ++ b)
 kept-behind a b = go (leb (length a) inputLimit) refl
   where
     go : (t : Bool) → leb (length a) inputLimit ≡ t → kept (kept a ++ b) ≡ kept (a ++ b)
-    go true e = ap (λ (l : ListOf ℕ). kept (l ++ b)) (take-all inputLimit a (leb-true (length a) inputLimit e))
+    go true e = ap (λ (l : List ℕ). kept (l ++ b)) (take-all inputLimit a (leb-true (length a) inputLimit e))
     go false e =
         let h = leb-false (length a) inputLimit e in
         take-append-le inputLimit (kept a) b (omega (arith, length-take inputLimit a)) ∙ take-take inputLimit inputLimit a (omega arith) ∙ sym (take-append-le inputLimit a b (omega (arith, h)))
 
-pieces-behind : (a : ListOf ℕ) (pieces : ListOf (ListOf ℕ)) → keptAfter (kept a) pieces ≡ kept (a ++ concatenated pieces)
+pieces-behind : (a : List ℕ) (pieces : List (List ℕ)) → keptAfter (kept a) pieces ≡ kept (a ++ concatenated pieces)
 unfolding keptAfter
 pieces-behind a [] = ap kept (sym (append-nil a))
-pieces-behind a (piece ∷ pieces) = ap (λ (l : ListOf ℕ). keptAfter l pieces) (kept-behind a piece) ∙ pieces-behind (a ++ piece) pieces ∙ ap kept (append-assoc a piece (concatenated pieces))
+pieces-behind a (piece ∷ pieces) = ap (λ (l : List ℕ). keptAfter l pieces) (kept-behind a piece) ∙ pieces-behind (a ++ piece) pieces ∙ ap kept (append-assoc a piece (concatenated pieces))
 
-pub pieces-kept : (pieces : ListOf (ListOf ℕ)) → keptAfter [] pieces ≡ kept (concatenated pieces)
+pub pieces-kept : (pieces : List (List ℕ)) → keptAfter [] pieces ≡ kept (concatenated pieces)
 pieces-kept pieces = pieces-behind [] pieces
 
 -- ---- what is longer than a number
-long-none : (s : ListOf ℕ) → 9 < length s → linkIn s ≡ Malformed
+long-none : (s : List ℕ) → 9 < length s → linkIn s ≡ Malformed
 long-none s h = go (linkIn s) refl
   where
     go : (d : Decimal) → linkIn s ≡ d → linkIn s ≡ Malformed
     go (Value n) e =
         let r = decimal-read 999999999 n s e in
-        absurd (omega (arith, h, ap (λ (l : ListOf ℕ). length l) (r .1), digits-within n 8 (omega (arith, r .0))))
+        absurd (omega (arith, h, ap (λ (l : List ℕ). length l) (r .1), digits-within n 8 (omega (arith, r .0))))
     go Malformed e = e
 
-ended-long : (s : ListOf ℕ) → length s ≤ 2 + length (ended s)
+ended-long : (s : List ℕ) → length s ≤ 2 + length (ended s)
 unfolding ended
-ended-long s = go (endsLine s) (eqb (getD s (length s - 2) 0) cr)
+ended-long s = go (endsInLf s) (eqb (getD s (length s - 2) 0) cr)
   where
     go : (t u : Bool) → length s ≤ 2 + length (cond t (cond u (take (length s - 2) s) (take (length s - 1) s)) s)
     go true true = omega (arith, length-take (length s - 2) s)
     go true false = omega (arith, length-take (length s - 1) s)
     go false u = omega arith
 
-take-word : (n : ℕ) (s : ListOf ℕ) → word (take n s) ≡ take n (word s)
+take-word : (n : ℕ) (s : List ℕ) → word (take n s) ≡ take n (word s)
 unfolding word
 take-word zero s = refl
 take-word (suc n) [] = refl
@@ -74,7 +74,7 @@ either : (t : Bool) → Unknown ≡ cond t Unknown Unknown
 either true = refl
 either false = refl
 
-module _ (s : ListOf ℕ) (long : inputLimit < length s) where
+module _ (s : List ℕ) (long : inputLimit < length s) where
   kept-length : length (kept s) ≡ inputLimit
   kept-length = omega (arith, length-take inputLimit s)
 
@@ -89,14 +89,14 @@ module _ (s : ListOf ℕ) (long : inputLimit < length s) where
           rw (w, lt-ltb (length (word s)) (length (kept s)) (omega (arith, h, kept-length)), lt-ltb (length (word s)) (length s) (omega (arith, h)))
       go false e =
           let h = ltb-false (length (word s)) inputLimit e in
-          let w = ap (λ (l : ListOf ℕ). length l) (take-word inputLimit s) in
+          let w = ap (λ (l : List ℕ). length l) (take-word inputLimit s) in
           rw (le-ltb (length (word (kept s))) (length (kept s)) (omega (arith, h, w, length-take inputLimit (word s), kept-length)), long-none (word s) (omega (arith, h))) (either (ltb (length (word s)) (length s)))
 
-long-asks : (s : ListOf ℕ) → inputLimit < length s → requestIn (kept s) ≡ requestIn s
+long-asks : (s : List ℕ) → inputLimit < length s → requestIn (kept s) ≡ requestIn s
 unfolding requestIn
 long-asks [] = λ long. absurd (omega arith)
 long-asks (b ∷ s) = λ long.
-    let k : ListOf ℕ = take 522 s in
+    let k : List ℕ = take 522 s in
     let few : length k ≡ 522 = omega (arith, length-take 522 s) in
     let kl : linkIn (ended k) ≡ Malformed = long-none (ended k) (omega (arith, ended-long k)) in
     let sl : linkIn (ended s) ≡ Malformed = long-none (ended s) (omega (arith, ended-long s)) in
@@ -104,7 +104,7 @@ long-asks (b ∷ s) = λ long.
     let sn : isNil (ended s) ≡ false = nil-length (ended s) ∙ ne-eqb (length (ended s)) 0 (λ e. omega (arith, ended-long s)) in
     rw (kl, sl, kn, sn) (ap (λ (r : Request). cond (eqb b plus) Unknown (cond (eqb b minus) Unknown (cond (eqb b question) Unknown r))) (kept-taking (b ∷ s) long))
 
-pub kept-asks : (s : ListOf ℕ) → requestIn (kept s) ≡ requestIn s
+pub kept-asks : (s : List ℕ) → requestIn (kept s) ≡ requestIn s
 kept-asks s = go (leb (length s) inputLimit) refl
   where
     go : (t : Bool) → leb (length s) inputLimit ≡ t → requestIn (kept s) ≡ requestIn s
@@ -112,7 +112,7 @@ kept-asks s = go (leb (length s) inputLimit) refl
     go false e = long-asks s (leb-false (length s) inputLimit e)
 
 -- ---- where a link's line begins
-take-start : (s : ListOf ℕ) (link start : ℕ) → takingIn s ≡ Take link start → start ≤ 10
+take-start : (s : List ℕ) (link start : ℕ) → takingIn s ≡ Take link start → start ≤ 10
 unfolding takingIn
 take-start s link start e = go (ltb (length (word s)) (length s)) refl (linkIn (word s)) refl
   where
@@ -121,11 +121,11 @@ take-start s link start e = go (ltb (length (word s)) (length s)) refl (linkIn (
         let q : takingIn s ≡ Take n (length (word s) + 1) = rw (f, g) in
         let z : length (word s) + 1 ≡ start = cc in
         let r = decimal-read 999999999 n (word s) g in
-        omega (arith, ap (λ (l : ListOf ℕ). length l) (r .1), digits-within n 8 (omega (arith, r .0)))
+        omega (arith, ap (λ (l : List ℕ). length l) (r .1), digits-within n 8 (omega (arith, r .0)))
     go true f Malformed g = let q : takingIn s ≡ Unknown = rw (f, g) in let z : _≡_ {A = ℕ} 0 1 = cc in absurd (omega arith)
     go false f d g = let q : takingIn s ≡ Unknown = rw f in let z : _≡_ {A = ℕ} 0 1 = cc in absurd (omega arith)
 
-request-start : (s : ListOf ℕ) (link start : ℕ) → requestIn s ≡ Take link start → start ≤ 10
+request-start : (s : List ℕ) (link start : ℕ) → requestIn s ≡ Take link start → start ≤ 10
 unfolding requestIn
 request-start [] link start e = let z : _≡_ {A = ℕ} 0 1 = cc in absurd (omega arith)
 request-start (b ∷ s) link start e = go (eqb b plus) refl (eqb b minus) refl (eqb b question) refl (linkIn (ended s)) refl (isNil (ended s)) refl
@@ -135,17 +135,17 @@ request-start (b ∷ s) link start e = go (eqb b plus) refl (eqb b minus) refl (
     go true f u g v h Malformed k w l = let q : requestIn (b ∷ s) ≡ Unknown = rw (f, k) in let z : _≡_ {A = ℕ} 0 1 = cc in absurd (omega arith)
     go false f true g v h (Value n) k w l = let q : requestIn (b ∷ s) ≡ Unregister n = rw (f, g, k) in let z : _≡_ {A = ℕ} 0 1 = cc in absurd (omega arith)
     go false f true g v h Malformed k w l = let q : requestIn (b ∷ s) ≡ Unknown = rw (f, g, k) in let z : _≡_ {A = ℕ} 0 1 = cc in absurd (omega arith)
-    go false f false g true h d k true l = let q : requestIn (b ∷ s) ≡ List = rw (f, g, h, l) in let z : _≡_ {A = ℕ} 0 1 = cc in absurd (omega arith)
+    go false f false g true h d k true l = let q : requestIn (b ∷ s) ≡ Channels = rw (f, g, h, l) in let z : _≡_ {A = ℕ} 0 1 = cc in absurd (omega arith)
     go false f false g true h d k false l = let q : requestIn (b ∷ s) ≡ Unknown = rw (f, g, h, l) in let z : _≡_ {A = ℕ} 0 1 = cc in absurd (omega arith)
     go false f false g false h d k w l = let q : takingIn (b ∷ s) ≡ requestIn (b ∷ s) = rw (f, g, h) in take-start (b ∷ s) link start (q ∙ e)
 
-drop-take : (k n : ℕ) (s : ListOf ℕ) → drop k (take n s) ≡ take (n - k) (drop k s)
+drop-take : (k n : ℕ) (s : List ℕ) → drop k (take n s) ≡ take (n - k) (drop k s)
 drop-take zero n s = let e : n - 0 ≡ n = omega arith in rw e
 drop-take (suc k) zero s = let e : 0 - suc k ≡ 0 = omega arith in rw e
 drop-take (suc k) (suc n) [] = sym (take-nil (suc n - suc k))
 drop-take (suc k) (suc n) (b ∷ s) = let e : suc n - suc k ≡ n - k = omega arith in rw e (drop-take k n s)
 
 -- what is taken of it is kept
-pub kept-line : (s : ListOf ℕ) (link start : ℕ) → requestIn s ≡ Take link start → lineFrom start (kept s) ≡ lineFrom start s
+pub kept-line : (s : List ℕ) (link start : ℕ) → requestIn s ≡ Take link start → lineFrom start (kept s) ≡ lineFrom start s
 unfolding lineFrom
 kept-line s link start e = ap (take 513) (drop-take start inputLimit s) ∙ take-take 513 (inputLimit - start) (drop start s) (omega (arith, request-start s link start e))

@@ -1,7 +1,7 @@
 -- Laws of lines split, requests read and answers put together, for the functions of this crate, and examples.
-pub mod Splitting
-pub mod Asking
-pub mod Keeping
-pub mod Answering
-pub mod Examples
-pub mod Typing
+mod Splitting
+mod Asking
+mod Keeping
+mod Answering
+mod Examples
+mod Typing

@@ -5,14 +5,14 @@ use mathlib.Core.Bool.{Bool, true, false, cond}
 use mathlib.Core.List.{List, [], _∷_, _++_}
 use native.Mathlib.Omega.{arith}
 use lib.ListN.{length, take, drop, length-append, length-drop, length-take}
-use lib.Seq.{take-all, take-at, take-append-add}
-use lib.Dec.{eqb, leb}
-use borrow.Author.Tests.{leb-true, leb-false}
+use lib.Seq.{take-at, take-append-add}
+use lib.Dec.{eqb}
+use Rattle.laws.proofs.Lists.{take-within}
 use Rattle.octets.specs.Bytes.{lf}
 use Rattle.octets.specs.Search.{before}
 use Rattle.octets.specs.Room.{part, putAt}
 use Rattle.octets.proofs.Room.{part-front, put-fits}
-use Rattle.console.specs.Lines.{inputLimit, kept, firstLine, endsLine}
+use Rattle.console.specs.Lines.{inputLimit, kept, firstLine, endsInLf}
 
 -- ---- the first line
 -- the bytes before the first LF, and that one, if there is one
@@ -36,22 +36,11 @@ module _ (s : List ℕ) (i : ℕ) where
   first-in h = omega (arith, length-first (drop i s), length-drop i s)
 
 -- nothing ends no line
-pub ends-nothing : (s : List ℕ) → length s ≡ 0 → false ≡ endsLine s
+pub ends-nothing : (s : List ℕ) → length s ≡ 0 → false ≡ endsInLf s
 ends-nothing [] h = refl
 ends-nothing (b ∷ s) h = absurd (omega arith)
 
 -- ---- the line under way
--- the first n elements, where n is the lesser of k and all
-take-least : (k : ℕ) (l : List ℕ) → take k l ≡ take (min k (length l)) l
-take-least k l = go (leb k (length l)) refl
-  where
-    go : (t : Bool) → leb k (length l) ≡ t → take k l ≡ take (min k (length l)) l
-    go true e = let n : min k (length l) ≡ k = omega (arith, leb-true k (length l) e) in rw n
-    go false e =
-        let h = leb-false k (length l) e in
-        let n : min k (length l) ≡ length l = omega (arith, h) in
-        take-all k l (omega (arith, h)) ∙ sym (rw n (take-all (length l) l (omega arith)))
-
 take-past : (l more : List ℕ) (n : ℕ) → length l ≤ n → take n (l ++ more) ≡ l ++ take (n - length l) more
 take-past l more n h = let e : n ≡ length l + (n - length l) = omega arith in ap (λ (j : ℕ). take j (l ++ more)) e ∙ take-append-add l more (n - length l)
 
@@ -63,10 +52,10 @@ module _ (bytes more : List ℕ) (len start n : ℕ) (room : length bytes ≡ in
   old-length = omega (arith, length-take start bytes)
 
   old-is : take len bytes ≡ old
-  old-is = let k : min len (length bytes) ≡ start = omega arith in take-least len bytes ∙ ap (λ (j : ℕ). take j bytes) k
+  old-is = sym (take-within bytes len start (omega arith))
 
   new-is : take n more ≡ take (inputLimit - start) more
-  new-is = let k : min (inputLimit - start) (length more) ≡ n = omega arith in sym (take-least (inputLimit - start) more ∙ ap (λ (j : ℕ). take j more) k)
+  new-is = take-within more (inputLimit - start) n (omega arith)
 
   pub extended-holds : take (start + n) (putAt bytes start (part more 0 n)) ≡ kept (take len bytes ++ more)
   extended-holds =

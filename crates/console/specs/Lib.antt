@@ -1,5 +1,5 @@
 pub mod Lines
 pub mod Requests
 pub mod Answers
-pub mod Stands
+pub mod Buffers
 pub mod Typing

@@ -29,5 +29,5 @@ firstLine [] = []
 firstLine (b ∷ s) = cond (eqb b lf) (b ∷ []) (b ∷ firstLine s)
 
 -- the last byte is LF
-abbrev pub endsLine : List ℕ → Bool
-endsLine s = eqb (getD s (length s - 1) 0) lf
+abbrev pub endsInLf : List ℕ → Bool
+endsInLf s = eqb (getD s (length s - 1) 0) lf

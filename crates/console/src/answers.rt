@@ -8,12 +8,12 @@ ghost use Rattle.octets.specs.Bytes.{comma};
 ghost use Rattle.laws.specs.Bits.{hasBit};
 ghost use Rattle.laws.specs.Lists.{prefixed};
 ghost use Rattle.octets.specs.Decimals.{digitsOf};
-ghost use Rattle.octets.specs.Held.{Adds};
+ghost use Rattle.octets.specs.Private.Additions.{Adds};
 ghost use Rattle.links.specs.Links.{linksIn};
 ghost use Rattle.message.specs.Grammar.{lineLimit};
 ghost use Rattle.wording.specs.Wording.{wordsOf};
 ghost use Rattle.console.specs.Answers.{spaced, numberedText, linksText, relayedText};
-ghost use Rattle.console.specs.Stands.{answerRoom, Stands};
+ghost use Rattle.console.specs.Buffers.{answerRoom, AtFront};
 use libc::STDOUT_FILENO;
 use links::Links;
 use links::count;
@@ -49,7 +49,7 @@ fn put_words(out: &mut [u8], at: usize, number: u8, worded: bool) -> usize
 // A mark, a SPACE and a number, with its words where they are asked for.
 fn put_numbered(mark: u8, number: u8, worded: bool, out: &mut [u8]) -> usize
     requires { ⌜ length (now out) ≡ answerRoom ⌝ }
-    ensures { λ n. ⌜ Stands (now (out .exit)) n (numberedText mark number worded) ⌝ }
+    ensures { λ n. ⌜ AtFront (now (out .exit)) n (numberedText mark number worded) ⌝ }
 {
     let opening = [mark, b' '];
     let opened = put(out, 0, &opening);
@@ -123,7 +123,7 @@ fn put_set(out: &mut [u8], at: usize, set: u32) -> usize
 // A comma, which isn't printed, the links that a line goes to, and the line.
 fn put_relayed(set: u32, line: &[u8], out: &mut [u8]) -> usize
     requires { ⌜ (length (now line) ≤ lineLimit) × (length (now out) ≡ answerRoom) ⌝ }
-    ensures { λ n. ⌜ Stands (now (out .exit)) n (comma ∷ relayedText set (now (line .entry))) ⌝ }
+    ensures { λ n. ⌜ AtFront (now (out .exit)) n (comma ∷ relayedText set (now (line .entry))) ⌝ }
 {
     let linked = put_set(out, 0, set);
     let spaced = put(out, linked, b" ");

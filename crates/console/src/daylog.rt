@@ -6,7 +6,7 @@ ghost use lib.ListN.{length};
 ghost use Rattle.links.specs.Links.{isLink};
 ghost use Rattle.message.specs.Grammar.{lineLimit};
 ghost use Rattle.journal.specs.Journal.{recordOf};
-ghost use Rattle.console.specs.Stands.{recordRoom, Stands};
+ghost use Rattle.console.specs.Buffers.{recordRoom, AtFront};
 use journal::write_record;
 use libc::STDERR_FILENO;
 use octets::part;
@@ -97,7 +97,7 @@ pub(crate) fn open_journal() -> Journal {
 // The record of a line that was accepted: it came from one of the links and isn't too long, so it isn't refused here.
 fn put_record(link: u32, line: &[u8], out: &mut [u8]) -> usize
     requires { ⌜ (isLink link ≡ true) × (length (now line) ≤ lineLimit) × (length (now out) ≡ recordRoom) ⌝ }
-    ensures { λ n. ⌜ Stands (now (out .exit)) n (recordOf link (now (line .entry))) ⌝ }
+    ensures { λ n. ⌜ AtFront (now (out .exit)) n (recordOf link (now (line .entry))) ⌝ }
 {
     let logged = write_record(link, line, out);
     logged.size

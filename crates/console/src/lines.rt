@@ -4,7 +4,7 @@ ghost use mathlib.Core.Path.{_≡_};
 ghost use mathlib.Core.List.{[], _++_};
 ghost use Prim.Native.Nat.{_+_, _<_};
 ghost use lib.ListN.{length, drop};
-ghost use Rattle.console.specs.Lines.{heldIn, kept, firstLine, endsLine};
+ghost use Rattle.console.specs.Lines.{heldIn, kept, firstLine, endsInLf};
 use octets::lesser;
 use octets::part;
 use octets::place_of;
@@ -55,8 +55,8 @@ pub(crate) fn line_end(piece: &[u8], at: usize) -> usize
 }
 
 // Whether the last byte is LF.
-pub(crate) fn ends_line(bytes: &[u8]) -> bool
-    ensures { λ r. ⌜ r ≡ endsLine (now (bytes .entry)) ⌝ }
+pub(crate) fn ends_in_lf(bytes: &[u8]) -> bool
+    ensures { λ r. ⌜ r ≡ endsInLf (now (bytes .entry)) ⌝ }
 {
     let n = bytes.len();
     if n == 0 {

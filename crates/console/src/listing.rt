@@ -5,7 +5,7 @@ ghost use lib.ListN.{length};
 ghost use Rattle.octets.specs.Bytes.{lf};
 ghost use Rattle.channel.specs.Record.{decode};
 ghost use Rattle.telling.specs.Telling.{described};
-ghost use Rattle.console.specs.Stands.{answerRoom, Stands};
+ghost use Rattle.console.specs.Buffers.{answerRoom, AtFront};
 use crate::answers::ROOM;
 use crate::answers::print;
 use channel::Record;
@@ -17,7 +17,7 @@ use telling::describe;
 // A channel's line: what an SJOIN tells of it, and LF.
 fn put_channel(r: Record, out: &mut [u8]) -> usize
     requires { ⌜ length (now out) ≡ answerRoom ⌝ }
-    ensures { λ n. ⌜ Stands (now (out .exit)) n (described (decode r) ++ (lf ∷ [])) ⌝ }
+    ensures { λ n. ⌜ AtFront (now (out .exit)) n (described (decode r) ++ (lf ∷ [])) ⌝ }
 {
     let n = describe(r, out);
     put(out, n, b"\n")

@@ -19,7 +19,7 @@ use daylog::open_journal;
 use libc::STDERR_FILENO;
 use libc::STDIN_FILENO;
 use lines::Pending;
-use lines::ends_line;
+use lines::ends_in_lf;
 use lines::extended;
 use lines::line_end;
 use listing::say_channels;
@@ -90,7 +90,7 @@ fn respond(mut s: Session, request: Request, input: &[u8]) -> Session {
             s.more = went(say_done(r.number, s.typed));
         }
         Request::Take(link, start) => return take(s, link, line_from(input, start)),
-        Request::List => s.more = went(say_channels(s.table)),
+        Request::Channels => s.more = went(say_channels(s.table)),
         Request::Unknown => s.more = went(say_input()),
         Request::Help => s.more = went(say_help()),
         Request::Nothing => return s,
@@ -123,7 +123,7 @@ fn finish(mut s: Session) -> Session {
 fn take_part(mut s: Session, bytes: &[u8]) -> Session {
     let line = extended(s.pending, bytes);
     s.pending = line;
-    if ends_line(bytes) {
+    if ends_in_lf(bytes) {
         return finish(s);
     }
     s

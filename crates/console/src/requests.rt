@@ -3,13 +3,13 @@ ghost use mathlib.Core.Path.{_≡_};
 ghost use mathlib.Core.Bool.{cond};
 ghost use lib.ListN.{length};
 ghost use Rattle.laws.specs.Lists.{isNil};
-ghost use Rattle.console.specs.declared.requests.Request.the-variants.{Register, Unregister, List, Unknown};
+ghost use Rattle.console.specs.declared.requests.Request.the-variants.{Register, Unregister, Channels, Unknown};
 ghost use Rattle.console.specs.Requests.{ended as endedOf, linkIn, numbered, takingIn, requestIn, lineFrom};
 ghost use Rattle.console.specs.Typing.{typed, typedIn};
 ghost use Rattle.console.specs.Lines.{heldIn};
-ghost use Rattle.console.specs.Stands.{typedRoom, Stands};
+ghost use Rattle.console.specs.Buffers.{typedRoom, AtFront};
 use crate::lines::Pending;
-use crate::lines::ends_line;
+use crate::lines::ends_in_lf;
 use message::next_word;
 use octets::Decimal;
 use octets::Order;
@@ -30,7 +30,7 @@ pub(crate) enum Request {
     Register(u32),
     Unregister(u32),
     Take(u32, usize),
-    List,
+    Channels,
     Unknown,
     Help,
     Nothing,
@@ -78,10 +78,10 @@ fn unregistering(text: &[u8]) -> Request
 
 // The table is asked for by '?' alone.
 fn listing(text: &[u8]) -> Request
-    ensures { λ r. ⌜ r ≡ cond (isNil (now (text .entry))) List Unknown ⌝ }
+    ensures { λ r. ⌜ r ≡ cond (isNil (now (text .entry))) Channels Unknown ⌝ }
 {
     if text.len() == 0 {
-        return Request::List;
+        return Request::Channels;
     }
     Request::Unknown
 }
@@ -132,11 +132,11 @@ pub(crate) fn line_from(input: &[u8], start: usize) -> &[u8]
 // A line as it is taken that was typed: with CR LF, where it ends with LF.
 pub(crate) fn put_typed(line: Pending, out: &mut [u8]) -> usize
     requires { ⌜ length (now out) ≡ typedRoom ⌝ }
-    ensures { λ n. ⌜ Stands (now (out .exit)) n (typed (heldIn line)) ⌝ }
+    ensures { λ n. ⌜ AtFront (now (out .exit)) n (typed (heldIn line)) ⌝ }
 {
     let bytes = line.bytes;
     let input = part(&bytes, 0, line.len);
-    if !ends_line(input) {
+    if !ends_in_lf(input) {
         return put(out, 0, input);
     }
     let n = put(out, 0, ended(input));

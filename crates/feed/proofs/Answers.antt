@@ -13,7 +13,7 @@ use Rattle.laws.specs.Lists.{all}
 use Rattle.message.specs.Grammar.{lineLimit}
 use Rattle.feed.specs.Lines.{Event, Whole, TooLong, Pending, Unfinished, Dropping, nothing, yielded, after, events, afterAll, used}
 use Rattle.feed.specs.Feeder.{stateOf, fed, answerOf, answerTo}
-use Rattle.feed.specs.Private.{past}
+use Rattle.feed.specs.Private.Gathering.{past}
 use Rattle.feed.proofs.Runs.{after-append, events-append, used-append, keeps-silent, keeps, drops-silent, drops, full-yields, full-drops, ends, line-yields}
 
 -- ---- behind bytes that yield nothing

@@ -20,7 +20,7 @@ use Rattle.feed.specs.declared.Feeder.{Feeder}
 use Rattle.feed.specs.declared.Fed.{Fed}
 use Rattle.feed.specs.Lines.{Pending, Unfinished, Dropping, nothing}
 use Rattle.feed.specs.Feeder.{stateOf, pendingIn, isReached, fed, answerTo, feedRules, feedAnswer}
-use Rattle.feed.specs.Private.{KeepsLine, heldBytes, past}
+use Rattle.feed.specs.Private.Gathering.{KeepsLine, heldBytes, past}
 use Rattle.feed.proofs.States.{sound-tested, state-back, pending-kept, pending-dropping}
 use Rattle.feed.proofs.Answers.{answer-dropping, answer-resumed}
 

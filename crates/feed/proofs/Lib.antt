@@ -1,10 +1,10 @@
--- The theorems of the feeder, for the crates above, and the laws that they and the functions of this crate rest on.
-pub mod States
-pub mod Calls
-pub mod Division
-pub mod Yielded
-pub mod Failures
-pub mod Witnesses
+-- The theorems of the feeder, and the laws that they and the functions of this crate rest on.
+mod States
+mod Calls
+mod Division
+mod Yielded
+mod Failures
+mod Witnesses
 mod Runs
 mod Answers
 mod Tests

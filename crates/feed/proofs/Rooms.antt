@@ -9,7 +9,7 @@ use Rattle.octets.proofs.Room.{put-padded-behind}
 use Rattle.laws.specs.Lists.{padded}
 use Rattle.message.specs.Grammar.{lineLimit}
 use Rattle.feed.specs.declared.Feeder.{Feeder}
-use Rattle.feed.specs.Private.{KeepsLine, heldBytes}
+use Rattle.feed.specs.Private.Gathering.{KeepsLine, heldBytes}
 use Rattle.feed.proofs.States.{kept-length, kept-padded}
 
 pub put-behind-held : (f : Feeder) → KeepsLine f → (more : List ℕ) → f .len + length more ≤ lineLimit → putAt (f .bytes) (f .len) more ≡ padded lineLimit 0 (heldBytes f ++ more)

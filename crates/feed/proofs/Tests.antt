@@ -9,7 +9,7 @@ use Rattle.laws.specs.Lists.{all}
 use Rattle.message.specs.Grammar.{lineLimit}
 use Rattle.feed.specs.declared.Feeder.{Feeder}
 use Rattle.feed.specs.Feeder.{reachedTests, isReached}
-use Rattle.feed.specs.Private.{isClean}
+use Rattle.feed.specs.Private.Gathering.{isClean}
 
 module _ (f : Feeder) (room : length (f .bytes) ≡ lineLimit) where
   -- more is kept than a line has

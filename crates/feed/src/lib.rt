@@ -9,7 +9,7 @@ ghost use Rattle.laws.specs.Lists.{padded};
 ghost use Rattle.message.specs.Grammar.{lineLimit};
 ghost use Rattle.feed.specs.Lines.{Unfinished, Dropping, nothing};
 ghost use Rattle.feed.specs.Feeder.{stateOf, isReached, fed as fedOf, answerTo, feedAnswer};
-ghost use Rattle.feed.specs.Private.{isClean, KeepsLine, heldBytes, past};
+ghost use Rattle.feed.specs.Private.Gathering.{isClean, KeepsLine, heldBytes, past};
 use message::LINE_LIMIT;
 use octets::Class;
 use octets::all_in;

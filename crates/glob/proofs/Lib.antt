@@ -1,4 +1,5 @@
-pub mod Masks
-pub mod Sound
-pub mod Steps
-pub mod Examples
+-- Laws of masks and of a match in steps, for the functions of this crate, and examples.
+mod Masks
+mod Sound
+mod Steps
+mod Examples

@@ -13,7 +13,7 @@ use Rattle.refusal.specs.Rules.{_when_, firstOf, ascend, ascendFrom, placeIn}
 use Rattle.refusal.proofs.Rules.{skip, stop, first-nil}
 use Rattle.laws.proofs.Bools.{and-right}
 use Rattle.laws.proofs.Lists.{drop-step}
-use Rattle.glob.specs.Mask.{textLimit, star, matchesByte, firstThen, afterRun, matches, matchRules, answerFor}
+use Rattle.glob.specs.Mask.{textLimit, star, matchesByte, firstThen, afterRun, matches, matchRules, matchAnswer}
 
 -- The rules stand in the order of their numbers: the first in it that applies is given.
 pub rules-ascend : (mask text : List ℕ) → ascend (matchRules mask text) ≡ true
@@ -22,12 +22,14 @@ rules-ascend mask text = refl
 
 -- ---- what each test makes of the answer
 module _ (mask text : List ℕ) where
-  pub answers-long : (ltb textLimit (length mask) || ltb textLimit (length text)) ≡ true → record { number = textTooLong; yes = false } ≡ answerFor mask text
-  unfolding answerFor matchRules
+  -- a mask or text over the limit is refused
+  pub answers-long : (ltb textLimit (length mask) || ltb textLimit (length text)) ≡ true → record { number = textTooLong; yes = false } ≡ matchAnswer mask text
+  unfolding matchAnswer matchRules
   answers-long e = rw (stop (textTooLong when (ltb textLimit (length mask) || ltb textLimit (length text))) [] e)
 
-  pub answers-within : length mask ≤ textLimit → length text ≤ textLimit → (t : Bool) → t ≡ matches mask text → record { number = accepted; yes = t } ≡ answerFor mask text
-  unfolding answerFor matchRules
+  -- any other gets the match
+  pub answers-within : length mask ≤ textLimit → length text ≤ textLimit → (t : Bool) → t ≡ matches mask text → record { number = accepted; yes = t } ≡ matchAnswer mask text
+  unfolding matchAnswer matchRules
   answers-within m s t e =
       let n : firstOf (matchRules mask text) ≡ accepted = skip _ _ (simp (le-ltb textLimit (length mask) m, le-ltb textLimit (length text) s)) ∙ first-nil in
       rw (n, e)

@@ -16,7 +16,7 @@ use Rattle.glob.specs.declared.State.{State}
 use Rattle.glob.specs.declared.Progress.{Progress}
 use Rattle.glob.specs.declared.Progress.the-variants.{On, Done}
 use Rattle.glob.specs.Mask.{star, matchesByte, afterRun, matches}
-use Rattle.glob.specs.Stepping.{state, start, back, step}
+use Rattle.glob.specs.Private.Stepping.{state, start, back, step}
 use Rattle.glob.proofs.Masks.{run-here, run-nil, run-next, run-first, matches-end, matches-over, matches-star, matches-none, matches-agree, matches-differ, matches-one}
 
 -- ---- what a state means

@@ -11,7 +11,7 @@ use Rattle.glob.specs.declared.State.{State}
 use Rattle.glob.specs.declared.Progress.{Progress}
 use Rattle.glob.specs.declared.Progress.the-variants.{On, Done}
 use Rattle.glob.specs.Mask.{matches}
-use Rattle.glob.specs.Stepping.{start, step, onward, steps, budget}
+use Rattle.glob.specs.Private.Stepping.{start, step, onward, steps, budget}
 use Rattle.glob.proofs.Sound.{Sound, rank, Leads, start-sound, run-in, step-leads}
 
 module _ (mask text : List ℕ) where

@@ -1,2 +1,2 @@
 pub mod Mask
-pub mod Stepping
+pub mod Private

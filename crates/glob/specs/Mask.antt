@@ -44,8 +44,8 @@ unfoldable pub matchRules : List ℕ → List ℕ → List Rule
 matchRules mask text = textTooLong when (ltb textLimit (length mask) || ltb textLimit (length text)) ∷ []
 
 -- a refused match is no
-unfoldable pub answerFor : List ℕ → List ℕ → Match
-answerFor mask text = record {
+unfoldable pub matchAnswer : List ℕ → List ℕ → Match
+matchAnswer mask text = record {
   number = firstOf (matchRules mask text);
   yes = eqb (firstOf (matchRules mask text)) accepted && matches mask text;
 }

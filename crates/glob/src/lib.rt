@@ -5,8 +5,8 @@
 ghost use mathlib.Core.Path.{_≡_};
 ghost use Prim.Native.Nat.{_≤_, _<_};
 ghost use lib.ListN.{length};
-ghost use Rattle.glob.specs.Mask.{textLimit, matchesByte, matches as matchesOf, answerFor};
-ghost use Rattle.glob.specs.Stepping.{Inside, back as backOf, step as stepOf};
+ghost use Rattle.glob.specs.Mask.{textLimit, matchesByte, matches as matchesOf, matchAnswer};
+ghost use Rattle.glob.specs.Private.Stepping.{Inside, back as backOf, step as stepOf};
 use names::fold;
 use refusal::ACCEPTED;
 use refusal::TEXT_TOO_LONG;
@@ -129,7 +129,7 @@ fn decide(mask: &[u8], text: &[u8]) -> bool
 
 // Whether the mask matches the text. Refused where either is over the limit.
 pub fn matches(mask: &[u8], text: &[u8]) -> Match
-    ensures { λ r. ⌜ r ≡ answerFor (now (mask .entry)) (now (text .entry)) ⌝ }
+    ensures { λ r. ⌜ r ≡ matchAnswer (now (mask .entry)) (now (text .entry)) ⌝ }
 {
     if TEXT_LIMIT < mask.len() {
         return Match {

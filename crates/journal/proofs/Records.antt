@@ -17,7 +17,8 @@ use Rattle.octets.proofs.Room.{put-front, put-behind}
 use Rattle.links.specs.Links.{linkCount}
 use Rattle.message.specs.Grammar.{lineLimit}
 use Rattle.journal.specs.declared.Logged.{Logged}
-use Rattle.journal.specs.Journal.{headLength, headOf, recordOf, linkIn, lineIn, logRules, answerFor, refusedBy}
+use Rattle.journal.specs.Journal.{headLength, headOf, recordOf, linkIn, lineIn, logRules, loggedAnswer}
+use Rattle.journal.specs.Private.Refusal.{refusedBy}
 
 -- ---- read back
 pub link-back : (link : ℕ) (line more : List ℕ) → linkIn (recordOf link line ++ more) ≡ link
@@ -36,18 +37,20 @@ rules-ascend link line log = refl
 
 module _ (link : ℕ) (line log : List ℕ) where
   answers-refused : (k : ℕ) → firstOf (logRules link line log) ≡ k → (k ≡ accepted → ⊥) → (r : Logged) → r ≡ refusedBy k
-      → (r ≡ answerFor link line log) × (log ≡ front (emitted (logRules link line log) (recordOf link line)) log)
-  unfolding answerFor
+      → (r ≡ loggedAnswer link line log) × (log ≡ front (emitted (logRules link line log) (recordOf link line)) log)
+  unfolding loggedAnswer
   answers-refused k e ne r f = rw (emitted-none (logRules link line log) (recordOf link line) k e ne, e) (f, refl)
 
+  -- an unknown link is refused
   pub logs-no-link : linkCount ≤ link → (r : Logged) → r ≡ refusedBy badLink
-      → (r ≡ answerFor link line log) × (log ≡ front (emitted (logRules link line log) (recordOf link line)) log)
+      → (r ≡ loggedAnswer link line log) × (log ≡ front (emitted (logRules link line log) (recordOf link line)) log)
   unfolding logRules
   logs-no-link h = answers-refused badLink (stop _ _ (rw (le-ltb link linkCount h))) (λ q. omega arith)
 
   module _ (known : link < linkCount) where
+    -- so is a line that is too long
     pub logs-long : lineLimit < length line → (r : Logged) → r ≡ refusedBy lineTooLong
-        → (r ≡ answerFor link line log) × (log ≡ front (emitted (logRules link line log) (recordOf link line)) log)
+        → (r ≡ loggedAnswer link line log) × (log ≡ front (emitted (logRules link line log) (recordOf link line)) log)
     unfolding logRules
     logs-long h = answers-refused lineTooLong (skip _ _ (rw (lt-ltb link linkCount known)) ∙ stop _ _ (lt-ltb lineLimit (length line) h)) (λ q. omega arith)
 
@@ -56,18 +59,20 @@ module _ (link : ℕ) (line log : List ℕ) where
       unfolding logRules
       room-decides = skip _ _ (rw (lt-ltb link linkCount known)) ∙ skip _ _ (le-ltb lineLimit (length line) small)
 
+      -- and one that the log has no room for
       pub logs-no-room : length log < length line + headLength → (r : Logged) → r ≡ refusedBy noRoom
-          → (r ≡ answerFor link line log) × (log ≡ front (emitted (logRules link line log) (recordOf link line)) log)
+          → (r ≡ loggedAnswer link line log) × (log ≡ front (emitted (logRules link line log) (recordOf link line)) log)
       logs-no-room h = answers-refused noRoom (room-decides ∙ stop _ _ (lt-ltb (length log) (length line + headLength) h)) (λ q. omega arith)
 
       module _ (room : length line + headLength ≤ length log) where
+        -- any other is accepted
         pub accepts : firstOf (logRules link line log) ≡ accepted
         accepts = room-decides ∙ skip _ _ (le-ltb (length log) (length line + headLength) room) ∙ first-nil
 
         -- head and line, put one behind the other, are the record
         pub logs : (first next : List ℕ) → first ≡ putAt log 0 (headOf link line) → next ≡ putAt first headLength line
-            → (record { number = accepted; size = length line + headLength } ≡ answerFor link line log) × (next ≡ front (emitted (logRules link line log) (recordOf link line)) log)
-        unfolding answerFor recordOf headOf
+            → (record { number = accepted; size = length line + headLength } ≡ loggedAnswer link line log) × (next ≡ front (emitted (logRules link line log) (recordOf link line)) log)
+        unfolding loggedAnswer recordOf headOf
         logs first next e f =
             let n : length (recordOf link line) ≡ length line + headLength = omega arith in
             rw (emitted-all (logRules link line log) (recordOf link line) accepts, accepts, n)

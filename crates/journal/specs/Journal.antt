@@ -38,12 +38,9 @@ logRules link line log =
     ∷ noRoom when ltb (length log) (length line + headLength)
     ∷ []
 
-unfoldable pub answerFor : ℕ → List ℕ → List ℕ → Logged
-answerFor link line log = record {
+-- the first number that applies, and how many bytes are written
+unfoldable pub loggedAnswer : ℕ → List ℕ → List ℕ → Logged
+loggedAnswer link line log = record {
   number = firstOf (logRules link line log);
   size = length (emitted (logRules link line log) (recordOf link line));
 }
-
--- the answer of a refusal, for a private contract
-abbrev pub refusedBy : ℕ → Logged
-refusedBy k = record { number = k; size = 0 }

@@ -3,7 +3,8 @@
 ghost use mathlib.Core.Path.{_≡_};
 ghost use Rattle.refusal.specs.Rules.{emitted};
 ghost use Rattle.octets.specs.Room.{front};
-ghost use Rattle.journal.specs.Journal.{logRules, recordOf, answerFor, refusedBy};
+ghost use Rattle.journal.specs.Journal.{logRules, recordOf, loggedAnswer};
+ghost use Rattle.journal.specs.Private.Refusal.{refusedBy};
 use links::Links;
 use message::LINE_LIMIT;
 use octets::put;
@@ -31,7 +32,7 @@ fn refused(number: u8) -> Logged
 
 // Writes the record of a line, received by a link, to the front of the log.
 pub fn write_record(link: u32, line: &[u8], log: &mut [u8]) -> Logged
-    ensures answer { λ r. ⌜ r ≡ answerFor link (now (line .entry)) (now (log .entry)) ⌝ }
+    ensures answer { λ r. ⌜ r ≡ loggedAnswer link (now (line .entry)) (now (log .entry)) ⌝ }
     ensures log { λ _. ⌜ now (log .exit) ≡ front (emitted (logRules link (now (line .entry)) (now (log .entry))) (recordOf link (now (line .entry)))) (now (log .entry)) ⌝ }
 {
     let n = line.len();

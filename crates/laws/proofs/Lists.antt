@@ -2,13 +2,13 @@
 use mathlib.Core.Path.{_≡_, refl, sym, ap, _∙_}
 use mathlib.Core.Bool.{Bool, true, false, true≢false, _&&_}
 use mathlib.Core.List.{List, [], _∷_, _++_, map}
-use Prim.Native.Nat.{ℕ, zero, suc, _+_, _-_, _≤_, _<_}
+use Prim.Native.Nat.{ℕ, zero, suc, _+_, _-_, _≤_, _<_, min}
 use native.Mathlib.Numerals.{add-one}
 use native.Mathlib.Omega.{arith}
 use lib.ListN.{length, take, drop, getD, set, replicate, drop-of-length-le, length-append, length-take, length-drop, length-map, length-replicate, getD-replicate, List·getD-map, List·getD-eq-default}
-use lib.Seq.{take-suc, drop-cons, take-append-le, drop-append-le, take-append-seam, length-take-le, take-take, getD-take, getD-drop, ext-getD, sets}
-use lib.Dec.{eqb, ltb}
-use borrow.Author.Tests.{ne-eqb, ltb-true, ltb-false}
+use lib.Seq.{take-suc, take-all, drop-cons, take-append-le, drop-append-le, take-append-seam, length-take-le, take-take, getD-take, getD-drop, ext-getD, sets}
+use lib.Dec.{eqb, leb, ltb}
+use borrow.Author.Tests.{ne-eqb, leb-true, leb-false, ltb-true, ltb-false}
 use Rattle.laws.specs.Lists.{all, isNil, sameBy, padded}
 use Rattle.laws.proofs.Bools.{and-left, and-right, and-intro}
 
@@ -41,6 +41,18 @@ module _ {A : Type 0} where
   pub front-part : (f g : List A) (j k : ℕ) → j + k ≤ length f → take k (drop j (f ++ g)) ≡ take k (drop j f)
   front-part f g j k h = rw (drop-append-le j f g (omega arith)) (take-append-le k (drop j f) g (omega (arith, length-drop j f)))
 
+  -- the first n of a list, at a place
+  pub front-step : (l : List A) (n i : ℕ) (d : A) → i < n → n ≤ length l → drop i (take n l) ≡ getD l i d ∷ drop (i + 1) (take n l)
+  front-step l n i d h k = drop-step (take n l) i d (omega (arith, length-take-le n l k)) ∙ ap (λ (x : A). x ∷ drop (i + 1) (take n l)) (getD-take n l i d h)
+
+  -- no more are the first n than there are
+  pub take-within : (l : List A) (n i : ℕ) → i ≡ min n (length l) → take i l ≡ take n l
+  take-within l n i e = go (leb n (length l)) refl
+    where
+      go : (t : Bool) → leb n (length l) ≡ t → take i l ≡ take n l
+      go true h = let q : i ≡ n = omega (arith, leb-true n (length l) h) in rw q
+      go false h = rw (take-all n l (omega (arith, leb-false n (length l) h))) (take-all i l (omega (arith, leb-false n (length l) h)))
+
 -- ---- an empty list
 pub nil-length : {A : Type 0} (l : List A) → isNil l ≡ eqb (length l) 0
 nil-length [] = refl
@@ -54,6 +66,11 @@ nil-map f (x ∷ l) = refl
 -- the length of an array of structs, which a value's own facts give under a map
 pub unmapped : {X Y : Type 0} (f : X → Y) (l : List X) (n : ℕ) → length (map f l) ≡ n → length l ≡ n
 unmapped f l n e = sym (length-map l f) ∙ e
+
+-- a list is mapped once by what changes nothing the second time
+pub map-twice : {A : Type 0} (f : A → A) → ((x : A) → f (f x) ≡ f x) → (l : List A) → map f (map f l) ≡ map f l
+map-twice f h [] = refl
+map-twice f h (x ∷ l) = rw (h x, map-twice f h l)
 
 -- ---- every element, at a place
 module _ {A : Type 0} (p : A → Bool) (s : List A) (i : ℕ) where
@@ -164,6 +181,58 @@ module _ {A : Type 0} (t : A → A → Bool) where
   sameBy-true f [] (y ∷ m) e = absurd (true≢false (sym e))
   sameBy-true f (x ∷ l) [] e = absurd (true≢false (sym e))
   sameBy-true f (x ∷ l) (y ∷ m) e = rw (f x y (and-left (t x y) (sameBy t l m) e), sameBy-true f l m (and-right (t x y) (sameBy t l m) e))
+
+-- ---- equal lists, by any test of two elements
+module _ {A : Type 0} (t : A → A → Bool) where
+  -- they are equally long
+  pub sameBy-lengths : (l m : List A) → sameBy t l m ≡ true → length l ≡ length m
+  unfolding sameBy
+  sameBy-lengths [] [] e = refl
+  sameBy-lengths [] (y ∷ m) e = absurd (true≢false (sym e))
+  sameBy-lengths (x ∷ l) [] e = absurd (true≢false (sym e))
+  sameBy-lengths (x ∷ l) (y ∷ m) e = ap suc (sameBy-lengths l m (and-right (t x y) (sameBy t l m) e))
+
+  -- lists of other lengths are other lists
+  pub sameBy-differ : (l m : List A) → (length l ≡ length m → ⊥) → sameBy t l m ≡ false
+  sameBy-differ l m ne = go (sameBy t l m) refl
+    where
+      go : (u : Bool) → sameBy t l m ≡ u → sameBy t l m ≡ false
+      go true e = absurd (ne (sameBy-lengths l m e))
+      go false e = e
+
+  -- a map of the first list is a part of the test
+  pub sameBy-map-left : (f : A → A) (l m : List A) → sameBy t (map f l) m ≡ sameBy (λ x y. t (f x) y) l m
+  unfolding sameBy
+  sameBy-map-left f [] [] = refl
+  sameBy-map-left f [] (y ∷ m) = refl
+  sameBy-map-left f (x ∷ l) [] = refl
+  sameBy-map-left f (x ∷ l) (y ∷ m) = ap (λ (u : Bool). t (f x) y && u) (sameBy-map-left f l m)
+
+  -- and so is one of the second
+  pub sameBy-map-right : (f : A → A) (l m : List A) → sameBy t l (map f m) ≡ sameBy (λ x y. t x (f y)) l m
+  unfolding sameBy
+  sameBy-map-right f [] [] = refl
+  sameBy-map-right f [] (y ∷ m) = refl
+  sameBy-map-right f (x ∷ l) [] = refl
+  sameBy-map-right f (x ∷ l) (y ∷ m) = ap (λ (u : Bool). t x (f y) && u) (sameBy-map-right f l m)
+
+  -- at a place of both
+  module _ (l m : List A) (i : ℕ) where
+    -- past both there is nothing that could differ
+    pub sameBy-past : length l ≤ i → length m ≤ i → sameBy t (drop i l) (drop i m) ≡ true
+    unfolding sameBy
+    sameBy-past h k = rw (drop-of-length-le l h, drop-of-length-le m k)
+
+    module _ (d : A) (h : i < length l) (k : i < length m) where
+      -- elements that differ decide
+      pub sameBy-stop : t (getD l i d) (getD m i d) ≡ false → sameBy t (drop i l) (drop i m) ≡ false
+      unfolding sameBy
+      sameBy-stop e = rw (drop-step l i d h, drop-step m i d k, e)
+
+      -- behind elements that are the same the others decide
+      pub sameBy-go : t (getD l i d) (getD m i d) ≡ true → sameBy t (drop i l) (drop i m) ≡ sameBy t (drop (i + 1) l) (drop (i + 1) m)
+      unfolding sameBy
+      sameBy-go e = rw (drop-step l i d h, drop-step m i d k, e)
 
 -- ---- the first of a mapped list
 pub take-map : {A B : Type 0} (f : A → B) (n : ℕ) (l : List A) → take n (map f l) ≡ map f (take n l)

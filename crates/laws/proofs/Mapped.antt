@@ -1,6 +1,6 @@
 -- A list of which the first i elements are mapped, the rest as they were: one more is mapped by setting it, and in the end all are. Assumes nothing.
 use mathlib.Core.Path.{_≡_, refl, sym, ap, _∙_}
-use mathlib.Core.List.{List, [], _∷_, _++_, map, append-nil}
+use mathlib.Core.List.{List, [], _∷_, _++_, map, map-append, append-nil}
 use Prim.Native.Nat.{ℕ, _+_, _≤_, _<_}
 use native.Mathlib.Numerals.{add-one}
 use native.Mathlib.Omega.{arith}
@@ -20,16 +20,12 @@ module _ {A : Type 0} (f : A → A) where
   unfolding mapped
   mapped-all l i h = rw (take-all i l h, drop-of-length-le l {i = i} h) (append-nil (map f l))
 
-  map-snoc : (l : List A) (x : A) → map f (l ++ (x ∷ [])) ≡ map f l ++ (f x ∷ [])
-  map-snoc [] x = refl
-  map-snoc (y ∷ l) x = ap (λ (m : List A). f y ∷ m) (map-snoc l x)
-
   module _ (l : List A) (i : ℕ) (d : A) (h : i < length l) where
     front-length : length (map f (take i l)) ≡ i
     front-length = length-map (take i l) f ∙ length-take-le i l (omega arith)
 
     front-next : map f (take (i + 1) l) ≡ map f (take i l) ++ (f (getD l i d) ∷ [])
-    front-next = rw (add-one i, take-suc l i d h) (map-snoc (take i l) (getD l i d))
+    front-next = rw (add-one i, take-suc l i d h) (map-append f (take i l) (getD l i d ∷ []))
 
     pub mapped-step : set (mapped l i) i (f (getD l i d)) ≡ mapped l (i + 1)
     unfolding mapped

@@ -13,7 +13,7 @@ use Rattle.message.specs.declared.Span.{Span}
 use Rattle.message.specs.declared.Message.{Message}
 use Rattle.message.specs.Grammar.{Part, paramLimit, word, spaces, rest, hasPrefix, prefix, prefixEnd, commandStart, commandEnd, command, params}
 use Rattle.message.specs.Parts.{span, emptyAt, spanOf, messageIn}
-use Rattle.message.specs.Scan.{opened, withParam, withParams, fromCommand}
+use Rattle.message.specs.Private.Scan.{opened, withParam, withParams, fromCommand}
 
 abbrev message : Bool → Span → Span → ℕ → List Span → Message
 message has before named n spans = record { «has_prefix» = has; prefix = before; command = named; count = n; params = spans }

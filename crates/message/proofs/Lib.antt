@@ -2,11 +2,11 @@
 pub mod Runs
 pub mod Relation
 pub mod Places
-pub mod Gathered
 pub mod Readings
-pub mod Held
-pub mod Examples
+pub mod SpanContents
 pub mod Splits
 pub mod Sizes
 pub mod Words
 pub mod Prefixes
+mod Gathered
+mod Examples

@@ -25,7 +25,7 @@ use Rattle.message.specs.Grammar.{Part, lineLimit, paramLimit, hasPrefix
 use Rattle.message.specs.Content.{bytesOf, contentIn}
 use Rattle.message.specs.Parts.{emptyAt, messageIn, blank}
 use Rattle.message.specs.Reading.{endsLine, bodyOf, bodyRules, grammarRules, lineRules, numberFor, isRead, numberOf, countOf, answer, readingOf, contentOf, messageOf, parsedOf}
-use Rattle.message.specs.Scan.{unread, bodyParsed}
+use Rattle.message.specs.Private.Scan.{unread, bodyParsed}
 use Rattle.message.proofs.Places.{Placed, empty-placed, command-placed, prefix-in-line, command-in-line, param-in-line}
 
 -- The rules stand in the order of their numbers: the first in it that applies is given.

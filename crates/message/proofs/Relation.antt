@@ -11,6 +11,7 @@ use borrow.Author.Tests.{eqb-true, not-true}
 use Rattle.octets.specs.Bytes.{space, colon, isNonSpace}
 use Rattle.laws.specs.Lists.{all}
 use Rattle.laws.proofs.Bools.{and-left, and-right}
+use Rattle.laws.proofs.Lists.{all-cons, all-append}
 use Rattle.message.specs.Grammar.{Part, partAt, word, isMiddle, rest, afterMiddle, commandStart, command, commandEnd, params}
 use Rattle.message.specs.Content.{bytesOf}
 use Rattle.message.specs.Syntax.{Spaces, Rest, Middle, Parameters}
@@ -18,16 +19,18 @@ use Rattle.message.specs.Syntax.Spaces.{one, more}
 use Rattle.message.specs.Syntax.Rest.{nothing, trailing, middle}
 use Rattle.message.specs.Syntax.Middle.{ends, followed}
 use Rattle.message.specs.Syntax.Parameters.{absent, follow}
+use Rattle.message.proofs.Words.{word-append}
 
 -- t is empty or begins with a SPACE
 abbrev pub Stops : List ℕ → Type 0
 Stops [] = Unit {0}
 Stops (b ∷ s) = b ≡ space
 
-word-stop : (t : List ℕ) → Stops t → word t ≡ []
+-- no word begins there
+pub stops-word : (t : List ℕ) → Stops t → word t ≡ []
 unfolding word
-word-stop [] h = refl
-word-stop (b ∷ s) h = rw h
+stops-word [] h = refl
+stops-word (b ∷ s) h = rw h
 
 pub middle-stop : (t : List ℕ) → Stops t → (k at : ℕ) → afterMiddle k at t ≡ rest k at t
 unfolding rest
@@ -35,13 +38,6 @@ middle-stop [] h k at = refl
 middle-stop (b ∷ s) h k at = rw h
 
 module _ (t : List ℕ) (stops : Stops t) where
-  pub word-append : (w : List ℕ) → all isNonSpace w ≡ true → word (w ++ t) ≡ w
-  unfolding all word
-  word-append [] h = word-stop t stops
-  word-append (b ∷ w) h =
-      let e : eqb b space ≡ false = not-true (eqb b space) (and-left (isNonSpace b) (all isNonSpace w) h) in
-      rw e (ap (λ (l : List ℕ). b ∷ l) (word-append w (and-right (isNonSpace b) (all isNonSpace w) h)))
-
   pub middle-append : (w : List ℕ) → all isNonSpace w ≡ true → (k at : ℕ) → afterMiddle k at (w ++ t) ≡ rest k (at + length w) t
   unfolding all rest
   middle-append [] h k at = middle-stop t stops k at ∙ ap (λ (n : ℕ). rest k n t) (omega arith)
@@ -76,7 +72,7 @@ middle-read t stops (b ∷ w) h k at =
     let c : eqb b colon ≡ false = not-true (eqb b colon) (and-left (not (eqb b colon)) (isNonSpace b && all isNonSpace w) h) in
     let e : eqb b space ≡ false = not-true (eqb b space) (and-left (isNonSpace b) (all isNonSpace w) a) in
     let n : all isNonSpace w ≡ true = and-right (isNonSpace b) (all isNonSpace w) a in
-    rw (e, c, word-append t stops w n) (ap (λ (l : List Part). partAt at (b ∷ w) ∷ l) (middle-append t stops w n (k + 1) (at + 1) ∙ ap (λ (i : ℕ). rest (k + 1) i t) (omega arith)))
+    rw (e, c, word-append w t n (stops-word t stops)) (ap (λ (l : List Part). partAt at (b ∷ w) ∷ l) (middle-append t stops w n (k + 1) (at + 1) ∙ ap (λ (i : ℕ). rest (k + 1) i t) (omega arith)))
 
 mutual
   unfolding rest
@@ -95,15 +91,10 @@ spaces-more : {r : List ℕ} → Spaces r → Spaces (r ++ (space ∷ []))
 spaces-more one = more one
 spaces-more (more p) = more (spaces-more p)
 
-all-more : (w : List ℕ) (b : ℕ) → all isNonSpace w ≡ true → isNonSpace b ≡ true → all isNonSpace (w ++ (b ∷ [])) ≡ true
-unfolding all
-all-more [] b h e = rw e
-all-more (x ∷ w) b h e = rw (and-left (isNonSpace x) (all isNonSpace w) h) (all-more w b (and-right (isNonSpace x) (all isNonSpace w) h) e)
-
 middle-more : (w : List ℕ) (b : ℕ) → isMiddle w ≡ true → isNonSpace b ≡ true → isMiddle (w ++ (b ∷ [])) ≡ true
-unfolding isMiddle
+unfolding isMiddle all
 middle-more [] b h e = absurd (true≢false (sym h))
-middle-more (x ∷ w) b h e = rw (and-left (not (eqb x colon)) (all isNonSpace (x ∷ w)) h) (all-more (x ∷ w) b (and-right (not (eqb x colon)) (all isNonSpace (x ∷ w)) h) e)
+middle-more (x ∷ w) b h e = rw (and-left (not (eqb x colon)) (all isNonSpace (x ∷ w)) h) (all-append isNonSpace (x ∷ w) (b ∷ []) (and-right (not (eqb x colon)) (all isNonSpace (x ∷ w)) h) (all-cons isNonSpace b [] e refl))
 
 rest-step : (x : ℕ) (s r : List ℕ) → Spaces r → (k at : ℕ) → Rest (r ++ (space ∷ []) ++ s) (bytesOf (rest k (at + 1) s))
     → (isMiddle (x ∷ []) ≡ true → Middle (x ∷ s) ((x ∷ word s) ∷ bytesOf (afterMiddle (k + 1) (at + 1) s))) → Rest (r ++ (x ∷ s)) (bytesOf (rest k at (x ∷ s)))

@@ -1,45 +1,53 @@
 -- Laws of the scan: what stands at `drop i s` by the byte at i, where runs of bytes stop, and what the two rules make of it. Assumes nothing.
 use mathlib.Core.Path.{_≡_, refl, sym, ap, _∙_}
-use mathlib.Core.Bool.{Bool, true, false}
+use mathlib.Core.Bool.{Bool, true, false, cond}
 use mathlib.Core.List.{List, [], _∷_, _++_}
 use Prim.Native.Nat.{ℕ, suc, _+_, _≤_, _<_}
 use native.Mathlib.Omega.{arith}
-use lib.ListN.{length, take, drop, getD, drop-of-length-le, length-drop}
-use lib.Seq.{take-append-seam, drop-drop, getD-drop}
+use lib.ListN.{length, take, drop, getD, drop-of-length-le, length-drop, take-append-drop}
+use lib.Seq.{drop-drop, getD-drop}
 use lib.Dec.{eqb}
 use borrow.Author.Tests.{eq-eqb, ne-eqb, eqb-true, eqb-false}
 use Rattle.octets.specs.Bytes.{space, colon}
+use Rattle.octets.specs.Search.{before}
+use Rattle.octets.proofs.Search.{before-past, before-stop, before-go, before-front, before-within}
 use Rattle.laws.proofs.Lists.{drop-step}
 use Rattle.message.specs.declared.Message.{Message}
 use Rattle.message.specs.Grammar.{partAt, word, spaces, rest, afterMiddle}
 use Rattle.message.specs.Parts.{span}
-use Rattle.message.specs.Scan.{withParam, withParams}
+use Rattle.message.specs.Private.Scan.{withParam, withParams}
 
--- ---- word
+-- ---- a word is what stands before the first SPACE
+-- the two are the same function
+pub word-before : (s : List ℕ) → word s ≡ before space s
+unfolding word before
+word-before [] = refl
+word-before (b ∷ s) = ap (λ (l : List ℕ). cond (eqb b space) [] (b ∷ l)) (word-before s)
+
+-- at the end there is no word
 pub word-past : (s : List ℕ) (i : ℕ) → length s ≤ i → length (word (drop i s)) ≡ 0
-unfolding word
-word-past s i h = rw (drop-of-length-le s h)
+word-past s i h = rw (word-before (drop i s)) (before-past space s i h)
 
+-- nor is there one at a SPACE
 pub word-stop : (s : List ℕ) (i : ℕ) → i < length s → getD s i 0 ≡ space → length (word (drop i s)) ≡ 0
-unfolding word
-word-stop s i h e = rw (drop-step s i 0 h, eq-eqb _ space e)
+word-stop s i h e = rw (word-before (drop i s)) (before-stop space s i h e)
 
+-- any other byte is one more of it
 pub word-go : (s : List ℕ) (i : ℕ) → i < length s → (getD s i 0 ≡ space → ⊥) → length (word (drop i s)) ≡ suc (length (word (drop (i + 1) s)))
-unfolding word
-word-go s i h e = rw (drop-step s i 0 h, ne-eqb _ space e)
+word-go s i h e = rw (word-before (drop i s), word-before (drop (i + 1) s)) (before-go space s i h e)
 
 -- ---- a word is the front of what it stands in
-pub word-split : (s : List ℕ) → s ≡ word s ++ drop (length (word s)) s
-unfolding word
-word-split [] = refl
-word-split (b ∷ s) = go (eqb b space) refl (word-split s)
-  where
-    go : (t : Bool) → eqb b space ≡ t → s ≡ word s ++ drop (length (word s)) s → b ∷ s ≡ word (b ∷ s) ++ drop (length (word (b ∷ s))) (b ∷ s)
-    go true e ih = rw e
-    go false e ih = rw e (ap (λ (l : List ℕ). b ∷ l) ih)
-
+-- it stands first
 pub word-front : (s : List ℕ) → take (length (word s)) s ≡ word s
-word-front s = ap (λ (l : List ℕ). take (length (word s)) l) (word-split s) ∙ take-append-seam (word s) (drop (length (word s)) s)
+word-front s = rw (word-before s) (before-front space s)
+
+-- and the others follow
+pub word-split : (s : List ℕ) → s ≡ word s ++ drop (length (word s)) s
+word-split s = sym (take-append-drop (length (word s)) s) ∙ ap (λ (l : List ℕ). l ++ drop (length (word s)) s) (word-front s)
+
+-- it is no longer
+pub word-in : (s : List ℕ) → length (word s) ≤ length s
+word-in s = rw (word-before s) (before-within space s)
 
 -- ---- spaces
 pub spaces-past : (s : List ℕ) (i : ℕ) → length s ≤ i → spaces (drop i s) ≡ 0
@@ -72,15 +80,6 @@ spaces-stops (b ∷ s) = go (eqb b space) refl (spaces-stops s)
     go : (t : Bool) → eqb b space ≡ t → (spaces s < length s → getD s (spaces s) 0 ≡ space → ⊥) → spaces (b ∷ s) < suc (length s) → getD (b ∷ s) (spaces (b ∷ s)) 0 ≡ space → ⊥
     go true e ih = rw e (λ h. ih (omega arith))
     go false e ih = rw e (λ h. eqb-false b space e)
-
-pub word-in : (s : List ℕ) → length (word s) ≤ length s
-unfolding word
-word-in [] = omega arith
-word-in (b ∷ s) = go (eqb b space) refl (word-in s)
-  where
-    go : (t : Bool) → eqb b space ≡ t → length (word s) ≤ length s → length (word (b ∷ s)) ≤ suc (length s)
-    go true e ih = rw e (omega arith)
-    go false e ih = rw e (omega arith)
 
 word-stops : (s : List ℕ) → length (word s) < length s → getD s (length (word s)) 0 ≡ space
 unfolding word

@@ -17,10 +17,11 @@ use Rattle.message.specs.Content.{bytesOf}
 use Rattle.message.specs.Words.{wordsAt, afterWord, wordsOf}
 
 -- ---- bytes without SPACE
-word-solid : (w t : List ℕ) → all isNonSpace w ≡ true → word t ≡ [] → word (w ++ t) ≡ w
+-- they are the word, where none begins behind them
+pub word-append : (w t : List ℕ) → all isNonSpace w ≡ true → word t ≡ [] → word (w ++ t) ≡ w
 unfolding word
-word-solid [] t h e = e
-word-solid (b ∷ w) t h e = rw (not-true (eqb b space) (all-head isNonSpace b w h)) (ap (λ (l : List ℕ). b ∷ l) (word-solid w t (all-tail isNonSpace b w h) e))
+word-append [] t h e = e
+word-append (b ∷ w) t h e = rw (not-true (eqb b space) (all-head isNonSpace b w h)) (ap (λ (l : List ℕ). b ∷ l) (word-append w t (all-tail isNonSpace b w h) e))
 
 after-solid : (w t : List ℕ) (at : ℕ) → all isNonSpace w ≡ true → afterWord at (w ++ t) ≡ afterWord (at + length w) t
 unfolding wordsAt
@@ -34,7 +35,7 @@ unfolding wordsAt
 first-word [] t at n h e = absurd (true≢false n)
 first-word (b ∷ w) t at n h e =
     rw (not-true (eqb b space) (all-head isNonSpace b w h))
-    (ap₂ (λ (x : List ℕ) (y : List Part). (b ∷ x) ∷ bytesOf y) (word-solid w t (all-tail isNonSpace b w h) e) (after-solid w t (at + 1) (all-tail isNonSpace b w h) ∙ ap (λ (n : ℕ). afterWord n t) (omega arith)))
+    (ap₂ (λ (x : List ℕ) (y : List Part). (b ∷ x) ∷ bytesOf y) (word-append w t (all-tail isNonSpace b w h) e) (after-solid w t (at + 1) (all-tail isNonSpace b w h) ∙ ap (λ (n : ℕ). afterWord n t) (omega arith)))
 
 -- ---- words with one SPACE between them
 -- it is there and holds no SPACE

@@ -4,4 +4,4 @@ pub mod Content
 pub mod Parts
 pub mod Reading
 pub mod Words
-pub mod Scan
+pub mod Private

@@ -16,7 +16,7 @@ ghost use Rattle.message.specs.Grammar.{lineLimit, isCommand};
 ghost use Rattle.message.specs.Parts.{emptyAt};
 ghost use Rattle.message.specs.Reading.{endsLine, numberOf, countOf, numberFor, readingOf, contentOf, messageOf, parsedOf};
 ghost use Rattle.message.specs.Words.{nextWord};
-ghost use Rattle.message.specs.Scan.{unread as unreadOf, bodyParsed};
+ghost use Rattle.message.specs.Private.Scan.{unread as unreadOf, bodyParsed};
 use octets::Class;
 use octets::all_in;
 use octets::part;

@@ -4,7 +4,7 @@ ghost use Prim.Native.Nat.{_+_, _≤_, _<_};
 ghost use lib.ListN.{length, drop};
 ghost use Rattle.message.specs.Grammar.{lineLimit, word, spaces, hasPrefix, rest as restOf, afterMiddle};
 ghost use Rattle.message.specs.Parts.{span, blank as blankOf, messageIn};
-ghost use Rattle.message.specs.Scan.{opened as openedOf, withParam, withParams, fromCommand};
+ghost use Rattle.message.specs.Private.Scan.{opened as openedOf, withParam, withParams, fromCommand};
 use crate::Message;
 use crate::PARAM_LIMIT;
 use crate::Span;

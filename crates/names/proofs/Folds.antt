@@ -1,17 +1,18 @@
 -- Laws of the fold and of equal names. Only this file, the proof of `fold`, and examples that are computed open the
 -- fold's definition. Assumes nothing.
 use mathlib.Core.Path.{_≡_, refl, sym, ap, _∙_}
-use mathlib.Core.Bool.{Bool, true, false, _&&_}
+use mathlib.Core.Bool.{Bool, true, false}
 use mathlib.Core.Logic.{_⊎_, inl, inr}
-use mathlib.Core.List.{List, [], _∷_, map}
+use mathlib.Core.List.{List, map}
 use Prim.Native.Nat.{ℕ, _+_, _≤_, _<_}
 use native.Mathlib.Omega.{arith}
-use lib.ListN.{length, drop, getD, length-map, drop-of-length-le}
+use lib.ListN.{length, drop, getD, length-map}
 use lib.Dec.{eqb}
 use borrow.Author.Tests.{eq-eqb, ne-eqb}
 use Rattle.octets.specs.Bytes.{within}
 use Rattle.octets.proofs.Bytes.{within-bounds, below-within, above-within, same-refl, same-true}
-use Rattle.laws.proofs.Lists.{drop-step, sameBy-cons}
+use Rattle.laws.specs.Lists.{sameBy}
+use Rattle.laws.proofs.Lists.{map-twice, sameBy-lengths, sameBy-differ, sameBy-map-left, sameBy-map-right, sameBy-past, sameBy-stop, sameBy-go}
 use Rattle.names.specs.Fold.{fold, sameName}
 use Rattle.names.specs.Names.{hash}
 
@@ -53,12 +54,13 @@ hash-fold b e = go (folded b)
     go (inr f) = sym f ∙ e
 
 -- ---- whole names
+-- the fold keeps the length
 pub length-folds : (a : List ℕ) → length (map fold a) ≡ length a
 length-folds a = length-map a fold
 
+-- a folded name is its own fold
 pub folds-idempotent : (a : List ℕ) → map fold (map fold a) ≡ map fold a
-folds-idempotent [] = refl
-folds-idempotent (x ∷ a) = rw (fold-idempotent x, folds-idempotent a)
+folds-idempotent a = map-twice fold fold-idempotent a
 
 -- names are equal exactly if their folds are
 module _ (a b : List ℕ) where
@@ -70,9 +72,6 @@ module _ (a b : List ℕ) where
   unfolding sameName
   folds-name e = rw e (same-refl (map fold b))
 
-  pub name-lengths : sameName a b ≡ true → length a ≡ length b
-  name-lengths e = sym (length-folds a) ∙ ap (λ (l : List ℕ). length l) (name-folds e) ∙ length-folds b
-
 pub name-refl : (a : List ℕ) → sameName a a ≡ true
 name-refl a = folds-name a a refl
 
@@ -83,28 +82,33 @@ pub name-trans : (a b c : List ℕ) → sameName a b ≡ true → sameName b c �
 name-trans a b c e f = folds-name a c (name-folds a b e ∙ name-folds b c f)
 
 -- ---- byte by byte
-pub name-cons : (x y : ℕ) (s t : List ℕ) → sameName (x ∷ s) (y ∷ t) ≡ eqb (fold x) (fold y) && sameName s t
+abbrev sameByte : ℕ → ℕ → Bool
+sameByte x y = eqb (fold x) (fold y)
+
+name-bytes : (a b : List ℕ) → sameName a b ≡ sameBy sameByte a b
 unfolding sameName
-name-cons x y s t = sameBy-cons eqb (fold x) (fold y) (map fold s) (map fold t)
+name-bytes a b = sameBy-map-left eqb fold a (map fold b) ∙ sameBy-map-right (λ x y. eqb (fold x) y) fold a b
+
+-- equal names are equally long
+module _ (a b : List ℕ) where
+  pub name-lengths : sameName a b ≡ true → length a ≡ length b
+  name-lengths e = sameBy-lengths sameByte a b (sym (name-bytes a b) ∙ e)
+
+  -- names of other lengths are other names
+  pub lengths-differ : (length a ≡ length b → ⊥) → sameName a b ≡ false
+  lengths-differ ne = name-bytes a b ∙ sameBy-differ sameByte a b ne
 
 -- at a place of both
 module _ (a b : List ℕ) (i : ℕ) where
   module _ (h : i < length a) (k : i < length b) where
-    name-step : sameName (drop i a) (drop i b) ≡ eqb (fold (getD a i 0)) (fold (getD b i 0)) && sameName (drop (i + 1) a) (drop (i + 1) b)
-    name-step = rw (drop-step a i 0 h, drop-step b i 0 k) (name-cons (getD a i 0) (getD b i 0) (drop (i + 1) a) (drop (i + 1) b))
-
+    -- other bytes make other names
     pub name-stop : (fold (getD a i 0) ≡ fold (getD b i 0) → ⊥) → sameName (drop i a) (drop i b) ≡ false
-    name-stop ne = name-step ∙ rw (ne-eqb _ _ ne)
+    name-stop ne = name-bytes (drop i a) (drop i b) ∙ sameBy-stop sameByte a b i 0 h k (ne-eqb _ _ ne)
 
+    -- behind equal bytes the others decide
     pub name-go : fold (getD a i 0) ≡ fold (getD b i 0) → sameName (drop i a) (drop i b) ≡ sameName (drop (i + 1) a) (drop (i + 1) b)
-    name-go e = name-step ∙ rw (eq-eqb _ _ e)
+    name-go e = name-bytes (drop i a) (drop i b) ∙ sameBy-go sameByte a b i 0 h k (eq-eqb _ _ e) ∙ sym (name-bytes (drop (i + 1) a) (drop (i + 1) b))
 
+  -- past both there is nothing that could differ
   pub name-past : length a ≤ i → length b ≤ i → sameName (drop i a) (drop i b) ≡ true
-  name-past h k = rw (drop-of-length-le a h, drop-of-length-le b k) (name-refl [])
-
-pub lengths-differ : (a b : List ℕ) → (length a ≡ length b → ⊥) → sameName a b ≡ false
-lengths-differ a b ne = go (sameName a b) refl
-  where
-    go : (t : Bool) → sameName a b ≡ t → sameName a b ≡ false
-    go true e = absurd (ne (name-lengths a b e))
-    go false e = e
+  name-past h k = name-bytes (drop i a) (drop i b) ∙ sameBy-past sameByte a b i h k

@@ -3,4 +3,4 @@ pub mod Folds
 pub mod Channels
 pub mod UserIds
 mod Places
-pub mod Examples
+mod Examples

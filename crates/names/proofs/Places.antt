@@ -1,19 +1,18 @@
--- Two byte lists at a place: which is smaller, and whether they are the same. Assumes nothing.
+-- Two byte lists at a place: which is smaller. Assumes nothing.
 use Prim.Native.Nat.{ℕ, _+_, _≤_, _<_}
-use mathlib.Core.Path.{_≡_, refl}
-use mathlib.Core.Bool.{true, false, cond}
+use mathlib.Core.Path.{_≡_}
+use mathlib.Core.Bool.{false, cond}
 use mathlib.Core.Logic.{_⊎_, inl, inr}
 use mathlib.Core.List.{List, [], _∷_}
 use native.Mathlib.Omega.{arith}
 use lib.ListN.{length, drop, getD, drop-of-length-le}
 use lib.Dec.{eqb, ltb}
 use borrow.Author.Tests.{eq-eqb, ne-eqb, lt-ltb, le-ltb}
-use Rattle.laws.specs.Lists.{same, sameBy}
 use Rattle.octets.specs.Order.{compare, isLess}
 use Rattle.laws.proofs.Lists.{drop-step}
 use Rattle.octets.proofs.Ordered.{heads-same, heads-less, heads-more, trichotomy, compare-refl}
 
-pub less-heads : (x y : ℕ) (s t : List ℕ) → isLess (compare (x ∷ s) (y ∷ t)) ≡ cond (eqb x y) (isLess (compare s t)) (ltb x y)
+less-heads : (x y : ℕ) (s t : List ℕ) → isLess (compare (x ∷ s) (y ∷ t)) ≡ cond (eqb x y) (isLess (compare s t)) (ltb x y)
 less-heads x y s t = go (trichotomy x y)
   where
     go : (x < y) ⊎ ((x ≡ y) ⊎ (y < x)) → isLess (compare (x ∷ s) (y ∷ t)) ≡ cond (eqb x y) (isLess (compare s t)) (ltb x y)
@@ -22,22 +21,10 @@ less-heads x y s t = go (trichotomy x y)
     go (inr (inr h)) = rw (heads-more x y s t h, ne-eqb x y (λ e. omega arith), le-ltb x y (omega arith))
 
 module _ (a b : List ℕ) (i : ℕ) where
-  module _ (h : i < length a) (k : i < length b) where
-    pub less-at : isLess (compare (drop i a) (drop i b)) ≡ cond (eqb (getD a i 0) (getD b i 0)) (isLess (compare (drop (i + 1) a) (drop (i + 1) b))) (ltb (getD a i 0) (getD b i 0))
-    less-at = rw (drop-step a i 0 h, drop-step b i 0 k) (less-heads (getD a i 0) (getD b i 0) (drop (i + 1) a) (drop (i + 1) b))
+  -- equal bytes leave it to those behind them
+  pub less-at : i < length a → i < length b → isLess (compare (drop i a) (drop i b)) ≡ cond (eqb (getD a i 0) (getD b i 0)) (isLess (compare (drop (i + 1) a) (drop (i + 1) b))) (ltb (getD a i 0) (getD b i 0))
+  less-at h k = rw (drop-step a i 0 h, drop-step b i 0 k) (less-heads (getD a i 0) (getD b i 0) (drop (i + 1) a) (drop (i + 1) b))
 
-    pub same-go : getD a i 0 ≡ getD b i 0 → same (drop i a) (drop i b) ≡ same (drop (i + 1) a) (drop (i + 1) b)
-    unfolding sameBy
-    same-go e = rw (drop-step a i 0 h, drop-step b i 0 k, eq-eqb (getD a i 0) (getD b i 0) e)
-
-    pub same-stop : (getD a i 0 ≡ getD b i 0 → ⊥) → same (drop i a) (drop i b) ≡ false
-    unfolding sameBy
-    same-stop n = rw (drop-step a i 0 h, drop-step b i 0 k, ne-eqb (getD a i 0) (getD b i 0) n)
-
-  module _ (h : length a ≤ i) (k : length b ≤ i) where
-    pub less-past : isLess (compare (drop i a) (drop i b)) ≡ false
-    less-past = rw (drop-of-length-le a h, drop-of-length-le b k, compare-refl [])
-
-    pub same-past : same (drop i a) (drop i b) ≡ true
-    unfolding sameBy
-    same-past = rw (drop-of-length-le a h, drop-of-length-le b k)
+  -- past both neither is smaller
+  pub less-past : length a ≤ i → length b ≤ i → isLess (compare (drop i a) (drop i b)) ≡ false
+  less-past h k = rw (drop-of-length-le a h, drop-of-length-le b k, compare-refl [])

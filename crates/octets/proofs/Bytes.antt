@@ -1,7 +1,7 @@
 -- Laws of byte classes, of equal byte lists, and of capital letters. Assumes nothing.
 use mathlib.Core.Path.{_≡_, refl}
 use mathlib.Core.Bool.{Bool, true, false, and-false}
-use mathlib.Core.List.{List, [], _∷_, map}
+use mathlib.Core.List.{List, map}
 use Prim.Native.Nat.{ℕ, _-_, _≤_, _<_}
 use native.Mathlib.Omega.{arith}
 use lib.Dec.{eqb, leb}
@@ -9,7 +9,7 @@ use borrow.Author.Tests.{eq-eqb, eqb-true, le-leb, lt-leb, leb-true}
 use Rattle.octets.specs.Bytes.{within, isLetter, isDigit, capital}
 use Rattle.laws.specs.Lists.{same}
 use Rattle.laws.proofs.Bools.{and-left, and-right, and-intro}
-use Rattle.laws.proofs.Lists.{sameBy-refl, sameBy-true}
+use Rattle.laws.proofs.Lists.{map-twice, sameBy-refl, sameBy-true}
 
 -- ---- ranges
 pub within-bounds : (lo b hi : ℕ) → within lo b hi ≡ true → (lo ≤ b) × (b ≤ hi)
@@ -66,6 +66,6 @@ large-capital : (b : ℕ) → within 97 b 122 ≡ false → capital b ≡ b
 unfolding capital
 large-capital b h = rw h
 
+-- bytes in capitals are their own capitals
 pub capitals-twice : (s : List ℕ) → map capital (map capital s) ≡ map capital s
-capitals-twice [] = refl
-capitals-twice (b ∷ s) = rw (large-capital (capital b) (capital-large b), capitals-twice s)
+capitals-twice s = map-twice capital (λ b. large-capital (capital b) (capital-large b)) s

@@ -9,8 +9,8 @@ use Rattle.octets.specs.Bytes.{nul, bell, lf, cr, space, comma, colon, w
 use Rattle.laws.proofs.Bools.{and-left, and-right}
 use Rattle.octets.proofs.Bytes.{within-bounds}
 
--- a byte above SPACE
-above-space : (b : ℕ) → space < b → (isPlain b ≡ true) × (isNonSpace b ≡ true)
+-- a byte above SPACE is plain and no SPACE
+pub above-space : (b : ℕ) → space < b → (isPlain b ≡ true) × (isNonSpace b ≡ true)
 unfolding isPlain
 above-space b h =
     (simp (ne-eqb b nul (λ e. omega arith), ne-eqb b lf (λ e. omega arith), ne-eqb b cr (λ e. omega arith)), rw (ne-eqb b space (λ e. omega arith)))

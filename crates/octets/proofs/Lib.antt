@@ -1,4 +1,4 @@
--- Laws that the crates above cite.
+-- Laws that the crates above cite, and examples.
 pub mod Bytes
 pub mod Search
 pub mod Ordered
@@ -6,4 +6,4 @@ pub mod Digits
 pub mod Room
 pub mod Clean
 pub mod Fewer
-pub mod Examples
+mod Examples

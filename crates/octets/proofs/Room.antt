@@ -10,7 +10,7 @@ use lib.Seq.{take-append-seam, drop-append-add, drop-drop, take-at, take-all, le
 use borrow.Author.Tests.{le-leb, leb-true, leb-false, lt-leb}
 use Rattle.laws.specs.Lists.{padded}
 use Rattle.octets.specs.Room.{part, fits, putAt, endOf, front}
-use Rattle.octets.specs.Held.{Holds, Adds}
+use Rattle.octets.specs.Private.Additions.{Holds, Adds}
 use Rattle.laws.proofs.Lists.{padded-take}
 
 -- ---- a part at either end

@@ -12,7 +12,7 @@ use borrow.Author.Tests.{eq-eqb, ne-eqb, eqb-true, not-true}
 use Rattle.laws.specs.Lists.{all}
 use Rattle.laws.proofs.Lists.{drop-step, all-head, all-tail, all-append}
 use Rattle.octets.specs.Search.{differs, before}
-use Rattle.octets.specs.Blocks.{blockLength, Clear}
+use Rattle.octets.specs.Private.Blocks.{blockLength, Clear}
 
 -- ---- at a place, for a loop
 module _ (b : ℕ) (s : List ℕ) (i : ℕ) where

@@ -1,7 +1,6 @@
 pub mod Bytes
 pub mod Search
-pub mod Blocks
 pub mod Order
 pub mod Decimals
 pub mod Room
-pub mod Held
+pub mod Private

@@ -10,7 +10,7 @@ ghost use denote.Ref.{ptr};
 ghost use Rattle.octets.specs.Bytes.{isZero, within, isPlain, isLetter, isIdByte, isNameByte, isKeyByte, inClass, capital as capitalOf};
 ghost use Rattle.laws.specs.Lists.{all};
 ghost use Rattle.octets.specs.Search.{differs, before};
-ghost use Rattle.octets.specs.Blocks.{blockLength, Clear};
+ghost use Rattle.octets.specs.Private.Blocks.{blockLength, Clear};
 ghost use Rattle.octets.specs.Order.{compare as compareOf};
 ghost use Rattle.octets.specs.Room.{part as partOf, placeIn, putAt, endOf};
 

@@ -9,7 +9,7 @@ use Rattle.refusal.proofs.Rules.{skip, first-nil, emitted-all}
 use Rattle.message.specs.Grammar.{lineLimit}
 use Rattle.message.specs.Content.{Content}
 use Rattle.message.specs.Reading.{isRead, contentOf, messageOf}
-use Rattle.message.proofs.Held.{message-holds}
+use Rattle.message.proofs.SpanContents.{message-holds}
 use Rattle.writer.specs.Form.{written}
 use Rattle.writer.specs.Writing.{forwarded}
 use Rattle.writer.proofs.Rounds.{read-forwards}

@@ -22,7 +22,7 @@ use Rattle.message.specs.Content.{Content}
 use Rattle.message.specs.Parts.{bytesAt, contentBy}
 use Rattle.message.specs.Reading.{numberFor, isRead, contentOf, messageOf}
 use Rattle.message.proofs.Readings.{refused-number, param-at}
-use Rattle.message.proofs.Held.{message-holds}
+use Rattle.message.proofs.SpanContents.{message-holds}
 use Rattle.channel.specs.declared.Record.{Record}
 use Rattle.table.specs.Network.{Network}
 use Rattle.table.specs.Slots.{foundFor}

@@ -29,7 +29,7 @@ use Rattle.message.specs.Parts.{contentBy, paramSpan}
 use Rattle.message.specs.Reading.{lineRules, numberFor, isRead, contentOf, messageOf}
 use Rattle.message.specs.Words.{wordsOf}
 use Rattle.message.proofs.Readings.{rules-numbered, number-none, read-small, refused-number}
-use Rattle.message.proofs.Held.{param-held, message-holds}
+use Rattle.message.proofs.SpanContents.{param-held, message-holds}
 use Rattle.sjoin.specs.declared.Told.{Told}
 use Rattle.sjoin.specs.Modes.{keyLetter, limitLetter, modesByte, argumentOf}
 use Rattle.sjoin.specs.Entries.{memberOf, named}

@@ -30,7 +30,7 @@ use Rattle.message.specs.Grammar.{lineLimit}
 use Rattle.message.specs.Content.{Content}
 use Rattle.message.specs.Reading.{numberFor, isRead, contentOf, messageOf}
 use Rattle.message.proofs.Readings.{read-small, refused-number}
-use Rattle.message.proofs.Held.{message-holds}
+use Rattle.message.proofs.SpanContents.{message-holds}
 use Rattle.message.specs.Words.{wordsOf}
 use Rattle.sjoin.specs.Modes.{keyLetter, limitLetter, lettersOf, isMode, lacks, goodLetters, goodArgument, isModes, modesByte}
 use Rattle.sjoin.specs.Entries.{past, statusOf, isEntry, memberOf, goodEntries, named}

@@ -13,7 +13,7 @@ use Rattle.laws.specs.Lists.{prefixed, separated}
 use Rattle.laws.proofs.Texts.{separated-end}
 use Rattle.octets.specs.Decimals.{digitsOf}
 use Rattle.octets.specs.Room.{part}
-use Rattle.octets.specs.Held.{Holds, Adds}
+use Rattle.octets.specs.Private.Additions.{Holds, Adds}
 use Rattle.octets.proofs.Room.{holds-nothing}
 use Rattle.octets.proofs.Digits.{digits-ten, digits-within}
 use Rattle.ascending.proofs.Weights.{weight}

@@ -27,7 +27,7 @@ use Rattle.channel.specs.WellFormed.{goodMember}
 use Rattle.channel.proofs.Keys.{key-says}
 use Rattle.channel.proofs.Proper.{Proper, member-says}
 use Rattle.message.specs.Grammar.{paramLimit, isCommand, isMiddle}
-use Rattle.writer.specs.Fit.{goodPrefix, goodSource, goodParam, goodParams, good}
+use Rattle.writer.specs.Private.Fit.{goodPrefix, goodSource, goodParam, goodParams, good}
 use Rattle.telling.specs.Telling.{lettersFrom, modesText, entryOf, listText, paramsOf, sjoin, joinMessage}
 
 -- ---- bytes that are plain and no SPACE

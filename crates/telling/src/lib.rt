@@ -8,7 +8,7 @@ ghost use Rattle.refusal.specs.Rules.{emitted};
 ghost use Rattle.octets.specs.Room.{front};
 ghost use Rattle.channel.specs.Record.{decode};
 ghost use Rattle.writer.specs.Form.{written};
-ghost use Rattle.writer.specs.Writing.{answerFor};
+ghost use Rattle.writer.specs.Writing.{writtenAnswer};
 ghost use Rattle.telling.specs.Telling.{described, descriptionLimit, describedIn, joinMessage, tellRules};
 use channel::Record;
 use message::LINE_LIMIT;
@@ -29,7 +29,7 @@ const SCRATCH: usize = DESCRIPTION_LIMIT + 1;
 
 // Writes the SJOIN by which a server tells of a record, to the front of the output.
 pub fn write_join(source: &[u8], r: Record, out: &mut [u8]) -> Written
-    ensures answer { λ w. ⌜ w ≡ answerFor (tellRules (now (source .entry)) (decode r) (now (out .entry))) (written (joinMessage (now (source .entry)) (decode r))) ⌝ }
+    ensures answer { λ w. ⌜ w ≡ writtenAnswer (tellRules (now (source .entry)) (decode r) (now (out .entry))) (written (joinMessage (now (source .entry)) (decode r))) ⌝ }
     ensures output { λ _. ⌜ now (out .exit) ≡ front (emitted (tellRules (now (source .entry)) (decode r) (now (out .entry))) (written (joinMessage (now (source .entry)) (decode r)))) (now (out .entry)) ⌝ }
 {
     if out.len() < LINE_LIMIT {

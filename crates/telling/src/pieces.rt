@@ -7,7 +7,7 @@ ghost use Prim.Native.Nat.{_≤_};
 ghost use lib.ListN.{length, take};
 ghost use Rattle.octets.specs.Bytes.{space};
 ghost use Rattle.octets.specs.Decimals.{digitsOf};
-ghost use Rattle.octets.specs.Held.{Adds};
+ghost use Rattle.octets.specs.Private.Additions.{Adds};
 ghost use Rattle.channel.specs.Modes.{keyMode, limitMode, hasMode};
 ghost use Rattle.channel.specs.Record.{decode};
 ghost use Rattle.message.specs.Grammar.{lineLimit};

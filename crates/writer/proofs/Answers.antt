@@ -11,7 +11,7 @@ use Rattle.refusal.specs.Numbers.{accepted}
 use Rattle.refusal.specs.Rules.{Rule, firstOf, emitted}
 use Rattle.refusal.proofs.Rules.{emitted-none, emitted-all}
 use Rattle.octets.specs.Room.{putAt, front}
-use Rattle.octets.specs.Held.{Holds, Adds}
+use Rattle.octets.specs.Private.Additions.{Holds, Adds}
 use Rattle.laws.proofs.Bools.{and-left}
 use Rattle.octets.proofs.Room.{put-front, holds-nothing}
 use Rattle.message.specs.declared.Message.{Message}
@@ -19,25 +19,27 @@ use Rattle.message.specs.Grammar.{lineLimit, paramLimit}
 use Rattle.message.specs.Content.{Content}
 use Rattle.writer.specs.declared.Written.{Written}
 use Rattle.writer.specs.Form.{written, withCommand}
-use Rattle.writer.specs.Writing.{answerFor}
-use Rattle.writer.specs.Fit.{fit, cased, refusedBy}
+use Rattle.writer.specs.Writing.{writtenAnswer}
+use Rattle.writer.specs.Private.Fit.{fit, cased, refusedBy}
 use Rattle.writer.proofs.Rounds.{capitals-length}
 
 -- ---- any rules
 module _ (rules : List Rule) (w out : List ℕ) where
-  pub answers-refused : (k : ℕ) → firstOf rules ≡ k → (k ≡ accepted → ⊥) → (r : Written) → r ≡ refusedBy k → (r ≡ answerFor rules w) × (out ≡ front (emitted rules w) out)
-  unfolding answerFor
+  -- a refusal writes nothing
+  pub answers-refused : (k : ℕ) → firstOf rules ≡ k → (k ≡ accepted → ⊥) → (r : Written) → r ≡ refusedBy k → (r ≡ writtenAnswer rules w) × (out ≡ front (emitted rules w) out)
+  unfolding writtenAnswer
   answers-refused k e ne r f = rw (emitted-none rules w k e ne, e) (f, refl)
 
+  -- what is accepted is written whole
   pub answers-written : firstOf rules ≡ accepted → (len : ℕ) → len ≡ length w → (next : List ℕ) → next ≡ front w out
-      → (record { number = accepted; len = len } ≡ answerFor rules w) × (next ≡ front (emitted rules w) out)
-  unfolding answerFor
+      → (record { number = accepted; len = len } ≡ writtenAnswer rules w) × (next ≡ front (emitted rules w) out)
+  unfolding writtenAnswer
   answers-written e len n next f = rw (emitted-all rules w e, e, n) (refl, f)
 
 -- Where none of some rules applies, and none of others, both answer the same.
 pub answers-same : (rules others : List Rule) → firstOf rules ≡ accepted → firstOf others ≡ accepted → (w v out : List ℕ) → w ≡ v → (r : Written) (next : List ℕ)
-    → (r ≡ answerFor rules w) × (next ≡ front (emitted rules w) out) → (r ≡ answerFor others v) × (next ≡ front (emitted others v) out)
-unfolding answerFor
+    → (r ≡ writtenAnswer rules w) × (next ≡ front (emitted rules w) out) → (r ≡ writtenAnswer others v) × (next ≡ front (emitted others v) out)
+unfolding writtenAnswer
 answers-same rules others e f w v out is r next h = rw (emitted-all others v f, f, ← is) (rw (emitted-all rules w e, e) at h)
 
 -- ---- a message of spans
@@ -67,12 +69,13 @@ module _ (empty line : List ℕ) (r : ℕ) (w : List ℕ) (long : length empty �
     pub ends-at : r ≡ length w
     ends-at = omega (arith, held .counts, line-long)
 
-    pub stands : take r line ≡ w
-    stands = held .begins (omega (arith, line-long))
+    -- the line begins with it
+    pub line-begins : take r line ≡ w
+    line-begins = held .begins (omega (arith, line-long))
 
     pub part-length : r ≡ length (take r line)
-    part-length = ends-at ∙ sym (ap (λ (l : List ℕ). length l) stands)
+    part-length = ends-at ∙ sym (ap (λ (l : List ℕ). length l) line-begins)
 
     -- and is copied to the front of the output
     pub copied : (out next : List ℕ) → lineLimit ≤ length out → next ≡ putAt out 0 (take r line) → next ≡ front w out
-    copied out next room e = e ∙ ap (putAt out 0) stands ∙ put-front out w (omega (arith, ends-at))
+    copied out next room e = e ∙ ap (putAt out 0) line-begins ∙ put-front out w (omega (arith, ends-at))

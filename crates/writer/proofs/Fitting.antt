@@ -23,9 +23,9 @@ use Rattle.message.specs.Content.{Content, bytesOf, contentIn}
 use Rattle.message.specs.Parts.{bytesAt, contentBy}
 use Rattle.message.specs.Reading.{bodyOf, grammarRules}
 use Rattle.message.proofs.Readings.{Formed, formed}
-use Rattle.message.proofs.Held.{content-eq}
+use Rattle.message.proofs.SpanContents.{content-eq}
 use Rattle.writer.specs.Form.{writtenBody, written, samePrefix, sameContent, readsBack, liesIn, lies}
-use Rattle.writer.specs.Fit.{goodPrefix, goodSource, goodParam, goodParams, good, fitPrefix, fitCommand, fitParam, fitParams, fit}
+use Rattle.writer.specs.Private.Fit.{goodPrefix, goodSource, goodParam, goodParams, good, fitPrefix, fitCommand, fitParam, fitParams, fit}
 use Rattle.writer.proofs.Words.{all-word, word-clear, word-middle}
 use Rattle.writer.proofs.Trips.{content-back, body-plain, body-full, good-reads, body-back, form-reads}
 

@@ -6,19 +6,18 @@ use mathlib.Core.Option.{some}
 use Prim.Native.Nat.{ℕ, _+_, _-_, _≤_, _<_}
 use native.Mathlib.Omega.{arith}
 use lib.ListN.{length, take, drop, getD, length-take, length-drop}
-use lib.Seq.{getD-take}
 use lib.Dec.{eqb}
 use borrow.Author.Tests.{eq-eqb, ne-eqb}
 use Rattle.octets.specs.Bytes.{space, colon, isPlain, isNonSpace}
 use Rattle.laws.specs.Lists.{all, isNil, startsWith}
-use Rattle.laws.proofs.Lists.{drop-step, nil-length, nil-map}
+use Rattle.laws.proofs.Lists.{front-step, nil-length, nil-map}
 use Rattle.message.specs.declared.Span.{Span}
 use Rattle.message.specs.declared.Message.{Message}
 use Rattle.message.specs.Grammar.{isMiddle}
 use Rattle.message.specs.Parts.{span, bytesAt}
 use Rattle.message.specs.Reading.{crlf}
 use Rattle.writer.specs.Form.{takesColon, writtenParam, writtenParams, writtenPrefix, writtenBody, written, liesIn}
-use Rattle.writer.specs.Fit.{goodPrefix, fitPrefix, fitParam, fitParams}
+use Rattle.writer.specs.Private.Fit.{goodPrefix, fitPrefix, fitParam, fitParams}
 
 -- ---- a middle, by its first byte
 pub middle-nil : (p : List ℕ) → length p ≡ 0 → false ≡ isMiddle p
@@ -72,9 +71,7 @@ module _ (ps : List Span) (n k : ℕ) (few : n ≤ length ps) (lt : k < n) where
   front-long = omega (arith, length-take n ps)
 
   spans-step : drop k (take n ps) ≡ getD ps k (span 0 0) ∷ drop (k + 1) (take n ps)
-  spans-step =
-      drop-step (take n ps) k (span 0 0) (omega (arith, front-long))
-      ∙ ap (λ (s : Span). s ∷ drop (k + 1) (take n ps)) (getD-take n ps k (span 0 0) lt)
+  spans-step = front-step ps n k (span 0 0) lt few
 
   last-is : isNil (drop (k + 1) (take n ps)) ≡ eqb (k + 1) n
   last-is = go (drop (k + 1) (take n ps)) (length-drop (k + 1) (take n ps))

@@ -25,10 +25,10 @@ use Rattle.message.specs.Parts.{emptyAt, contentBy}
 use Rattle.message.specs.Reading.{crlf, bodyOf, isRead, contentOf, messageOf}
 use Rattle.message.proofs.Places.{Placed}
 use Rattle.message.proofs.Readings.{Formed, ends-long, body-length, number-grammar, number-read, read-small, read-formed, read-content, prefix-at, command-at, param-at, count-few}
-use Rattle.message.proofs.Held.{message-holds}
+use Rattle.message.proofs.SpanContents.{message-holds}
 use Rattle.writer.specs.Form.{writtenBody, written, readsBack, liesIn, lies, withCommand, inCapitals}
 use Rattle.writer.specs.Writing.{writeRules, forwarded}
-use Rattle.writer.specs.Fit.{goodSource, goodParams, good, fit}
+use Rattle.writer.specs.Private.Fit.{goodSource, goodParams, good, fit}
 use Rattle.writer.proofs.Words.{command-long, command-capital}
 use Rattle.writer.proofs.Trips.{good-command}
 use Rattle.writer.proofs.Fitting.{formed-good, good-form, good-exactly, fit-exactly}

@@ -15,7 +15,7 @@ use Rattle.message.specs.Parts.{contentBy}
 use Rattle.message.specs.Reading.{bodyRules, lineRules, numberFor}
 use Rattle.writer.specs.Form.{written}
 use Rattle.writer.specs.Writing.{writeRules, forwardRules}
-use Rattle.writer.specs.Fit.{fit}
+use Rattle.writer.specs.Private.Fit.{fit}
 use Rattle.writer.proofs.Fitting.{fit-exactly}
 
 -- ---- a message of spans

@@ -20,10 +20,11 @@ use Rattle.laws.proofs.Lists.{nil-length, all-head, all-cons, all-append}
 use Rattle.message.specs.Grammar.{Part, paramLimit, spaces, isMiddle, rest, hasPrefix, prefix, prefixEnd, commandStart, command, commandEnd, isCommand, params}
 use Rattle.message.specs.Content.{Content, bytesOf, contentIn}
 use Rattle.message.specs.Reading.{crlf, endsLine, bodyOf, bodyRules, grammarRules}
-use Rattle.message.proofs.Relation.{Stops, word-append, middle-read}
-use Rattle.message.proofs.Held.{content, content-eq}
+use Rattle.message.proofs.Relation.{Stops, stops-word, middle-read}
+use Rattle.message.proofs.Words.{word-append}
+use Rattle.message.proofs.SpanContents.{content, content-eq}
 use Rattle.writer.specs.Form.{takesColon, writtenParam, writtenParams, writtenPrefix, writtenBody}
-use Rattle.writer.specs.Fit.{goodPrefix, goodSource, goodParam, goodParams, good}
+use Rattle.writer.specs.Private.Fit.{goodPrefix, goodSource, goodParam, goodParams, good}
 use Rattle.writer.proofs.Parts.{colon-exactly}
 use Rattle.writer.proofs.Words.{middle-clear, command-long, command-plain, command-middle}
 
@@ -114,7 +115,7 @@ module _ (c : List ℕ) (ps : List (List ℕ)) (is : isMiddle c ≡ true) (ok : 
   module _ (b : List ℕ) (e : drop (commandStart b) b ≡ tail) where
     command-there : command b ≡ c
     unfolding command
-    command-there = rw e (word-append (writtenParams 0 ps) (written-stops 0 ps) c (middle-clear c is))
+    command-there = rw e (word-append c (writtenParams 0 ps) (middle-clear c is) (stops-word (writtenParams 0 ps) (written-stops 0 ps)))
 
     params-there : bytesOf (params b) ≡ ps
     unfolding params commandEnd
@@ -134,7 +135,7 @@ module _ (c : List ℕ) (ps : List (List ℕ)) (is : isMiddle c ≡ true) (ok : 
 
     prefix-there : prefix body ≡ p
     unfolding prefix startsWith
-    prefix-there = word-append (space ∷ tail) refl p clear
+    prefix-there = word-append p (space ∷ tail) clear (stops-word (space ∷ tail) refl)
 
     end-there : prefixEnd body ≡ 1 + length p
     unfolding prefixEnd startsWith

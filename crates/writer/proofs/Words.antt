@@ -8,12 +8,15 @@ use native.Mathlib.Omega.{arith}
 use lib.ListN.{length, length-map}
 use lib.Dec.{eqb, leb, ltb}
 use borrow.Author.Tests.{ne-eqb, eqb-true, lt-ltb, ltb-true, leb-true}
-use Rattle.octets.specs.Bytes.{nul, lf, cr, space, colon, within, isPlain, isNonSpace, isLetter, isDigit, capital}
+use Rattle.octets.specs.Bytes.{space, colon, within, isPlain, isNonSpace, isLetter, isDigit, capital}
 use Rattle.laws.specs.Lists.{all}
 use Rattle.laws.proofs.Bools.{and-left, and-right, and-intro}
 use Rattle.laws.proofs.Lists.{all-head, all-tail, all-cons, all-imp, all-map}
 use Rattle.octets.proofs.Bytes.{within-bounds, small-bounds, capital-letter, capital-digit}
+use Rattle.octets.proofs.Clean.{above-space}
+use Rattle.octets.proofs.Search.{before-none}
 use Rattle.message.specs.Grammar.{word, isCommand, isMiddle}
+use Rattle.message.proofs.Runs.{word-before}
 
 -- ---- a word
 pub all-word : (p : ℕ → Bool) (s : List ℕ) → all p s ≡ true → all p (word s) ≡ true
@@ -25,14 +28,9 @@ all-word p (b ∷ s) h = go (eqb b space) refl (all-word p s (all-tail p b s h))
     go true e ih = rw e
     go false e ih = rw e (all-cons p b (word s) (all-head p b s h) ih)
 
+-- it has no SPACE
 pub word-clear : (s : List ℕ) → all isNonSpace (word s) ≡ true
-unfolding all word
-word-clear [] = refl
-word-clear (b ∷ s) = go (eqb b space) refl (word-clear s)
-  where
-    go : (t : Bool) → eqb b space ≡ t → all isNonSpace (word s) ≡ true → all isNonSpace (word (b ∷ s)) ≡ true
-    go true e ih = rw e
-    go false e ih = rw (e, e) ih
+word-clear s = rw (word-before s) (before-none space s)
 
 -- ---- a middle
 pub word-middle : (b : ℕ) (s : List ℕ) → eqb b space ≡ false → eqb b colon ≡ false → isMiddle (b ∷ word s) ≡ true
@@ -68,12 +66,8 @@ module _ (b : ℕ) (e : apart b ≡ true) where
   unfolding apart
   apart-above = ltb-true space b (and-left (ltb space b) (not (eqb b colon)) e)
 
-  apart-nonspace : isNonSpace b ≡ true
-  apart-nonspace = rw (ne-eqb b space (λ q. omega (arith, apart-above)))
-
-  apart-plain : isPlain b ≡ true
-  unfolding isPlain
-  apart-plain = let h : space < b = apart-above in simp (ne-eqb b nul (λ q. omega arith), ne-eqb b lf (λ q. omega arith), ne-eqb b cr (λ q. omega arith))
+  apart-clean : (isPlain b ≡ true) × (isNonSpace b ≡ true)
+  apart-clean = above-space b apart-above
 
   apart-colon : not (eqb b colon) ≡ true
   unfolding apart
@@ -98,11 +92,11 @@ module _ (w : List ℕ) (is : isCommand w ≡ true) where
       go false h = all-imp isDigit apart digit-apart w (and-right (eqb (length w) 3) (all isDigit w) (rw h at is))
 
   pub command-plain : all isPlain w ≡ true
-  command-plain = all-imp apart isPlain apart-plain w command-apart
+  command-plain = all-imp apart isPlain (λ b k. apart-clean b k .0) w command-apart
 
   pub command-middle : isMiddle w ≡ true
   unfolding isMiddle
-  command-middle = go w command-long command-apart (all-imp apart isNonSpace apart-nonspace w command-apart)
+  command-middle = go w command-long command-apart (all-imp apart isNonSpace (λ b k. apart-clean b k .1) w command-apart)
     where
       go : (l : List ℕ) → 1 ≤ length l → all apart l ≡ true → all isNonSpace l ≡ true → isMiddle l ≡ true
       go [] = λ h a n. absurd (omega arith)

@@ -1,3 +1,3 @@
 pub mod Form
 pub mod Writing
-pub mod Fit
+pub mod Private

@@ -29,5 +29,6 @@ unfoldable pub forwarded : List ℕ → List ℕ
 forwarded line = written (inCapitals (contentOf line))
 
 -- ---- the answer
-unfoldable pub answerFor : List Rule → List ℕ → Written
-answerFor rules w = record { number = firstOf rules; len = length (emitted rules w) }
+-- the first number that applies, and how many bytes are written
+unfoldable pub writtenAnswer : List Rule → List ℕ → Written
+writtenAnswer rules w = record { number = firstOf rules; len = length (emitted rules w) }

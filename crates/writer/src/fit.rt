@@ -5,7 +5,7 @@ ghost use Prim.Native.Nat.{_≤_};
 ghost use lib.ListN.{take};
 ghost use Rattle.message.specs.Grammar.{paramLimit, isMiddle};
 ghost use Rattle.writer.specs.Form.{liesIn};
-ghost use Rattle.writer.specs.Fit.{goodParam, fitPrefix, fitCommand, fitParam, fitParams, fit as fitOf};
+ghost use Rattle.writer.specs.Private.Fit.{goodParam, fitPrefix, fitCommand, fitParam, fitParams, fit as fitOf};
 use message::Message;
 use message::PARAM_LIMIT;
 use message::Span;

@@ -9,8 +9,8 @@ ghost use Rattle.refusal.specs.Rules.{emitted};
 ghost use Rattle.octets.specs.Room.{front};
 ghost use Rattle.message.specs.Parts.{contentBy};
 ghost use Rattle.writer.specs.Form.{written, inCapitals};
-ghost use Rattle.writer.specs.Writing.{writeRules, forwardRules, forwarded, answerFor};
-ghost use Rattle.writer.specs.Fit.{cased, refusedBy};
+ghost use Rattle.writer.specs.Writing.{writeRules, forwardRules, forwarded, writtenAnswer};
+ghost use Rattle.writer.specs.Private.Fit.{cased, refusedBy};
 use fit::fit;
 use form::put_message;
 use message::LINE_LIMIT;
@@ -38,7 +38,7 @@ fn refused(number: u8) -> Written
 
 // Writes the message, its command in capitals if they are asked for.
 fn write_cased(text: &[u8], m: Message, capitals: bool, out: &mut [u8]) -> Written
-    ensures answer { λ r. ⌜ r ≡ answerFor (writeRules (now (text .entry)) m (now (out .entry))) (written (cased capitals (contentBy (now (text .entry)) m))) ⌝ }
+    ensures answer { λ r. ⌜ r ≡ writtenAnswer (writeRules (now (text .entry)) m (now (out .entry))) (written (cased capitals (contentBy (now (text .entry)) m))) ⌝ }
     ensures output { λ _. ⌜ now (out .exit) ≡ front (emitted (writeRules (now (text .entry)) m (now (out .entry))) (written (cased capitals (contentBy (now (text .entry)) m)))) (now (out .entry)) ⌝ }
 {
     if out.len() < LINE_LIMIT {
@@ -61,7 +61,7 @@ fn write_cased(text: &[u8], m: Message, capitals: bool, out: &mut [u8]) -> Writt
 
 // Writes the message, whose parts are spans of the text, to the front of the output.
 pub fn write(text: &[u8], m: Message, out: &mut [u8]) -> Written
-    ensures answer { λ r. ⌜ r ≡ answerFor (writeRules (now (text .entry)) m (now (out .entry))) (written (contentBy (now (text .entry)) m)) ⌝ }
+    ensures answer { λ r. ⌜ r ≡ writtenAnswer (writeRules (now (text .entry)) m (now (out .entry))) (written (contentBy (now (text .entry)) m)) ⌝ }
     ensures output { λ _. ⌜ now (out .exit) ≡ front (emitted (writeRules (now (text .entry)) m (now (out .entry))) (written (contentBy (now (text .entry)) m))) (now (out .entry)) ⌝ }
 {
     write_cased(text, m, false, out)
@@ -69,7 +69,7 @@ pub fn write(text: &[u8], m: Message, out: &mut [u8]) -> Written
 
 // The same, with the command in capitals: how a line goes out that is passed on unchanged, by the parts that the reader found.
 pub fn forward_message(text: &[u8], m: Message, out: &mut [u8]) -> Written
-    ensures answer { λ r. ⌜ r ≡ answerFor (writeRules (now (text .entry)) m (now (out .entry))) (written (inCapitals (contentBy (now (text .entry)) m))) ⌝ }
+    ensures answer { λ r. ⌜ r ≡ writtenAnswer (writeRules (now (text .entry)) m (now (out .entry))) (written (inCapitals (contentBy (now (text .entry)) m))) ⌝ }
     ensures output { λ _. ⌜ now (out .exit) ≡ front (emitted (writeRules (now (text .entry)) m (now (out .entry))) (written (inCapitals (contentBy (now (text .entry)) m)))) (now (out .entry)) ⌝ }
 {
     write_cased(text, m, true, out)
@@ -77,7 +77,7 @@ pub fn forward_message(text: &[u8], m: Message, out: &mut [u8]) -> Written
 
 // Writes a line as it was read, its command in capitals, to the front of the output.
 pub fn forward(line: &[u8], out: &mut [u8]) -> Written
-    ensures answer { λ r. ⌜ r ≡ answerFor (forwardRules (now (line .entry)) (now (out .entry))) (forwarded (now (line .entry))) ⌝ }
+    ensures answer { λ r. ⌜ r ≡ writtenAnswer (forwardRules (now (line .entry)) (now (out .entry))) (forwarded (now (line .entry))) ⌝ }
     ensures output { λ _. ⌜ now (out .exit) ≡ front (emitted (forwardRules (now (line .entry)) (now (out .entry))) (forwarded (now (line .entry)))) (now (out .entry)) ⌝ }
 {
     if out.len() < LINE_LIMIT {

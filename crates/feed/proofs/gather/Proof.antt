@@ -15,7 +15,7 @@ use Rattle.feed.specs.declared.Feeder.{Feeder}
 use Rattle.feed.specs.declared.Fed.{Fed}
 use Rattle.feed.specs.Lines.{Unfinished, nothing}
 use Rattle.feed.specs.Feeder.{stateOf, fed, answerTo}
-use Rattle.feed.specs.Private.{KeepsLine, heldBytes, past}
+use Rattle.feed.specs.Private.Gathering.{KeepsLine, heldBytes, past}
 use Rattle.feed.proofs.States.{kept-length, kept-small}
 use Rattle.feed.proofs.Gathering.{goes-on, too-long, line-over, line-room, line-whole}
 use Rattle.feed.proofs.gather.Statement.{statement}

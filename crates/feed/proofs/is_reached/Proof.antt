@@ -7,7 +7,7 @@ use borrow.Author.Needs.{needs}
 use borrow.Author.Tests.{not-true, not-false}
 use Rattle.message.specs.Grammar.{lineLimit}
 use Rattle.feed.specs.declared.Feeder.{Feeder}
-use Rattle.feed.specs.Private.{isClean}
+use Rattle.feed.specs.Private.Gathering.{isClean}
 use Rattle.feed.proofs.Tests.{tested-long, tested-unclean, tested-dropping, tested-kept}
 use Rattle.feed.proofs.is_reached.Statement.{statement}
 use Rattle.feed.proofs.is_reached.Tie as tie

@@ -1,7 +1,7 @@
 -- `back` meets its contract: each return is the test that led there. Assumes nothing.
 use borrow.Author.Needs.{needs}
 use borrow.Author.Tests.{eq-eqb, ne-eqb}
-use Rattle.glob.specs.Stepping.{back}
+use Rattle.glob.specs.Private.Stepping.{back}
 use Rattle.glob.proofs.back.Statement.{statement}
 use Rattle.glob.proofs.back.Tie as tie
 

@@ -6,7 +6,7 @@ use native.Mathlib.Omega.{arith}
 use borrow.Author.Needs.{needs}
 use Rattle.glob.specs.declared.Progress.the-variants.{On, Done}
 use Rattle.glob.specs.Mask.{matches}
-use Rattle.glob.specs.Stepping.{step, steps}
+use Rattle.glob.specs.Private.Stepping.{step, steps}
 use Rattle.glob.proofs.Sound.{Sound, start-sound, step-leads}
 use Rattle.glob.proofs.Steps.{steps-suffice, reach-left, reach-on, reach-done}
 use Rattle.glob.proofs.decide.Statement.{statement}

@@ -2,7 +2,7 @@
 use mathlib.Core.Path.{sym, _∙_}
 use borrow.Author.Needs.{needs}
 use borrow.Author.Tests.{eq-eqb, ne-eqb}
-use Rattle.glob.specs.Stepping.{step}
+use Rattle.glob.specs.Private.Stepping.{step}
 use Rattle.glob.proofs.step.Statement.{statement}
 use Rattle.glob.proofs.step.Tie as tie
 

@@ -3,7 +3,7 @@ use mathlib.Core.Path.{ap, _∙_}
 use borrow.Author.Needs.{needs}
 use Rattle.message.specs.Content.{Content}
 use Rattle.message.specs.Parts.{contentBy}
-use Rattle.message.proofs.Held.{message-holds, command-start}
+use Rattle.message.proofs.SpanContents.{message-holds, command-start}
 use Rattle.message.proofs.command.Statement.{statement}
 use Rattle.message.proofs.command.Tie as tie
 

@@ -5,7 +5,7 @@ use lib.ListN.{getD}
 use borrow.Author.Needs.{needs}
 use Rattle.message.specs.Content.{Content}
 use Rattle.message.specs.Parts.{contentBy}
-use Rattle.message.proofs.Held.{message-holds, param-start}
+use Rattle.message.proofs.SpanContents.{message-holds, param-start}
 use Rattle.message.proofs.param.Statement.{statement}
 use Rattle.message.proofs.param.Tie as tie
 

@@ -5,7 +5,7 @@ use mathlib.Core.Option.{Option·getD}
 use borrow.Author.Needs.{needs}
 use Rattle.message.specs.Content.{Content}
 use Rattle.message.specs.Parts.{contentBy}
-use Rattle.message.proofs.Held.{message-holds, prefix-start}
+use Rattle.message.proofs.SpanContents.{message-holds, prefix-start}
 use Rattle.message.proofs.prefix.Statement.{statement}
 use Rattle.message.proofs.prefix.Tie as tie
 

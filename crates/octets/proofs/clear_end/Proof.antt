@@ -5,7 +5,7 @@ use native.Mathlib.Omega.{arith}
 use lib.ListN.{length}
 use borrow.Author.Needs.{needs}
 use borrow.Author.Tests.{not-false}
-use Rattle.octets.specs.Blocks.{Clear}
+use Rattle.octets.specs.Private.Blocks.{Clear}
 use Rattle.octets.proofs.Search.{clear-none, clear-more}
 use Rattle.octets.proofs.clear_end.Statement.{statement}
 use Rattle.octets.proofs.clear_end.Tie as tie

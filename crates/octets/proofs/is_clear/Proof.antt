@@ -11,7 +11,7 @@ use borrow.Author.Needs.{needs}
 use Rattle.laws.specs.Lists.{all}
 use Rattle.laws.proofs.Bitwise.{or-step, or-past}
 use Rattle.octets.specs.Search.{differs}
-use Rattle.octets.specs.Blocks.{blockLength}
+use Rattle.octets.specs.Private.Blocks.{blockLength}
 use Rattle.octets.proofs.is_clear.Statement.{statement}
 use Rattle.octets.proofs.is_clear.Tie as tie
 

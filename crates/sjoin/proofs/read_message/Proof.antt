@@ -14,7 +14,7 @@ use Rattle.channel.specs.Members.{roster}
 use Rattle.message.specs.Grammar.{lineLimit}
 use Rattle.message.specs.Content.{Content}
 use Rattle.message.specs.Parts.{contentBy}
-use Rattle.message.proofs.Held.{params-count}
+use Rattle.message.proofs.SpanContents.{params-count}
 use Rattle.sjoin.specs.Entries.{goodEntries, named}
 use Rattle.sjoin.specs.Join.{listIn, goodCount, sourceRules, settingRules, joinRules, spanRules}
 use Rattle.sjoin.specs.Private.Scanning.{Parted}

@@ -12,7 +12,7 @@ use Rattle.names.proofs.UserIds.{no-server-id}
 use Rattle.message.specs.Grammar.{paramLimit}
 use Rattle.message.specs.Content.{Content, prefixIs}
 use Rattle.message.specs.Parts.{contentBy}
-use Rattle.message.proofs.Held.{params-count}
+use Rattle.message.proofs.SpanContents.{params-count}
 use Rattle.message.proofs.Prefixes.{prefix-told}
 use Rattle.sjoin.specs.Join.{goodCount}
 use Rattle.sjoin.proofs.Judged.{few, many, counted, unsourced, sourced}

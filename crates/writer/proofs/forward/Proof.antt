@@ -12,7 +12,7 @@ use Rattle.message.specs.Grammar.{lineLimit}
 use Rattle.message.specs.Reading.{isRead, numberFor}
 use Rattle.message.proofs.Readings.{reading-line, reading-refused, number-none, refused-number}
 use Rattle.writer.specs.Writing.{forwardRules, forwarded}
-use Rattle.writer.specs.Fit.{refusedBy}
+use Rattle.writer.specs.Private.Fit.{refusedBy}
 use Rattle.writer.proofs.Rules.{forward-number, forward-short}
 use Rattle.writer.proofs.Rounds.{read-forwards}
 use Rattle.writer.proofs.Answers.{answers-refused, answers-same}

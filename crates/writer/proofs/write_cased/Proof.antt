@@ -8,13 +8,13 @@ use lib.ListN.{length, replicate}
 use borrow.Author.Needs.{needs}
 use borrow.Author.Tests.{not-true, not-false}
 use Rattle.refusal.specs.Numbers.{outputTooShort, unwritable, noRoom}
-use Rattle.octets.specs.Held.{Adds}
+use Rattle.octets.specs.Private.Additions.{Adds}
 use Rattle.message.specs.declared.Message.{Message}
 use Rattle.message.specs.Grammar.{lineLimit}
 use Rattle.message.specs.Parts.{contentBy}
 use Rattle.writer.specs.Form.{written}
 use Rattle.writer.specs.Writing.{writeRules}
-use Rattle.writer.specs.Fit.{fit, cased}
+use Rattle.writer.specs.Private.Fit.{fit, cased}
 use Rattle.writer.proofs.Rules.{write-short, write-unfit, write-long, write-accepts}
 use Rattle.writer.proofs.Answers.{answers-refused, answers-written, cased-length, fit-count, over-long, ends-at, part-length, copied}
 use Rattle.writer.proofs.write_cased.Statement.{statement}

@@ -5,7 +5,7 @@ use borrow.Author.Needs.{needs}
 use Rattle.octets.specs.Bytes.{lf, space}
 use Rattle.octets.proofs.Room.{added, adds-then}
 use Rattle.console.specs.Answers.{numberedText}
-use Rattle.console.proofs.Answering.{stands, numbered-few}
+use Rattle.console.proofs.Answering.{added-at-front, numbered-few}
 use Rattle.console.proofs.answers.put_numbered.Statement.{statement}
 use Rattle.console.proofs.answers.put_numbered.Tie as tie
 
@@ -38,7 +38,7 @@ returns c =
     let digits = words .before .before .before .before in
     let opened = digits .before .before .before .before in
     let a = opened .before .before .before .before .args in
-    stands _ _ _ _
+    added-at-front _ _ _ _
     (adds-then _ _ _ _ _ _ _ (lf ∷ [])
     (adds-then _ _ _ _ _ _ _ _
     (adds-then _ _ _ _ _ _ (a .mark ∷ space ∷ []) _ (added _ _ _ _ _ (opened .put .ensures .0) (opened .put .ensures .1)) (added _ _ _ _ _ (digits .put-decimal .ensures .0) (digits .put-decimal .ensures .1)))

@@ -5,7 +5,7 @@ use borrow.Author.Needs.{needs}
 use Rattle.octets.specs.Bytes.{space}
 use Rattle.octets.proofs.Room.{added, adds-then}
 use Rattle.console.specs.Answers.{relayedText}
-use Rattle.console.proofs.Answering.{stands, relayed-few}
+use Rattle.console.proofs.Answering.{added-at-front, relayed-few}
 use Rattle.console.proofs.answers.put_relayed.Statement.{statement}
 use Rattle.console.proofs.answers.put_relayed.Tie as tie
 
@@ -31,7 +31,7 @@ returns c =
     let spaced = ended .before .before .before .before in
     let linked = spaced .before .before .before .before .before in
     let a = linked .before .before .before .before .args in
-    stands _ _ _ _
+    added-at-front _ _ _ _
     (adds-then _ _ _ _ _ _ _ _
     (adds-then _ _ _ _ _ _ _ (space ∷ []) (linked .put-set .ensures) (added _ _ _ _ _ (spaced .put .ensures .0) (spaced .put .ensures .1)))
     (added _ _ _ _ _ (ended .put2 .ensures .0) (ended .put2 .ensures .1)))

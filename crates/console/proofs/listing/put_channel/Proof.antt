@@ -9,7 +9,7 @@ use Rattle.octets.specs.Room.{front}
 use Rattle.channel.specs.Record.{decode}
 use Rattle.telling.specs.Telling.{described}
 use Rattle.telling.proofs.Described.{described-all}
-use Rattle.console.proofs.Answering.{line-stands}
+use Rattle.console.proofs.Answering.{line-at-front}
 use Rattle.console.proofs.listing.put_channel.Statement.{statement}
 use Rattle.console.proofs.listing.put_channel.Tie as tie
 
@@ -32,7 +32,7 @@ returns c =
     let a = told .before .before .before .args in
     let w = described (decode (a .r)) in
     let whole = described-all (a .out .now) (decode (a .r)) (omega (arith, told .describe .ensures .1 .1)) in
-    line-stands (a .out .now) _ _ _ _ w (omega arith) (told .describe .ensures .0 ∙ ap (λ (l : List ℕ). length l) whole) (told .describe .ensures .1 .0 ∙ ap (λ (l : List ℕ). front l (a .out .now)) whole)
+    line-at-front (a .out .now) _ _ _ _ w (omega arith) (told .describe .ensures .0 ∙ ap (λ (l : List ℕ). length l) whole) (told .describe .ensures .1 .0 ∙ ap (λ (l : List ℕ). front l (a .out .now)) whole)
     (ended .put .ensures .0) (ended .put .ensures .1)
 
 pub put-channel-spec : {M : Type 1} → statement M

@@ -7,7 +7,7 @@ use borrow.Author.Tests.{not-true, not-false}
 use Rattle.octets.specs.Bytes.{cr, lf}
 use Rattle.octets.proofs.Room.{added, adds-then}
 use Rattle.console.specs.Lines.{inputLimit}
-use Rattle.console.proofs.Answering.{stands}
+use Rattle.console.proofs.Answering.{added-at-front}
 use Rattle.console.proofs.Typing.{typed-open, typed-ends, open-few, typed-few}
 use borrow.Author.Needs.{needs}
 use Rattle.console.proofs.requests.put_typed.Statement.{statement}
@@ -19,8 +19,8 @@ slice-aggregate-part c = search needs
 part-requires : tie.Need-part-requires
 part-requires c κs = search needs
 
-ends-line-requires : tie.Need-ends-line-requires
-ends-line-requires c κs = search needs
+ends-in-lf-requires : tie.Need-ends-in-lf-requires
+ends-in-lf-requires c κs = search needs
 
 put-requires : tie.Need-put-requires
 put-requires c κs = search needs
@@ -37,8 +37,8 @@ returns c =
     let line = c .before .before .before .before .before .before .before .before .before .before .args .line in
     let few = room (c .before .before .before .before .before .before) in
     let is = c .before .before .before .before .before .before .part .ensures .0 in
-    rw (typed-open line _ is (sym (test .before .ends-line .ensures) ∙ not-true _ (test .if1 .taken)))
-    (stands _ _ _ _ (added _ _ _ _ _ (c .before .before .put .ensures .0) (c .before .before .put .ensures .1)) (omega (arith, open-few line _ is few)))
+    rw (typed-open line _ is (sym (test .before .ends-in-lf .ensures) ∙ not-true _ (test .if1 .taken)))
+    (added-at-front _ _ _ _ (added _ _ _ _ _ (c .before .before .put .ensures .0) (c .before .before .put .ensures .1)) (omega (arith, open-few line _ is few)))
 
 ended-requires : tie.Need-ended-requires
 ended-requires c κs = search needs
@@ -63,8 +63,8 @@ returns-2 c =
     let few = room (c .before .before .before .before .before .before .before .before .before .before .before .before) in
     let is = c .before .before .before .before .before .before .before .before .before .before .before .before .part .ensures .0 in
     let rest = c .before .before .before .before .before .before .before .before .ended .ensures in
-    rw (typed-ends line _ is (sym (test .before .ends-line .ensures) ∙ not-false _ (test .if1 .left)) _ rest)
-    (stands _ _ _ _
+    rw (typed-ends line _ is (sym (test .before .ends-in-lf .ensures) ∙ not-false _ (test .if1 .left)) _ rest)
+    (added-at-front _ _ _ _
     (adds-then _ _ _ _ _ _ _ (cr ∷ lf ∷ []) (added _ _ _ _ _ (begun .put2 .ensures .0) (begun .put2 .ensures .1)) (added _ _ _ _ _ (c .before .before .put3 .ensures .0) (c .before .before .put3 .ensures .1)))
     (omega (arith, typed-few line _ is few _ rest)))
 
@@ -74,7 +74,7 @@ put-typed-spec =
     (tie.spec
     slice-aggregate-part
     part-requires
-    ends-line-requires
+    ends-in-lf-requires
     put-requires
     same-length
     returns

@@ -2,12 +2,12 @@
 use Prim.Native.Nat.{ℕ}
 use mathlib.Core.Path.{ap, _∙_}
 use mathlib.Core.Bool.{cond}
-use mathlib.Core.List.{List as ListOf}
+use mathlib.Core.List.{List}
 use borrow.Author.Needs.{needs}
 use Rattle.laws.specs.Lists.{isNil}
-use Rattle.console.specs.declared.requests.Request.the-variants.{Register, Unregister, List, Unknown}
+use Rattle.console.specs.declared.requests.Request.the-variants.{Register, Unregister, Channels, Unknown}
 use Rattle.console.specs.Requests.{ended, linkIn, numbered}
-use Rattle.console.proofs.Asking.{asks-nothing, asks-register, asks-unregister, asks-list, asks-line}
+use Rattle.console.proofs.Asking.{asks-nothing, asks-register, asks-unregister, asks-channels, asks-line}
 use Rattle.console.proofs.requests.request_in.Statement.{statement}
 use Rattle.console.proofs.requests.request_in.Tie as tie
 
@@ -31,7 +31,7 @@ returns-2 c =
     let test = c .before .before .before in
     let some = test .before .before in
     c .registering .ensures
-    ∙ ap (λ (s : ListOf ℕ). numbered Register (linkIn s)) (c .before .ended .ensures ∙ ap ended (c .before .before .part .ensures .0))
+    ∙ ap (λ (s : List ℕ). numbered Register (linkIn s)) (c .before .ended .ensures ∙ ap ended (c .before .before .part .ensures .0))
     ∙ asks-register (some .before .before .args .input .now) (some .if1 .left) (test .if2 .taken)
 
 part-requires-2 : tie.Need-part-requires-2
@@ -48,7 +48,7 @@ returns-3 c =
     let test = c .before .before .before in
     let some = test .before .before .before in
     c .unregistering .ensures
-    ∙ ap (λ (s : ListOf ℕ). numbered Unregister (linkIn s)) (c .before .ended2 .ensures ∙ ap ended (c .before .before .part2 .ensures .0))
+    ∙ ap (λ (s : List ℕ). numbered Unregister (linkIn s)) (c .before .ended2 .ensures ∙ ap ended (c .before .before .part2 .ensures .0))
     ∙ asks-unregister (some .before .before .args .input .now) (some .if1 .left) (test .before .if2 .left) (test .if3 .taken)
 
 part-requires-3 : tie.Need-part-requires-3
@@ -65,8 +65,8 @@ returns-4 c =
     let test = c .before .before .before in
     let some = test .before .before .before .before in
     c .listing .ensures
-    ∙ ap (λ (s : ListOf ℕ). cond (isNil s) List Unknown) (c .before .ended3 .ensures ∙ ap ended (c .before .before .part3 .ensures .0))
-    ∙ asks-list (some .before .before .args .input .now) (some .if1 .left) (test .before .before .if2 .left) (test .before .if3 .left) (test .if4 .taken)
+    ∙ ap (λ (s : List ℕ). cond (isNil s) Channels Unknown) (c .before .ended3 .ensures ∙ ap ended (c .before .before .part3 .ensures .0))
+    ∙ asks-channels (some .before .before .args .input .now) (some .if1 .left) (test .before .before .if2 .left) (test .before .if3 .left) (test .if4 .taken)
 
 taking-requires : tie.Need-taking-requires
 taking-requires c κs = search needs

@@ -5,7 +5,7 @@ use Prim.Native.Nat.{ℕ, _+_, _-_, _≤_, _<_}
 use native.Mathlib.Omega.{arith}
 use lib.ListN.{length}
 use Rattle.message.specs.declared.Message.{Message}
-use Rattle.message.specs.Scan.{withParam}
+use Rattle.message.specs.Private.Scan.{withParam}
 use Rattle.message.proofs.Runs.{start-in, stop-in, middle-stops, middle-goes, rest-nothing, rest-trailing, rest-goes}
 use borrow.Fn.Kinds.{In}
 use borrow.Fn.PlainCycle.{Measures, is, falls, and}

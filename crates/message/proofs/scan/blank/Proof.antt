@@ -1,7 +1,7 @@
 -- `blank` meets its contract: a message opened with no part. Assumes nothing.
 use borrow.Author.Needs.{needs}
 use Rattle.message.specs.Parts.{blank}
-use Rattle.message.specs.Scan.{opened}
+use Rattle.message.specs.Private.Scan.{opened}
 use Rattle.message.proofs.scan.blank.Statement.{statement}
 use Rattle.message.proofs.scan.blank.Tie as tie
 

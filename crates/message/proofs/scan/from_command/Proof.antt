@@ -3,7 +3,7 @@ use mathlib.Core.Path.{ap}
 use native.Mathlib.Omega.{arith}
 use Rattle.message.specs.declared.Message.{Message}
 use Rattle.message.specs.Grammar.{rest}
-use Rattle.message.specs.Scan.{opened}
+use Rattle.message.specs.Private.Scan.{opened}
 use Rattle.message.proofs.Runs.{stop-in}
 use Rattle.message.proofs.Gathered.{found-command}
 use borrow.Author.Needs.{needs}

@@ -1,6 +1,6 @@
 -- `opened` meets its contract, field by field. Assumes nothing.
 use mathlib.Core.Path.{refl}
-use Rattle.message.specs.Scan.{opened}
+use Rattle.message.specs.Private.Scan.{opened}
 use Rattle.message.proofs.scan.opened.Statement.{statement}
 use Rattle.message.proofs.scan.opened.Tie as tie
 

@@ -7,7 +7,7 @@ use native.Mathlib.Omega.{arith}
 use lib.Seq.{set-out}
 use Rattle.laws.proofs.Lists.{unmapped}
 use Rattle.message.specs.Grammar.{paramLimit}
-use Rattle.message.specs.Scan.{withParam}
+use Rattle.message.specs.Private.Scan.{withParam}
 use Rattle.message.proofs.scan.with_param.Statement.{statement}
 use Rattle.message.proofs.scan.with_param.Tie as tie
 

@@ -8,7 +8,7 @@ use Rattle.laws.proofs.Lists.{unmapped}
 use Rattle.message.specs.declared.Span.{Span}
 use Rattle.message.specs.Grammar.{paramLimit}
 use Rattle.message.specs.Parts.{span, bytesAt, emptyAt, paramSpan, startIn}
-use Rattle.message.proofs.Held.{param-held, param-span-some, param-span-none}
+use Rattle.message.proofs.SpanContents.{param-held, param-span-some, param-span-none}
 use Rattle.message.proofs.spans.param_in.Statement.{statement}
 use Rattle.message.proofs.spans.param_in.Tie as tie
 

@@ -6,7 +6,7 @@ use borrow.Author.Tests.{not-true, not-false}
 use Rattle.octets.specs.Room.{placeIn}
 use Rattle.message.specs.declared.Span.{Span}
 use Rattle.message.specs.Parts.{bytesAt, emptyAt, prefixSpan, startIn}
-use Rattle.message.proofs.Held.{prefix-held, prefix-span-some, prefix-span-none}
+use Rattle.message.proofs.SpanContents.{prefix-held, prefix-span-some, prefix-span-none}
 use Rattle.message.proofs.spans.prefix_in.Statement.{statement}
 use Rattle.message.proofs.spans.prefix_in.Tie as tie
 

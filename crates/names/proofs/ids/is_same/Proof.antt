@@ -2,10 +2,12 @@
 use mathlib.Core.Path.{_≡_, refl, sym, _∙_}
 use Prim.Native.Nat.{_-_, _≤_}
 use lib.ListN.{drop}
+use lib.Dec.{eqb}
 use borrow.Author.Needs.{needs}
+use borrow.Author.Tests.{eq-eqb, ne-eqb}
 use Rattle.laws.specs.Lists.{same}
+use Rattle.laws.proofs.Lists.{sameBy-past, sameBy-stop, sameBy-go}
 use Rattle.names.specs.Names.{userIdLength}
-use Rattle.names.proofs.Places.{same-go, same-stop, same-past}
 use Rattle.names.proofs.ids.is_same.Statement.{statement}
 use Rattle.names.proofs.ids.is_same.Tie as tie
 
@@ -28,7 +30,7 @@ returns : tie.Need-returns Inv-loop μ-loop
 returns c =
     let l = c .before .before .loop in
     let a = c .before .before .before .args in
-    sym (same-stop (a .t1) (a .t2) (l .i) (search needs) (search needs) (c .if1 .taken)) ∙ l .inv .1
+    sym (sameBy-stop eqb (a .t1) (a .t2) (l .i) 0 (search needs) (search needs) (ne-eqb _ _ (c .if1 .taken))) ∙ l .inv .1
 
 add-i : tie.Need-add-i Inv-loop μ-loop
 add-i c = search needs
@@ -40,13 +42,13 @@ loop-again : tie.Need-loop-again Inv-loop μ-loop
 loop-again c =
     let l = c .before .before .loop in
     let a = c .before .before .before .args in
-    (search needs, sym (same-go (a .t1) (a .t2) (l .i) (search needs) (search needs) (c .if1 .left)) ∙ l .inv .1)
+    (search needs, sym (sameBy-go eqb (a .t1) (a .t2) (l .i) 0 (search needs) (search needs) (eq-eqb _ _ (c .if1 .left))) ∙ l .inv .1)
 
 returns-2 : tie.Need-returns-2 Inv-loop μ-loop
 returns-2 c =
     let l = c .before .loop in
     let a = c .before .before .args in
-    sym (same-past (a .t1) (a .t2) (l .i) (search needs) (search needs)) ∙ l .inv .1
+    sym (sameBy-past eqb (a .t1) (a .t2) (l .i) (search needs) (search needs)) ∙ l .inv .1
 
 pub is-same-spec : {M : Type 1} → statement M
 is-same-spec =

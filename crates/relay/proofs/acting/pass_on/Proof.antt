@@ -2,7 +2,7 @@
 use mathlib.Core.Path.{ap}
 use borrow.Author.Needs.{needs}
 use Rattle.writer.specs.declared.Written.{Written}
-use Rattle.writer.specs.Writing.{answerFor}
+use Rattle.writer.specs.Writing.{writtenAnswer}
 use Rattle.relay.proofs.acting.pass_on.Statement.{statement}
 use Rattle.relay.proofs.acting.pass_on.Tie as tie
 
@@ -13,7 +13,7 @@ same-length : tie.Need-same-length
 same-length c = search needs
 
 returns : tie.Need-returns
-unfolding answerFor
+unfolding writtenAnswer
 returns c = let w = c .before .before .forward-message .ensures in (ap (λ (x : Written). x .len) (w .0), w .1)
 
 pub pass-on-spec : {M : Type 1} → statement M

@@ -2,7 +2,7 @@
 use mathlib.Core.Path.{sym, ap}
 use borrow.Author.Needs.{needs}
 use Rattle.writer.specs.declared.Written.{Written}
-use Rattle.writer.specs.Writing.{answerFor}
+use Rattle.writer.specs.Writing.{writtenAnswer}
 use Rattle.relay.proofs.acting.tell.Statement.{statement}
 use Rattle.relay.proofs.acting.tell.Tie as tie
 
@@ -16,7 +16,7 @@ same-length : tie.Need-same-length
 same-length c = search needs
 
 returns : tie.Need-returns
-unfolding answerFor
+unfolding writtenAnswer
 returns c =
     let w = c .before .before .write-join .ensures in
     rw (sym (c .before .before .before .before .prefix-in .ensures .0)) (ap (λ (x : Written). x .len) (w .0), w .1)

@@ -13,7 +13,7 @@ use Rattle.names.specs.Names.{isChannel, isUserId}
 use Rattle.message.specs.Grammar.{paramLimit}
 use Rattle.message.specs.Content.{Content, prefixIs}
 use Rattle.message.specs.Parts.{contentBy}
-use Rattle.message.proofs.Held.{params-count}
+use Rattle.message.proofs.SpanContents.{params-count}
 use Rattle.relay.specs.declared.Asked.{Asked}
 use Rattle.relay.specs.declared.Command.the-variants.{Part}
 use Rattle.relay.specs.Parting.{partedIn, partRules}

@@ -6,7 +6,7 @@ use lib.ListN.{length}
 use borrow.Author.Needs.{needs}
 use Rattle.octets.proofs.Room.{adds-over}
 use Rattle.channel.specs.Record.{decode}
-use Rattle.writer.proofs.Answers.{over-long, stands, part-length}
+use Rattle.writer.proofs.Answers.{over-long, line-begins, part-length}
 use Rattle.telling.specs.Telling.{listText}
 use Rattle.telling.specs.Private.Pieces.{listPlace}
 use Rattle.telling.proofs.Lines.{list-over}
@@ -52,7 +52,7 @@ returns-2 c =
     let put = c .before .before in
     let test = put .before .before .before .before in
     let listed = test .before .before .put-entries in
-    rw (put .before .list-place .ensures, stands _ _ _ _ refl (listed .ensures) (test .if1 .left)) at (put .put-last .ensures)
+    rw (put .before .list-place .ensures, line-begins _ _ _ _ refl (listed .ensures) (test .if1 .left)) at (put .put-last .ensures)
 
 pub put-list-spec : {M : Type 1} → statement M
 put-list-spec =

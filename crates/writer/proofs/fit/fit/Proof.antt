@@ -1,7 +1,7 @@
 -- `fit` meets its contract: the tests of the definition, in its order. Assumes nothing.
 use mathlib.Core.Path.{sym, _∙_}
 use borrow.Author.Tests.{lt-leb, le-leb, not-true, not-false}
-use Rattle.writer.specs.Fit.{fit}
+use Rattle.writer.specs.Private.Fit.{fit}
 use borrow.Author.Needs.{needs}
 use Rattle.message.specs.Grammar.{paramLimit}
 use Rattle.writer.proofs.fit.fit.Statement.{statement}

@@ -1,7 +1,7 @@
 -- `fit_command` meets its contract: the span's test, then the command's. Assumes nothing.
 use mathlib.Core.Path.{sym, _∙_}
 use borrow.Author.Tests.{not-true, not-false}
-use Rattle.writer.specs.Fit.{fitCommand}
+use Rattle.writer.specs.Private.Fit.{fitCommand}
 use borrow.Author.Needs.{needs}
 use Rattle.writer.proofs.fit.fit_command.Statement.{statement}
 use Rattle.writer.proofs.fit.fit_command.Tie as tie

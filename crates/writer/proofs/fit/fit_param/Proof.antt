@@ -1,7 +1,7 @@
 -- `fit_param` meets its contract: the span's test, then the parameter's. Assumes nothing.
 use mathlib.Core.Path.{sym, _∙_}
 use borrow.Author.Tests.{not-true, not-false}
-use Rattle.writer.specs.Fit.{fitParam}
+use Rattle.writer.specs.Private.Fit.{fitParam}
 use borrow.Author.Needs.{needs}
 use Rattle.writer.proofs.fit.fit_param.Statement.{statement}
 use Rattle.writer.proofs.fit.fit_param.Tie as tie

@@ -4,7 +4,7 @@ use native.Mathlib.Omega.{arith}
 use borrow.Author.Tests.{not-true, not-false}
 use Prim.Native.Nat.{_-_, _≤_}
 use lib.ListN.{length, take, drop, drop-of-length-le, length-take}
-use Rattle.writer.specs.Fit.{fitParams}
+use Rattle.writer.specs.Private.Fit.{fitParams}
 use Rattle.laws.proofs.Lists.{unmapped}
 use Rattle.writer.proofs.Parts.{fit-stop, fit-go}
 use borrow.Author.Needs.{needs}

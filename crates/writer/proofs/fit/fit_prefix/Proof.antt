@@ -9,7 +9,7 @@ use denote.Ref.{now}
 use Rattle.message.specs.declared.Message.{Message}
 use Rattle.message.specs.Parts.{bytesAt}
 use Rattle.writer.specs.Form.{liesIn}
-use Rattle.writer.specs.Fit.{fitPrefix}
+use Rattle.writer.specs.Private.Fit.{fitPrefix}
 use Rattle.writer.proofs.Parts.{prefix-outside, prefix-empty, prefix-control, prefix-word}
 use borrow.Author.Needs.{needs}
 use Rattle.writer.proofs.fit.fit_prefix.Statement.{statement}

@@ -1,7 +1,7 @@
 -- `good_param` meets its contract: each return is the tests that led there. Assumes nothing.
 use mathlib.Core.Path.{sym, _∙_}
 use borrow.Author.Tests.{not-true, not-false}
-use Rattle.writer.specs.Fit.{goodParam}
+use Rattle.writer.specs.Private.Fit.{goodParam}
 use borrow.Author.Needs.{needs}
 use Rattle.writer.proofs.fit.good_param.Statement.{statement}
 use Rattle.writer.proofs.fit.good_param.Tie as tie

@@ -1,5 +1,4 @@
--- What the private functions of src/lib.rt promise: one step of a match, and many. No public contract cites this file: nobody needs to
--- believe it.
+-- A match in steps: one, and many.
 use Prim.Native.Nat.{ℕ, zero, suc, _+_, _*_, _≤_}
 use mathlib.Core.Bool.{true, false, cond}
 use mathlib.Core.List.{List}

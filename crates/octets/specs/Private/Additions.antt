@@ -1,4 +1,4 @@
--- A line put together part by part, for the private contracts of functions that do so. No public contract cites this file: nobody needs to believe it.
+-- A line put together part by part: what it holds so far, and what is added to that.
 use Prim.Native.Nat.{ℕ, suc, _≤_, min}
 use mathlib.Core.Path.{_≡_}
 use mathlib.Core.List.{List, _++_}

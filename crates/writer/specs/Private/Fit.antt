@@ -1,5 +1,4 @@
--- What private functions promise: the tests of src/fit.rt, which `Fitting` of proofs/ shows to be exactly those of number 24, the message as it is put,
--- and the answer of a refusal. No public contract cites this file: nobody needs to believe it.
+-- The tests of src/fit.rt, which `Fitting` of proofs/ shows to be exactly those of number 24, the message as it is put, and the answer of a refusal.
 use Prim.Native.Nat.{ℕ}
 use mathlib.Core.Bool.{Bool, true, not, cond, _&&_, _||_}
 use mathlib.Core.List.{List, [], _∷_, map}

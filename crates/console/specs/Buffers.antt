@@ -15,6 +15,6 @@ abbrev pub typedRoom : ℕ
 typedRoom = 525
 
 -- The buffer begins with w, and n is where w ends.
-pub record Stands (out : List ℕ) (n : ℕ) (w : List ℕ) : Type 0 where
+pub record AtFront (out : List ℕ) (n : ℕ) (w : List ℕ) : Type 0 where
   pub counts : n ≡ length w
   pub begins : take n out ≡ w

@@ -1,8 +1,8 @@
--- `ends_line` meets its contract: nothing ends no line, and else the last byte decides. Assumes nothing.
+-- `ends_in_lf` meets its contract: nothing ends no line, and else the last byte decides. Assumes nothing.
 use borrow.Author.Needs.{needs}
 use Rattle.console.proofs.Splitting.{ends-nothing}
-use Rattle.console.proofs.lines.ends_line.Statement.{statement}
-use Rattle.console.proofs.lines.ends_line.Tie as tie
+use Rattle.console.proofs.lines.ends_in_lf.Statement.{statement}
+use Rattle.console.proofs.lines.ends_in_lf.Tie as tie
 
 returns : tie.Need-returns
 returns c = ends-nothing (c .before .args .bytes .now) (c .if1 .taken)
@@ -16,5 +16,5 @@ shared-slice-read-result c = search needs
 returns-2 : tie.Need-returns-2
 returns-2 c = search needs
 
-pub ends-line-spec : {M : Type 1} → statement M
-ends-line-spec = tie.close (tie.spec returns sub-result shared-slice-read-result returns-2)
+pub ends-in-lf-spec : {M : Type 1} → statement M
+ends-in-lf-spec = tie.close (tie.spec returns sub-result shared-slice-read-result returns-2)

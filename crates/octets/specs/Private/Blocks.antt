@@ -1,4 +1,4 @@
--- The search for a byte block by block, for the private contracts of functions that do so. No public contract cites this file: nobody needs to believe it.
+-- The search for a byte, block by block.
 use Prim.Native.Nat.{ℕ, _≤_}
 use mathlib.Core.Path.{_≡_}
 use mathlib.Core.Bool.{true}

@@ -1,4 +1,4 @@
--- What private functions promise. No public contract cites this file: nobody needs to believe it.
+-- What the scan of a body makes of it: a message that parameters are added to, one by one.
 use Prim.Native.Nat.{ℕ, _+_}
 use mathlib.Core.Bool.{Bool, cond}
 use mathlib.Core.List.{List, [], _∷_}
