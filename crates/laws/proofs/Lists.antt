@@ -171,10 +171,6 @@ module _ {A : Type 0} (t : A → A → Bool) where
   sameBy-refl f [] = refl
   sameBy-refl f (x ∷ l) = and-intro (t x x) (sameBy t l l) (f x) (sameBy-refl f l)
 
-  pub sameBy-cons : (x y : A) (l m : List A) → sameBy t (x ∷ l) (y ∷ m) ≡ t x y && sameBy t l m
-  unfolding sameBy
-  sameBy-cons x y l m = refl
-
   pub sameBy-true : ((x y : A) → t x y ≡ true → x ≡ y) → (l m : List A) → sameBy t l m ≡ true → l ≡ m
   unfolding sameBy
   sameBy-true f [] [] e = refl
