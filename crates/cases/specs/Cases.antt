@@ -52,15 +52,13 @@ unfoldable pub keyed : List ℕ → Record
 keyed key = encode (record {
   name = 35 ∷ 97 ∷ [];
   time = 1;
-  modes = withMode 0 keyMode;
-  key = key;
-  limit = 0;
+  settings = record { modes = withMode 0 keyMode; key = key; limit = 0 };
   members = member (49 ∷ 65 ∷ 66 ∷ 65 ∷ 65 ∷ 65 ∷ 65 ∷ 65 ∷ 65 ∷ []) 0 ∷ [];
 })
 
 -- a merge that isn't refused, and the key of its record
 abbrev pub merged : Merged → List ℕ → Bool
-merged m key = eqb (m .number) accepted && same (decode (m .result) .key) key
+merged m key = eqb (m .number) accepted && same (decode (m .result) .settings .key) key
 
 unfoldable pub holds : Case → Bool
 holds (reads text c) = answers (lineOf text) accepted (length (c .params)) && sameContent (contentOf (lineOf text)) c

@@ -16,9 +16,7 @@ unfoldable pub stored : Channel
 stored = record {
   name = 35 ∷ 82 ∷ 97 ∷ 99 ∷ 101 ∷ [];
   time = 1000;
-  modes = withMode 0 keyMode;
-  key = 98 ∷ 117 ∷ 111 ∷ 121 ∷ [];
-  limit = 0;
+  settings = record { modes = withMode 0 keyMode; key = 98 ∷ 117 ∷ 111 ∷ 121 ∷ []; limit = 0 };
   members = member 2cd 2 ∷ [];
 }
 
@@ -27,8 +25,6 @@ unfoldable pub incoming : Channel
 incoming = record {
   name = 35 ∷ 114 ∷ 97 ∷ 99 ∷ 101 ∷ [];
   time = 1200;
-  modes = withMode (withMode 0 (modePlace 110)) (modePlace 116);
-  key = [];
-  limit = 0;
+  settings = record { modes = withMode (withMode 0 (modePlace 110)) (modePlace 116); key = []; limit = 0 };
   members = member (1ab 65) 2 ∷ member (1ab 66) 0 ∷ [];
 }

@@ -17,7 +17,7 @@ use Rattle.channel.specs.declared.Record.{Record}
 use Rattle.channel.specs.Limits.{memberLimit, keyLimit, timeLimit}
 use Rattle.channel.specs.Modes.{modeCount}
 use Rattle.channel.specs.Record.{decode}
-use Rattle.channel.specs.WellFormed.{isVacant, goodTime, goodModes, goodKey, goodLimit, goodMembers, channelTests, inRoom, clear, wellFormed}
+use Rattle.channel.specs.WellFormed.{isVacant, goodTime, goodKey, goodLimit, goodSettings, goodMembers, channelTests, inRoom, clear, wellFormed}
 use Rattle.channel.proofs.Places.{places}
 
 -- every test of a list passes
@@ -73,7 +73,7 @@ reordered false v i n k c t q l m a = simp and-false
 
 module _ (r : Record) (m : length (r .members) ≡ memberLimit) (t : r .time ≤ timeLimit) (b : r .modes < 2 ^ modeCount) where
   pub well-tests : wellFormed r ≡ passed (tests r)
-  unfolding wellFormed clear channelTests decode goodTime goodModes goodMembers all
+  unfolding wellFormed clear channelTests decode goodTime goodSettings goodMembers all
   well-tests = simp (
     le-leb (r .time) timeLimit t,
     lt-ltb (r .modes) (2 ^ modeCount) b,

@@ -20,12 +20,12 @@ use Rattle.channel.specs.Limits.{keyLimit, memberLimit}
 use Rattle.channel.specs.Channel.{Channel, member}
 use Rattle.channel.specs.Record.{nobody, encode, decode}
 use Rattle.channel.specs.WellFormed.{isVacant, inRoom, clear}
-use Rattle.channel.proofs.Fields.{channel-path}
+use Rattle.channel.proofs.Fields.{settings-path, channel-path}
 
 -- A channel keeps to the room that a record has.
 pub record Fits (c : Channel) : Type 0 where
   pub name : length (c .name) ≤ nameLimit
-  pub key : length (c .key) ≤ keyLimit
+  pub key : length (c .settings .key) ≤ keyLimit
   pub members : length (c .members) ≤ memberLimit
 
 -- What the record's type says of its arrays: they have their lengths.
@@ -39,17 +39,19 @@ pub record Sized (r : Record) : Type 0 where
 pub decode-encode : (c : Channel) → Fits c → decode (encode c) ≡ c
 unfolding encode decode
 decode-encode c f =
-    channel-path (take-padded 0 nameLimit (c .name) (f .name)) refl refl (take-padded 0 keyLimit (c .key) (f .key)) refl (take-padded nobody memberLimit (c .members) (f .members))
+    channel-path (take-padded 0 nameLimit (c .name) (f .name)) refl
+    (settings-path refl (take-padded 0 keyLimit (c .settings .key) (f .key)) refl)
+    (take-padded nobody memberLimit (c .members) (f .members))
 
 -- it keeps to its room
 pub encode-room : (c : Channel) → Fits c → inRoom (encode c) ≡ true
 unfolding encode inRoom
-encode-room c f = simp (le-leb (length (c .name)) nameLimit (f .name), le-leb (length (c .key)) keyLimit (f .key), le-leb (length (c .members)) memberLimit (f .members))
+encode-room c f = simp (le-leb (length (c .name)) nameLimit (f .name), le-leb (length (c .settings .key)) keyLimit (f .key), le-leb (length (c .members)) memberLimit (f .members))
 
 -- and leaves the rest zero
 pub encode-clear : (c : Channel) → clear (encode c) ≡ true
 unfolding encode clear all
-encode-clear c = simp (all-padded 0 isZero refl nameLimit (c .name), all-padded 0 isZero refl keyLimit (c .key), all-padded nobody isVacant refl memberLimit (c .members))
+encode-clear c = simp (all-padded 0 isZero refl nameLimit (c .name), all-padded 0 isZero refl keyLimit (c .settings .key), all-padded nobody isVacant refl memberLimit (c .members))
 
 -- ---- room that is zero
 pub zeros : (l : List ℕ) → all isZero l ≡ true → l ≡ replicate (length l) 0

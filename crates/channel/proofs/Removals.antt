@@ -100,7 +100,7 @@ nil-not (e ∷ l) h = omega arith
 
 decode-with : (r : Record) (l : List Member) → length l ≤ memberLimit → decode (withMembers r l) ≡ peopled (decode r) l
 unfolding decode withMembers
-decode-with r l h = channel-path refl refl refl refl refl (take-padded nobody memberLimit l h)
+decode-with r l h = channel-path refl refl refl (take-padded nobody memberLimit l h)
 
 well-with : (r : Record) (l : List Member) → wellFormed r ≡ true → Proper (peopled (decode r) l) → wellFormed (withMembers r l) ≡ true
 unfolding withMembers inRoom clear all
@@ -142,11 +142,7 @@ module _ (id : List ℕ) (r : Record) (h : wellFormed r ≡ true) where
         name = p .name;
         from = p .from;
         until = p .until;
-        modes = p .modes;
-        keyed = p .keyed;
-        key = p .key;
-        limited = p .limited;
-        limit = p .limit;
+        settings = p .settings;
         some = nil-not rest e;
         few = rest-few;
         listed = all-others id goodMember (decode r .members) (p .listed);

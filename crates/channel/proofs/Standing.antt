@@ -1,33 +1,30 @@
 -- What of a channel stands at a time: whether it counts or not, its members are the same people, and only their statuses hang on it. What stands of a proper
 -- channel is one, since each fact holds of all that it has and of nothing. Assumes nothing.
-use Prim.Native.Nat.{ℕ, _≤_, _<_, _^_}
+use Prim.Native.Nat.{ℕ, _≤_, _<_}
 use mathlib.Core.Path.{_≡_, refl, _∙_}
-use mathlib.Core.Bool.{true, false, _||_, not, cond}
-use mathlib.Core.List.{List, []}
+use mathlib.Core.Bool.{true, false, cond}
+use mathlib.Core.List.{List}
 use native.Mathlib.Omega.{arith}
 use lib.ListN.{length, length-map}
-use lib.Dec.{ltb}
 use borrow.Author.Tests.{eq-eqb, ne-eqb}
-use Rattle.laws.specs.Lists.{all, isNil}
+use Rattle.laws.specs.Lists.{all}
 use Rattle.laws.proofs.Lists.{all-map}
 use Rattle.ascending.proofs.Ascends.{Ascending}
 use Rattle.ascending.proofs.Contents.{has, ascending-restated, has-restated, content-restated}
 use Rattle.names.specs.Names.{isChannel}
 use Rattle.channel.specs.declared.Member.{Member}
-use Rattle.channel.specs.Limits.{timeLimit, limitLimit}
-use Rattle.channel.specs.Modes.{hasMode, modeCount, keyMode, limitMode}
-use Rattle.channel.specs.Key.{isKey}
+use Rattle.channel.specs.Limits.{timeLimit}
+use Rattle.channel.specs.Settings.{noSettings}
 use Rattle.channel.specs.Channel.{Channel, member, byId}
 use Rattle.channel.specs.WellFormed.{goodMember}
 use Rattle.channel.specs.Members.{statusIn}
-use Rattle.channel.specs.Standing.{counts, given, bare, standing}
-use Rattle.channel.proofs.Letters.{has-no-mode}
+use Rattle.channel.specs.Standing.{counts, settingsAt, bare, standing}
 use Rattle.channel.proofs.Statuses.{keyed-byId, lawful-byId, named}
-use Rattle.channel.proofs.Proper.{Proper, member-says, member-passes}
+use Rattle.channel.proofs.Proper.{ProperSettings, Proper, proper-none, member-says, member-passes}
 
 -- ---- when a channel counts
 -- at its own time
-pub counts-own : (c : Channel) → counts (c .time) c ≡ true
+counts-own : (c : Channel) → counts (c .time) c ≡ true
 unfolding counts
 counts-own c = eq-eqb (c .time) (c .time) refl
 
@@ -35,6 +32,25 @@ counts-own c = eq-eqb (c .time) (c .time) refl
 pub counts-late : (time : ℕ) (c : Channel) → time < c .time → counts time c ≡ false
 unfolding counts
 counts-late time c k = ne-eqb (c .time) time (λ e. omega arith)
+
+-- so at its own time all of it stands
+pub settings-own : (c : Channel) → settingsAt (c .time) c ≡ c .settings
+unfolding settingsAt
+settings-own c = rw (counts-own c)
+
+pub standing-own : (c : Channel) → standing (c .time) c ≡ c .members
+unfolding standing
+standing-own c = rw (counts-own c)
+
+-- and at an earlier one only its users do
+module _ (time : ℕ) (c : Channel) (k : time < c .time) where
+  pub settings-late : settingsAt time c ≡ noSettings
+  unfolding settingsAt
+  settings-late = rw (counts-late time c k)
+
+  pub standing-late : standing time c ≡ bare (c .members)
+  unfolding standing
+  standing-late = rw (counts-late time c k)
 
 -- ---- members without status
 module _ (x : List ℕ) (l : List Member) where
@@ -53,12 +69,6 @@ module _ (time : ℕ) (c : Channel) where
   pub has-standing : (x : List ℕ) → has byId x (standing time c) ≡ named x c
   unfolding standing
   has-standing x = elim (counts time c) as (λ t. has byId x (cond t (c .members) (bare (c .members))) ≡ named x c) [ true ↦ refl | false ↦ has-bare x (c .members) ]
-
-  -- their statuses if it counts
-  pub status-standing : (x : List ℕ) → statusIn x (standing time c) ≡ given 0 (λ d. statusIn x (d .members)) time c
-  unfolding standing
-  status-standing x =
-      elim (counts time c) as (λ t. statusIn x (cond t (c .members) (bare (c .members))) ≡ cond t (statusIn x (c .members)) 0) [ true ↦ refl | false ↦ status-bare x (c .members) ]
 
   -- in the same order
   pub ascending-standing : Ascending byId (c .members) → Ascending byId (standing time c)
@@ -79,31 +89,13 @@ module _ (time : ℕ) (c : Channel) (p : Proper c) where
       elim (counts time c) as (λ t. all goodMember (cond t (c .members) (bare (c .members))) ≡ true)
       [ true ↦ p .listed | false ↦ all-map goodMember (λ m. member (m .id) 0) (λ m h. member-passes (member (m .id) 0) (member-says m h .0) (omega arith)) (c .members) (p .listed) ]
 
-  given-modes : given 0 (λ d. d .modes) time c < 2 ^ modeCount
-  given-modes = elim (counts time c) as (λ t. cond t (c .modes) 0 < 2 ^ modeCount) [ true ↦ p .modes | false ↦ omega arith ]
-
-  given-key : (isNil (given [] (λ d. d .key) time c) || isKey (given [] (λ d. d .key) time c)) ≡ true
-  given-key = elim (counts time c) as (λ t. (isNil (cond t (c .key) []) || isKey (cond t (c .key) [])) ≡ true) [ true ↦ p .key | false ↦ refl ]
-
-  given-limit : given 0 (λ d. d .limit) time c ≤ limitLimit
-  given-limit = elim (counts time c) as (λ t. cond t (c .limit) 0 ≤ limitLimit) [ true ↦ p .limit | false ↦ omega arith ]
-
-  given-keyed : hasMode (given 0 (λ d. d .modes) time c) keyMode ≡ not (isNil (given [] (λ d. d .key) time c))
-  given-keyed = elim (counts time c) as (λ t. hasMode (cond t (c .modes) 0) keyMode ≡ not (isNil (cond t (c .key) []))) [ true ↦ p .keyed | false ↦ has-no-mode keyMode ]
-
-  given-limited : hasMode (given 0 (λ d. d .modes) time c) limitMode ≡ ltb 0 (given 0 (λ d. d .limit) time c)
-  given-limited = elim (counts time c) as (λ t. hasMode (cond t (c .modes) 0) limitMode ≡ ltb 0 (cond t (c .limit) 0)) [ true ↦ p .limited | false ↦ has-no-mode limitMode ]
+  proper-settings : ProperSettings (settingsAt time c)
+  unfolding settingsAt
+  proper-settings = elim (counts time c) as (λ t. ProperSettings (cond t (c .settings) noSettings)) [ true ↦ p .settings | false ↦ proper-none ]
 
 -- what it gives at a time, under a name
 abbrev pub sided : List ℕ → ℕ → Channel → Channel
-sided name time c = record {
-  name = name;
-  time = time;
-  modes = given 0 (λ d. d .modes) time c;
-  key = given [] (λ d. d .key) time c;
-  limit = given 0 (λ d. d .limit) time c;
-  members = standing time c;
-}
+sided name time c = record { name = name; time = time; settings = settingsAt time c; members = standing time c }
 
 -- which is a proper channel too
 pub proper-sided : (name : List ℕ) (time : ℕ) (c : Channel) → isChannel name ≡ true → 1 ≤ time → time ≤ timeLimit → Proper c → Proper (sided name time c)
@@ -111,11 +103,7 @@ proper-sided name time c n h k p = record {
   name = n;
   from = h;
   until = k;
-  modes = given-modes time c p;
-  keyed = given-keyed time c p;
-  key = given-key time c p;
-  limited = given-limited time c p;
-  limit = given-limit time c p;
+  settings = proper-settings time c p;
   some = omega (arith, length-standing time c, p .some);
   few = omega (arith, length-standing time c, p .few);
   listed = listed-standing time c p;

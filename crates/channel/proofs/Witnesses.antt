@@ -21,7 +21,7 @@ use Rattle.channel.specs.Modes.{hasMode, withMode, keyMode, limitMode, p
 use Rattle.channel.specs.Key.{isKey}
 use Rattle.channel.specs.Channel.{Channel, member}
 use Rattle.channel.specs.Record.{nobody, emptyRecord, encode, decode}
-use Rattle.channel.specs.WellFormed.{goodTime, goodModes, goodKey, goodLimit, goodMember, goodMembers, channelTests, inRoom, clear, wellFormed}
+use Rattle.channel.specs.WellFormed.{goodTime, goodKey, goodLimit, goodSettings, goodMember, goodMembers, channelTests, inRoom, clear, wellFormed}
 use Rattle.channel.specs.Members.{statusIn, others, withMembers, without}
 use Rattle.channel.specs.Standing.{counts}
 use Rattle.channel.proofs.Letters.{has-no-mode, has-with}
@@ -37,9 +37,7 @@ unfoldable pub second : Channel
 second = record {
   name = 35 ∷ 82 ∷ 65 ∷ 67 ∷ 69 ∷ [];
   time = 1000;
-  modes = withMode (withMode 0 keyMode) limitMode;
-  key = 99 ∷ 111 ∷ 118 ∷ 101 ∷ [];
-  limit = 20;
+  settings = record { modes = withMode (withMode 0 keyMode) limitMode; key = 99 ∷ 111 ∷ 118 ∷ 101 ∷ []; limit = 20 };
   members = member (1ab 65) 0 ∷ member 2cd 1 ∷ [];
 }
 
@@ -51,7 +49,7 @@ abbrev passes : Channel → Bool
 passes c = all (λ t. t) (channelTests c)
 
 lines-pass : all passes lines ≡ true
-unfolding channelTests goodTime goodModes goodKey goodLimit goodMember goodMembers all startsWith within isDigit isIdByte isNameByte isKeyByte isPlain isChannel isServerId isUserId isKey hasBit ascends compare withMode placeAmong stored incoming second 1ab 2cd
+unfolding channelTests goodTime goodKey goodLimit goodSettings goodMember goodMembers all startsWith within isDigit isIdByte isNameByte isKeyByte isPlain isChannel isServerId isUserId isKey hasBit ascends compare withMode placeAmong stored incoming second 1ab 2cd
 lines-pass = refl
 
 all-mem : {c : Channel} {s : List Channel} → List·Memᴰ c s → all passes s ≡ true → passes c ≡ true
@@ -73,7 +71,7 @@ abbrev pub second-in : List·Memᴰ second lines
 second-in = List·Memᴰ·tail (List·Memᴰ·tail (List·Memᴰ·head refl))
 
 -- ---- modes: the stored record has k and no other
-only-key : (place : ℕ) → hasMode (stored .modes) place ≡ eqb place keyMode
+only-key : (place : ℕ) → hasMode (stored .settings .modes) place ≡ eqb place keyMode
 unfolding stored
 only-key place = has-with 0 keyMode place (omega arith) ∙ ap (λ (t : Bool). t || eqb place keyMode) (has-no-mode place)
 

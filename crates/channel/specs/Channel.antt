@@ -1,16 +1,15 @@
--- A channel: what a record holds, as lists. No key is the empty list, no limit is 0.
+-- A channel: what a record holds, as lists.
 use Prim.Native.Nat.{ℕ, _^_}
 use mathlib.Core.List.{List}
 use lib.Bits.{bitOr}
 use Rattle.ascending.specs.Ascending.{Kind}
 use Rattle.channel.specs.declared.Member.{Member}
+use Rattle.channel.specs.Settings.{Settings}
 
 pub record Channel : Type 0 where
   pub name : List ℕ
   pub time : ℕ
-  pub modes : ℕ
-  pub key : List ℕ
-  pub limit : ℕ
+  pub settings : Settings
   pub members : List Member
 
 -- ---- members, each with a status of voice 1 plus operator 2

@@ -1,6 +1,7 @@
 pub mod Limits
 pub mod Modes
 pub mod Key
+pub mod Settings
 pub mod Channel
 pub mod Record
 pub mod WellFormed

@@ -6,6 +6,7 @@ use Rattle.names.specs.Names.{nameLimit, userIdLength}
 use Rattle.channel.specs.declared.Member.{Member}
 use Rattle.channel.specs.declared.Record.{Record}
 use Rattle.channel.specs.Limits.{memberLimit, keyLimit}
+use Rattle.channel.specs.Settings.{noSettings}
 use Rattle.channel.specs.Channel.{Channel, member}
 
 -- an unused place
@@ -17,10 +18,10 @@ encode c = record {
   name = padded nameLimit 0 (c .name);
   «name_len» = length (c .name);
   time = c .time;
-  modes = c .modes;
-  key = padded keyLimit 0 (c .key);
-  «key_len» = length (c .key);
-  limit = c .limit;
+  modes = c .settings .modes;
+  key = padded keyLimit 0 (c .settings .key);
+  «key_len» = length (c .settings .key);
+  limit = c .settings .limit;
   members = padded memberLimit nobody (c .members);
   count = length (c .members);
 }
@@ -29,15 +30,13 @@ unfoldable pub decode : Record → Channel
 decode r = record {
   name = take (r .«name_len») (r .name);
   time = r .time;
-  modes = r .modes;
-  key = take (r .«key_len») (r .key);
-  limit = r .limit;
+  settings = record { modes = r .modes; key = take (r .«key_len») (r .key); limit = r .limit };
   members = take (r .count) (r .members);
 }
 
 -- no channel: a free slot
 abbrev pub noChannel : Channel
-noChannel = record { name = []; time = 0; modes = 0; key = []; limit = 0; members = [] }
+noChannel = record { name = []; time = 0; settings = noSettings; members = [] }
 
 unfoldable pub emptyRecord : Record
 emptyRecord = encode noChannel

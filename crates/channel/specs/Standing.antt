@@ -1,18 +1,19 @@
--- What of a channel stands at a time (document 01, 'SJOIN'): its modes, key, limit and statuses only if the time is its own, its users in any case.
+-- What of a channel stands at a time (document 01, 'SJOIN'): its settings and statuses only if the time is its own, its users in any case.
 use Prim.Native.Nat.{ℕ}
 use mathlib.Core.Bool.{Bool, cond}
 use mathlib.Core.List.{List, map}
 use lib.Dec.{eqb}
 use Rattle.channel.specs.declared.Member.{Member}
+use Rattle.channel.specs.Settings.{Settings, noSettings}
 use Rattle.channel.specs.Channel.{Channel, member}
 
 -- a channel counts at a time if it is its own
 unfoldable pub counts : ℕ → Channel → Bool
 counts time c = eqb (c .time) time
 
--- what it gives if it counts, and nothing otherwise
-abbrev pub given : {A : Type 0} → A → (Channel → A) → ℕ → Channel → A
-given nothing f time c = cond (counts time c) (f c) nothing
+-- its settings if it counts, and none otherwise
+unfoldable pub settingsAt : ℕ → Channel → Settings
+settingsAt time c = cond (counts time c) (c .settings) noSettings
 
 -- the members without status
 unfoldable pub bare : List Member → List Member

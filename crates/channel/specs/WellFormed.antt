@@ -13,6 +13,7 @@ use Rattle.channel.specs.declared.Record.{Record}
 use Rattle.channel.specs.Limits.{memberLimit, keyLimit, timeLimit, limitLimit}
 use Rattle.channel.specs.Modes.{modeCount, hasMode, keyMode, limitMode}
 use Rattle.channel.specs.Key.{isKey}
+use Rattle.channel.specs.Settings.{Settings}
 use Rattle.channel.specs.Channel.{Channel, voice, operator, byId}
 use Rattle.channel.specs.Record.{decode}
 
@@ -21,10 +22,6 @@ use Rattle.channel.specs.Record.{decode}
 unfoldable pub goodTime : ℕ → Bool
 goodTime time = leb 1 time && leb time timeLimit
 
--- the modes are one byte
-unfoldable pub goodModes : ℕ → Bool
-goodModes modes = ltb modes (2 ^ modeCount)
-
 -- a key, present exactly with k
 unfoldable pub goodKey : ℕ → List ℕ → Bool
 goodKey modes key = Bool·beq (hasMode modes keyMode) (not (isNil key)) && (isNil key || isKey key)
@@ -32,6 +29,10 @@ goodKey modes key = Bool·beq (hasMode modes keyMode) (not (isNil key)) && (isNi
 -- a limit of 1 to 65,535, present exactly with l
 unfoldable pub goodLimit : ℕ → ℕ → Bool
 goodLimit modes limit = Bool·beq (hasMode modes limitMode) (ltb 0 limit) && leb limit limitLimit
+
+-- modes of one byte, with the key and the limit that they ask for
+unfoldable pub goodSettings : Settings → Bool
+goodSettings s = ltb (s .modes) (2 ^ modeCount) && (goodKey (s .modes) (s .key) && goodLimit (s .modes) (s .limit))
 
 -- the most that a status can be
 abbrev pub bothStatuses : ℕ
@@ -47,14 +48,7 @@ goodMembers l = leb 1 (length l) && (leb (length l) memberLimit && (all goodMemb
 
 -- the tests of a channel
 unfoldable pub channelTests : Channel → List Bool
-channelTests c =
-    isChannel (c .name)
-    ∷ goodTime (c .time)
-    ∷ goodModes (c .modes)
-    ∷ goodKey (c .modes) (c .key)
-    ∷ goodLimit (c .modes) (c .limit)
-    ∷ goodMembers (c .members)
-    ∷ []
+channelTests c = isChannel (c .name) ∷ goodTime (c .time) ∷ goodSettings (c .settings) ∷ goodMembers (c .members) ∷ []
 
 -- ---- of the record that holds it
 abbrev pub isVacant : Member → Bool

@@ -84,9 +84,7 @@ unfoldable pub third : Channel
 third = record {
   name = 35 ∷ 82 ∷ 65 ∷ 67 ∷ 69 ∷ [];
   time = 1000;
-  modes = 192;
-  key = 99 ∷ 111 ∷ 118 ∷ 101 ∷ [];
-  limit = 20;
+  settings = record { modes = 192; key = 99 ∷ 111 ∷ 118 ∷ 101 ∷ []; limit = 20 };
   members = member (1ab 65) 0 ∷ member 2cd 1 ∷ [];
 }
 

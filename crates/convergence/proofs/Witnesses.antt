@@ -14,11 +14,11 @@ use Rattle.ascending.specs.Ascending.{insert, put, unite}
 use Rattle.channel.specs.Channel.{Channel, member}
 use Rattle.channel.specs.Record.{encode, decode, emptyRecord}
 use Rattle.channel.specs.Modes.{withMode}
-use Rattle.channel.specs.Standing.{counts}
+use Rattle.channel.specs.Standing.{counts, settingsAt, bare, standing}
 use Rattle.channel.specs.Members.{statusIn}
 use Rattle.channel.proofs.Examples.{2cd, 1ab, stored, incoming}
 use Rattle.merging.specs.declared.Merged.{Merged}
-use Rattle.merging.specs.Key.{greater}
+use Rattle.merging.specs.Settings.{greater, joinSettings}
 use Rattle.merging.specs.Merging.{merge, mergeAnswer}
 use Rattle.merging.specs.Plain.{earliest, entries, everyone, statusAt, plain}
 use Rattle.links.specs.Links.{hasLink}
@@ -90,14 +90,12 @@ after : Channel
 after = record {
   name = 35 ∷ 114 ∷ 97 ∷ 99 ∷ 101 ∷ [];
   time = 1000;
-  modes = 192;
-  key = 99 ∷ 111 ∷ 118 ∷ 101 ∷ [];
-  limit = 20;
+  settings = record { modes = 192; key = 99 ∷ 111 ∷ 118 ∷ 101 ∷ []; limit = 20 };
   members = member (1ab 65) 0 ∷ member (1ab 66) 0 ∷ member 2cd 3 ∷ [];
 }
 
 js-plain : plain incoming (stored ∷ third ∷ []) ≡ after
-unfolding plain earliest counts everyone entries statusIn statusAt sameBy insert put unite compare greater withMode stored incoming third after 1ab 2cd
+unfolding plain earliest counts settingsAt bare standing everyone entries statusIn statusAt sameBy insert put unite compare greater joinSettings withMode stored incoming third after 1ab 2cd
 js-plain = refl
 
 js-left : tableAfter ours (start 41) js ≡ withNetwork (start 41) (withSlots (networkOf (start 41)) (set (start 41 .slots) 0 (encode after)))
@@ -168,7 +166,7 @@ apart-kept =
     (kept-by (later ∷ equal ∷ earlier ∷ []) (incoming ∷ third ∷ stored ∷ []) (rw (later-tells, earlier-tells, equal-tells)) (incoming-race, (third-race, (stored-race, tt))) (omega arith))
 
 apart-plain : plain incoming (third ∷ stored ∷ []) ≡ after
-unfolding plain earliest counts everyone entries statusIn statusAt sameBy insert put unite compare greater withMode stored incoming third after 1ab 2cd
+unfolding plain earliest counts settingsAt bare standing everyone entries statusIn statusAt sameBy insert put unite compare greater joinSettings withMode stored incoming third after 1ab 2cd
 apart-plain = refl
 
 apart : mergeAnswer (firstSlot (tableAfter ours (start 41) first)) (firstSlot (tableAfter ours (start 7) second)) ≡ record { number = accepted; result = encode after }

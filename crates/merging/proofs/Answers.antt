@@ -11,33 +11,32 @@ use borrow.Author.Tests.{lt-ltb, le-ltb}
 use Rattle.refusal.specs.Numbers.{accepted, notWellFormed, badName, tooManyMembers}
 use Rattle.refusal.specs.Rules.{Rule, _when_, firstOf}
 use Rattle.refusal.proofs.Rules.{skip, stop, first-nil}
-use Rattle.laws.specs.Lists.{padded}
 use Rattle.ascending.specs.Ascending.{onePass}
 use Rattle.ascending.proofs.Ascends.{Ascending, pass-unite}
 use Rattle.laws.proofs.Bools.{and-intro}
-use Rattle.names.specs.Names.{nameLimit}
 use Rattle.names.specs.Fold.{sameName}
 use Rattle.channel.specs.declared.Member.{Member}
 use Rattle.channel.specs.declared.Record.{Record}
 use Rattle.channel.specs.declared.Roster.{Roster}
-use Rattle.channel.specs.Limits.{memberLimit, keyLimit}
+use Rattle.channel.specs.Limits.{memberLimit}
+use Rattle.channel.specs.Settings.{Settings, noSettings}
 use Rattle.channel.specs.Channel.{Channel, member, byId}
-use Rattle.channel.specs.Record.{nobody, encode, decode}
+use Rattle.channel.specs.Record.{encode, decode}
 use Rattle.channel.specs.WellFormed.{wellFormed}
 use Rattle.channel.specs.Members.{roster}
-use Rattle.channel.specs.Standing.{counts, bare, standing}
+use Rattle.channel.specs.Standing.{counts, settingsAt, bare, standing}
 use Rattle.channel.proofs.Fields.{channel-path}
 use Rattle.channel.proofs.Fronts.{take-within}
 use Rattle.channel.proofs.Records.{decode-encode}
 use Rattle.channel.proofs.Proper.{Proper, proper-fits, well-says, encode-well}
 use Rattle.channel.proofs.Statuses.{stays-byId}
 use Rattle.channel.proofs.Standing.{ascending-standing}
-use Rattle.merging.specs.declared.sides.Settings.{Settings}
+use Rattle.merging.specs.declared.sides.Given.{Given}
 use Rattle.merging.specs.declared.sides.Key.{Key}
 use Rattle.merging.specs.declared.sides.Name.{Name}
-use Rattle.merging.specs.Key.{greater}
+use Rattle.merging.specs.Settings.{greater, joinSettings}
 use Rattle.merging.specs.Merging.{mergeBy, merge, answerOf, answered, roomRules, mergeRules, mergeAnswer, combined}
-use Rattle.merging.specs.Private.Sides.{settingsOf, keyOf, nameOf}
+use Rattle.merging.specs.Private.Sides.{givenIf, keyOf, nameOf}
 use Rattle.merging.specs.Private.Uniting.{asGiven}
 use Rattle.merging.proofs.OnePass.{side}
 
@@ -78,7 +77,7 @@ pass-merge : (a b : Channel) → Ascending byId (b .members) → mergeBy (onePas
 unfolding merge
 pass-merge a b h =
     let m : ℕ = min (a .time) (b .time) in
-    channel-path refl refl refl refl refl (pass-unite byId stays-byId (standing m a) (standing m b) (ascending-standing m b h))
+    channel-path refl refl refl (pass-unite byId stays-byId (standing m a) (standing m b) (ascending-standing m b h))
 
 -- so neither needs a test
 pub combined-merge : (a b : Record) → wellFormed a ≡ true → wellFormed b ≡ true → sameName (decode a .name) (decode b .name) ≡ true → combined a b ≡ mergeAnswer a b
@@ -109,12 +108,20 @@ side-standing time r = go (eqb (r .time) time)
     go true = sym (as-counted (take (r .count) (r .members)))
     go false = refl
 
-side-key : (t : Bool) (n : ℕ) (k : List ℕ) → take (cond t n 0) k ≡ cond t (take n k) []
-side-key true n k = refl
-side-key false n k = refl
+-- what is given, as settings: of a key so many bytes as are given
+abbrev held : Given → List ℕ → Settings
+held g key = record { modes = g .modes; key = take (g .«key_len») key; limit = g .limit }
+
+-- what a record gives at a time
+abbrev pub givenAt : Record → ℕ → Given
+givenAt r time = givenIf (eqb (r .time) time) (r .modes) (r .«key_len») (r .limit)
+
+side-settings : (time : ℕ) (r : Record) → settingsAt time (decode r) ≡ held (givenAt r time) (r .key)
+unfolding settingsAt counts decode givenIf
+side-settings time r = elim (eqb (r .time) time) as (λ t. cond t (decode r .settings) noSettings ≡ held (givenIf t (r .modes) (r .«key_len») (r .limit)) (r .key)) [ true ↦ refl | false ↦ refl ]
 
 -- ---- the record that is made of what the sides give
-abbrev pub made : ℕ → Name → Settings → Settings → Key → ℕ → Roster → Record
+abbrev pub made : ℕ → Name → Given → Given → Key → ℕ → Roster → Record
 made time name x y key limit all = record {
   name = name .bytes;
   «name_len» = name .len;
@@ -127,16 +134,9 @@ made time name x y key limit all = record {
   count = all .count;
 }
 
--- what a record gives at a time
-abbrev pub settings : Record → ℕ → Settings
-settings r time = settingsOf (eqb (r .time) time) (r .modes) (r .«key_len») (r .limit)
-
 -- the members of both, of which so many are looked at
 abbrev pub members : Record → ℕ → Record → ℕ → ℕ → List Member
 members a m b n time = onePass byId (side (eqb (a .time) time) (a .members) m) (side (eqb (b .time) time) (b .members) n)
-
-abbrev key : Record → Record → ℕ → List ℕ
-key a b time = greater (take (settings a time .«key_len») (a .key)) (take (settings b time .«key_len») (b .key))
 
 module _ (a b : Record) (time : ℕ) (et : time ≡ min (a .time) (b .time)) (m n : ℕ) (em : m ≡ min (a .count) (length (a .members))) (en : n ≡ min (b .count) (length (b .members))) where
   abbrev both : Channel
@@ -148,36 +148,20 @@ module _ (a b : Record) (time : ℕ) (et : time ≡ min (a .time) (b .time)) (m 
       rw (et, take-within (a .members) (a .count) m em, take-within (b .members) (b .count) n en)
       (ap₂ (onePass byId) (side-standing (min (a .time) (b .time)) a) (side-standing (min (a .time) (b .time)) b))
 
-  both-key : both .key ≡ key a b time
-  unfolding decode counts settingsOf
-  both-key =
-      let t : ℕ = min (a .time) (b .time) in
-      rw et (ap₂ greater (sym (side-key (eqb (a .time) t) (a .«key_len») (a .key))) (sym (side-key (eqb (b .time) t) (b .«key_len») (b .key))))
+  both-settings : both .settings ≡ joinSettings (held (givenAt a time) (a .key)) (held (givenAt b time) (b .key))
+  unfolding decode
+  both-settings = rw et (ap₂ joinSettings (side-settings (min (a .time) (b .time)) a) (side-settings (min (a .time) (b .time)) b))
 
   -- more members than there is room for are refused
   pub combined-over : memberLimit < length (members a m b n time) → combined a b ≡ answerOf tooManyMembers a
   unfolding combined
   combined-over h = room-over a both (rw both-members h)
 
-  both-record : encode both ≡ made time (nameOf (take (a .«name_len») (a .name))) (settings a time) (settings b time) (keyOf (key a b time)) (max (settings a time .limit) (settings b time .limit)) (roster (members a m b n time))
-  unfolding encode decode counts settingsOf nameOf keyOf roster
-  both-record =
-      let t : min (a .time) (b .time) ≡ time = sym et in
-      λ i. record {
-        name = padded nameLimit 0 (take (a .«name_len») (a .name));
-        «name_len» = length (take (a .«name_len») (a .name));
-        time = t i;
-        modes = bitOr (cond (eqb (a .time) (t i)) (a .modes) 0) (cond (eqb (b .time) (t i)) (b .modes) 0);
-        key = padded keyLimit 0 (both-key i);
-        «key_len» = length (both-key i);
-        limit = max (cond (eqb (a .time) (t i)) (a .limit) 0) (cond (eqb (b .time) (t i)) (b .limit) 0);
-        members = padded memberLimit nobody (both-members i);
-        count = length (both-members i);
-      }
-
   -- else the record is made of what the sides give
-  pub combined-fits : (name : Name) (x y : Settings) (k : Key) (limit : ℕ) (all : Roster) → name ≡ nameOf (take (a .«name_len») (a .name)) → x ≡ settings a time → y ≡ settings b time
+  pub combined-fits : (name : Name) (x y : Given) (k : Key) (limit : ℕ) (all : Roster) → name ≡ nameOf (take (a .«name_len») (a .name)) → x ≡ givenAt a time → y ≡ givenAt b time
       → k ≡ keyOf (greater (take (x .«key_len») (a .key)) (take (y .«key_len») (b .key))) → limit ≡ max (x .limit) (y .limit)
       → all ≡ roster (members a m b n time) → length (members a m b n time) ≤ memberLimit → combined a b ≡ answerOf accepted (made time name x y k limit all)
-  unfolding combined
-  combined-fits name x y k limit all es ex ey ek el ea h = rw (es, ek, el, ea, ex, ey) (room-fits a both (rw both-members h) ∙ ap (answerOf accepted) both-record)
+  unfolding combined encode decode joinSettings nameOf keyOf roster
+  combined-fits name x y k limit all es ex ey ek el ea h =
+      rw (es, ek, el, ea, ex, ey)
+      (room-fits a both (rw both-members h) ∙ ap (λ (c : Channel). answerOf accepted (encode c)) (channel-path refl (sym et) both-settings both-members))

@@ -15,31 +15,25 @@ use Rattle.channel.specs.Modes.{withMode, placeAmong}
 use Rattle.channel.specs.Key.{isKey}
 use Rattle.channel.specs.Channel.{Channel, member, byId}
 use Rattle.channel.specs.Record.{encode, decode}
-use Rattle.channel.specs.WellFormed.{goodTime, goodModes, goodKey, goodLimit, goodMember, goodMembers, channelTests, inRoom, clear, wellFormed}
-use Rattle.channel.specs.Standing.{counts, bare, standing}
+use Rattle.channel.specs.WellFormed.{goodTime, goodKey, goodLimit, goodSettings, goodMember, goodMembers, channelTests, inRoom, clear, wellFormed}
+use Rattle.channel.specs.Standing.{counts, settingsAt, bare, standing}
+use Rattle.channel.proofs.Fields.{peopled}
 use Rattle.channel.proofs.Examples.{2cd, 1ab, stored, incoming}
-use Rattle.merging.specs.Key.{greater}
+use Rattle.merging.specs.Settings.{greater, joinSettings}
 use Rattle.merging.specs.Merging.{merge, mergeRules, mergeAnswer}
 
 -- time 1000, k `buoy`, members 1ABAAAAAA 0, 1ABAAAAAB 0, 2CDAAAAAA 2
 after : Channel
 unfolding stored
-after = record {
-  name = stored .name;
-  time = stored .time;
-  modes = stored .modes;
-  key = stored .key;
-  limit = stored .limit;
-  members = member (1ab 65) 0 ∷ member (1ab 66) 0 ∷ member 2cd 2 ∷ [];
-}
+after = peopled stored (member (1ab 65) 0 ∷ member (1ab 66) 0 ∷ member 2cd 2 ∷ [])
 
 race : merge stored incoming ≡ after
-unfolding merge standing counts bare insert put unite compare greater withMode placeAmong stored incoming after 1ab 2cd
+unfolding merge settingsAt standing counts bare insert put unite compare greater joinSettings withMode placeAmong stored incoming after 1ab 2cd
 race = refl
 
 -- the same of whole records: accepted, and encoded
 race-records : mergeAnswer (encode stored) (encode incoming) ≡ record { number = accepted; result = encode after }
-unfolding mergeAnswer mergeRules firstOf wellFormed inRoom clear channelTests goodTime goodModes goodKey goodLimit goodMember goodMembers all sameBy padded startsWith within isDigit isIdByte isNameByte isKeyByte isPlain isChannel isServerId isUserId isKey hasBit ascends fold sameName encode decode merge standing counts bare insert put unite compare greater withMode placeAmong stored incoming after 1ab 2cd
+unfolding mergeAnswer mergeRules firstOf wellFormed inRoom clear channelTests goodTime goodKey goodLimit goodSettings goodMember goodMembers all sameBy padded startsWith within isDigit isIdByte isNameByte isKeyByte isPlain isChannel isServerId isUserId isKey hasBit ascends fold sameName encode decode merge settingsAt standing counts bare insert put unite compare greater joinSettings withMode placeAmong stored incoming after 1ab 2cd
 race-records = refl
 
 -- ---- one pass over members that don't ascend takes them as they stand, where a union puts each in its place

@@ -4,7 +4,7 @@ pub mod Proper
 pub mod Plains
 pub mod Merges
 pub mod Answers
-mod Keys
+mod Settings
 mod Rooms
 mod OnePass
 mod Examples

@@ -7,17 +7,16 @@ use mathlib.Core.List.{List, [], _∷_, _++_, append-assoc, append-nil, List·Me
 use native.Mathlib.Omega.{arith}
 use lib.ListN.{length}
 use Rattle.laws.specs.Joins.{total}
-use Rattle.laws.proofs.Joins.{joining-max, joining-bits}
 use Rattle.ascending.proofs.Ascends.{Ascending}
 use Rattle.ascending.proofs.Contents.{has-unite, same-length, unite-comm, unite-self}
 use Rattle.channel.specs.Channel.{Channel, byId}
-use Rattle.channel.specs.Standing.{given, standing}
+use Rattle.channel.specs.Standing.{settingsAt, standing}
 use Rattle.channel.proofs.Fields.{channel-path}
 use Rattle.channel.proofs.Statuses.{stays-byId, lawful-byId, named}
-use Rattle.channel.proofs.Standing.{counts-own, has-standing, ascending-standing}
+use Rattle.channel.proofs.Standing.{settings-own, standing-own, has-standing, ascending-standing}
 use Rattle.merging.specs.Merging.{merge}
 use Rattle.merging.specs.Plain.{everyone, plain, spelled}
-use Rattle.merging.proofs.Keys.{joining-greater}
+use Rattle.merging.proofs.Settings.{joining-settings}
 use Rattle.merging.proofs.Proper.{ascending-merge}
 use Rattle.merging.proofs.Plains.{has-everyone, ascending-everyone, merge-plain, plain-single}
 
@@ -33,17 +32,15 @@ merge-comm a b h k =
     let m : ℕ = min (b .time) (a .time) in
     let e : min (a .time) (b .time) ≡ m = omega arith in
     rw e (channel-path refl refl
-    (joining-bits .comm (given 0 (λ c. c .modes) m a) (given 0 (λ c. c .modes) m b))
-    (joining-greater .comm (given [] (λ c. c .key) m a) (given [] (λ c. c .key) m b))
-    (joining-max .comm (given 0 (λ c. c .limit) m a) (given 0 (λ c. c .limit) m b))
+    (joining-settings .comm (settingsAt m a) (settingsAt m b))
     (unite-comm byId 0 lawful-byId (standing m a) (standing m b) (ascending-standing m a h) (ascending-standing m b k)))
 
 -- a record merged with itself is the same
 pub merge-self : (a : Channel) → Ascending byId (a .members) → merge a a ≡ a
-unfolding merge standing
+unfolding merge
 merge-self a h =
     let e : min (a .time) (a .time) ≡ a .time = omega arith in
-    rw (e, counts-own a) (channel-path refl refl (joining-bits .idem _) (joining-greater .idem _) (joining-max .idem _) (unite-self byId 0 lawful-byId (a .members) h))
+    rw (e, settings-own a, standing-own a) (channel-path refl refl (joining-settings .idem (a .settings)) (unite-self byId 0 lawful-byId (a .members) h))
 
 -- ---- one after the other
 -- the records of s merged into l

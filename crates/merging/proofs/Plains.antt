@@ -1,6 +1,6 @@
 -- Laws of the plain record of lines. At a time no later than its own it gives what its lines give, since at an earlier time none of them counts;
 -- so merging plain records gives the plain record of all the lines, and order and repeats don't matter. Assumes nothing.
-use Prim.Native.Nat.{ℕ, _≤_, min, max}
+use Prim.Native.Nat.{ℕ, _≤_, _<_, min}
 use mathlib.Core.Path.{_≡_, refl, sym, ap, ap₂, _∙_}
 use mathlib.Core.Bool.{Bool, true, false, _||_, cond, or-false}
 use mathlib.Core.List.{List, [], _∷_, _++_, append-assoc, List·Memᴰ, List·Memᴰ·head, List·Memᴰ·tail, List·Memᴰ·not-nil}
@@ -8,22 +8,23 @@ use native.Mathlib.Omega.{arith}
 use lib.Bits.{bitOr}
 use lib.ListN.{length, length-map}
 use lib.Dec.{eqb}
-use borrow.Author.Tests.{eqb-true, eqb-false, eq-eqb, ne-eqb}
+use borrow.Author.Tests.{eqb-true, eqb-false}
 use Rattle.laws.specs.Lists.{same}
 use Rattle.laws.specs.Joins.{total}
-use Rattle.laws.proofs.Joins.{Joining, Within, join-none, total-append, total-none, total-mem, total-same, joining-or, joining-max, joining-bits}
+use Rattle.laws.proofs.Joins.{Joining, Within, join-none, total-append, total-none, total-mem, total-same, joining-or, joining-bits}
 use Rattle.ascending.proofs.Ascends.{Ascending, ascending-unite, unite-append, length-unite-left}
 use Rattle.ascending.proofs.Contents.{has, has-unite, same-length, ascending-restated, has-restated, content-restated}
+use Rattle.channel.specs.Settings.{noSettings}
 use Rattle.channel.specs.Channel.{Channel, byId}
 use Rattle.channel.specs.Members.{statusIn}
-use Rattle.channel.specs.Standing.{counts, given}
+use Rattle.channel.specs.Standing.{settingsAt, standing}
 use Rattle.channel.proofs.Fields.{channel-path}
 use Rattle.channel.proofs.Statuses.{keyed-byId, stays-byId, lawful-byId, named, status-absent, status-unite, same-members}
-use Rattle.channel.proofs.Standing.{has-standing, status-standing}
-use Rattle.merging.specs.Key.{greater}
+use Rattle.channel.proofs.Standing.{settings-own, standing-own, settings-late, standing-late, status-bare, has-standing}
+use Rattle.merging.specs.Settings.{joinSettings}
 use Rattle.merging.specs.Merging.{merge}
 use Rattle.merging.specs.Plain.{earliest, entries, everyone, statusAt, plain, spelled}
-use Rattle.merging.proofs.Keys.{joining-greater}
+use Rattle.merging.proofs.Settings.{joining-settings}
 use Rattle.merging.proofs.Proper.{ascending-merge}
 
 -- ---- time
@@ -110,8 +111,7 @@ part-false g {x} h m = sym (or-false (g x)) ∙ (rw h at (total-mem _||_ false j
 unnamed : (x : List ℕ) (time : ℕ) (s : List Channel) → total _||_ false (named x) s ≡ false → statusAt time s x ≡ 0
 unfolding statusAt
 unnamed x time s h =
-    total-none bitOr 0 joining-bits (given 0 (λ c. statusIn x (c .members)) time) s
-    (λ c i. rw (status-absent x (c .members) (part-false (named x) h i)) (elim (counts time c) as (λ t. _≡_ {A = ℕ} (cond t 0 0) 0) [ true ↦ refl | false ↦ refl ]))
+    total-none bitOr 0 joining-bits (λ c. statusIn x (standing time c)) s (λ c i. status-absent x (standing time c) (has-standing time c x ∙ part-false (named x) h i))
 
 -- voice if a counting line gives that id voice, operator if one gives it operator
 pub plain-status : (x : List ℕ) (l : Channel) (s : List Channel) → statusIn x (plain l s .members) ≡ statusAt (earliest l s) (l ∷ s) x
@@ -128,35 +128,32 @@ pub length-plain : (l : Channel) (s : List Channel) → length (plain l s .membe
 unfolding plain
 length-plain l s = length-map (everyone (l ∷ s)) _
 
--- ---- what the lines that count give: a part f of the record that in a plain record is the total over the lines that count
-module _ {A : Type 0} (join : A → A → A) (none : A) (J : Joining join none) (f : Channel → A)
-    (made : (l : Channel) (s : List Channel) → f (plain l s) ≡ total join none (given none f (earliest l s)) (l ∷ s)) where
-  -- at a time no later than its own a plain record gives what its lines give
-  share : (l : Channel) (s : List Channel) (time : ℕ) → time ≤ earliest l s → given none f time (plain l s) ≡ total join none (given none f time) (l ∷ s)
-  unfolding plain counts
-  share l s time h = go (eqb (earliest l s) time) refl
-    where
-      go : (b : Bool) → eqb (earliest l s) time ≡ b → cond b (f (plain l s)) none ≡ total join none (given none f time) (l ∷ s)
-      go true e = made l s ∙ ap (λ (n : ℕ). total join none (given none f n) (l ∷ s)) (eqb-true (earliest l s) time e)
-      go false e =
-          sym (total-none join none J (given none f time) (l ∷ s)
-          (λ k i. ap (λ (b : Bool). cond b (f k) none) (ne-eqb (k .time) time (λ q. omega (arith, earliest-le l s k i, eqb-false (earliest l s) time e)))))
+-- ---- what the lines give at a time: a part g of a record
+module _ {A : Type 0} (join : A → A → A) (none : A) (J : Joining join none) (g : ℕ → Channel → A) where
+  -- the same lines give the same
+  alike : (l k : Channel) (s t : List Channel) → Within (l ∷ s) (k ∷ t) → Within (k ∷ t) (l ∷ s) → total join none (g (earliest l s)) (l ∷ s) ≡ total join none (g (earliest k t)) (k ∷ t)
+  alike l k s t h i = total-same join none J (g (earliest l s)) (l ∷ s) (k ∷ t) h i ∙ ap (λ (n : ℕ). total join none (g n) (k ∷ t)) (earliest-same l k s t h i)
 
-  both : (l k : Channel) (s t : List Channel) → join (given none f (min (earliest l s) (earliest k t)) (plain l s)) (given none f (min (earliest l s) (earliest k t)) (plain k t)) ≡ f (plain l (s ++ k ∷ t))
-  both l k s t =
-      ap₂ join (share l s (min (earliest l s) (earliest k t)) (omega arith)) (share k t (min (earliest l s) (earliest k t)) (omega arith))
-      ∙ sym (total-append join none J (given none f _) (l ∷ s) (k ∷ t))
-      ∙ ap (λ (n : ℕ). total join none (given none f n) (l ∷ (s ++ k ∷ t))) (earliest-append l k s t)
-      ∙ sym (made l (s ++ k ∷ t))
+  -- where a record gives nothing at a time before its own, and a plain record at its own time what its lines give
+  module _ (late : (time : ℕ) (c : Channel) → time < c .time → g time c ≡ none)
+      (made : (l : Channel) (s : List Channel) → g (earliest l s) (plain l s) ≡ total join none (g (earliest l s)) (l ∷ s)) where
+    -- it gives what they give at any time no later
+    share : (l : Channel) (s : List Channel) (time : ℕ) → time ≤ earliest l s → g time (plain l s) ≡ total join none (g time) (l ∷ s)
+    share l s time h = go (eqb time (earliest l s)) refl
+      where
+        go : (b : Bool) → eqb time (earliest l s) ≡ b → g time (plain l s) ≡ total join none (g time) (l ∷ s)
+        go true e = rw (eqb-true time (earliest l s) e) (made l s)
+        go false e =
+            let k : time < earliest l s = omega (arith, eqb-false time (earliest l s) e) in
+            late time (plain l s) (omega (arith, plain-time l s)) ∙ sym (total-none join none J (g time) (l ∷ s) (λ c i. late time c (omega (arith, earliest-le l s c i))))
 
-  single : (l : Channel) → f (plain l []) ≡ f l
-  unfolding earliest counts
-  single l = made l [] ∙ join-none join none J _ ∙ ap (λ (b : Bool). cond b (f l) none) (eq-eqb (l .time) (l .time) refl)
-
-  alike : (l k : Channel) (s t : List Channel) → Within (l ∷ s) (k ∷ t) → Within (k ∷ t) (l ∷ s) → f (plain l s) ≡ f (plain k t)
-  alike l k s t h i =
-      made l s ∙ total-same join none J (given none f (earliest l s)) (l ∷ s) (k ∷ t) h i
-      ∙ ap (λ (n : ℕ). total join none (given none f n) (k ∷ t)) (earliest-same l k s t h i) ∙ sym (made k t)
+    -- so two of them give together what all the lines give
+    both : (l k : Channel) (s t : List Channel)
+        → join (g (min (earliest l s) (earliest k t)) (plain l s)) (g (min (earliest l s) (earliest k t)) (plain k t)) ≡ total join none (g (earliest l (s ++ k ∷ t))) (l ∷ (s ++ k ∷ t))
+    both l k s t =
+        ap₂ join (share l s (min (earliest l s) (earliest k t)) (omega arith)) (share k t (min (earliest l s) (earliest k t)) (omega arith))
+        ∙ sym (total-append join none J (g _) (l ∷ s) (k ∷ t))
+        ∙ ap (λ (n : ℕ). total join none (g n) (l ∷ (s ++ k ∷ t))) (earliest-append l k s t)
 
 -- ---- the laws
 -- merging two plain records gives the plain record of all the lines, the first's first
@@ -164,35 +161,29 @@ pub merge-plain : (l k : Channel) (s t : List Channel) → merge (plain l s) (pl
 unfolding merge plain statusAt
 merge-plain l k s t =
     channel-path refl (earliest-append l k s t)
-    (both bitOr 0 joining-bits (λ c. c .modes) (λ c u. refl) l k s t)
-    (both greater [] joining-greater (λ c. c .key) (λ c u. refl) l k s t)
-    (both max 0 joining-max (λ c. c .limit) (λ c u. refl) l k s t)
+    (both joinSettings noSettings joining-settings settingsAt settings-late (λ j u. settings-own (plain j u)) l k s t)
     (same-members _ _ (ascending-merge (plain l s) (plain k t) (ascending-plain l s)) (ascending-plain l (s ++ k ∷ t))
     (λ x. has-unite byId stays-byId x _ _ ∙ ap₂ _||_ (has-standing _ (plain l s) x ∙ plain-has x l s) (has-standing _ (plain k t) x ∙ plain-has x k t)
     ∙ sym (total-append _||_ false joining-or (named x) (l ∷ s) (k ∷ t)) ∙ sym (plain-has x l (s ++ k ∷ t)))
-    (λ x. status-unite x _ _ ∙ ap₂ bitOr (status-standing _ (plain l s) x) (status-standing _ (plain k t) x)
-    ∙ both bitOr 0 joining-bits (λ c. statusIn x (c .members)) (plain-status x) l k s t))
+    (λ x. status-unite x _ _
+    ∙ both bitOr 0 joining-bits (λ time c. statusIn x (standing time c)) (λ time c h. ap (statusIn x) (standing-late time c h) ∙ status-bare x (c .members))
+    (λ j u. ap (statusIn x) (standing-own (plain j u)) ∙ plain-status x j u) l k s t
+    ∙ sym (plain-status x l (s ++ k ∷ t))))
 
 -- the plain record of one line is the line's record
 pub plain-single : (l : Channel) → Ascending byId (l .members) → plain l [] ≡ l
 unfolding plain earliest statusAt
 plain-single l h =
-    channel-path refl refl
-    (single bitOr 0 joining-bits (λ c. c .modes) (λ c u. refl) l)
-    (single greater [] joining-greater (λ c. c .key) (λ c u. refl) l)
-    (single max 0 joining-max (λ c. c .limit) (λ c u. refl) l)
+    channel-path refl refl (join-none joinSettings noSettings joining-settings _ ∙ settings-own l)
     (same-members _ _ (ascending-plain l []) h
     (λ x. plain-has x l [] ∙ or-false (named x l))
-    (λ x. single bitOr 0 joining-bits (λ c. statusIn x (c .members)) (plain-status x) l))
+    (λ x. plain-status x l [] ∙ join-none bitOr 0 joining-bits _ ∙ ap (statusIn x) (standing-own l)))
 
 -- it depends only on which lines there are, order and repeats apart, but for the spelling
 pub plain-same : (l k : Channel) (s t : List Channel) → Within (l ∷ s) (k ∷ t) → Within (k ∷ t) (l ∷ s) → plain l s ≡ spelled (l .name) (plain k t)
 unfolding plain spelled statusAt
 plain-same l k s t h i =
-    channel-path refl (earliest-same l k s t h i)
-    (alike bitOr 0 joining-bits (λ c. c .modes) (λ c u. refl) l k s t h i)
-    (alike greater [] joining-greater (λ c. c .key) (λ c u. refl) l k s t h i)
-    (alike max 0 joining-max (λ c. c .limit) (λ c u. refl) l k s t h i)
+    channel-path refl (earliest-same l k s t h i) (alike joinSettings noSettings joining-settings settingsAt l k s t h i)
     (same-members _ _ (ascending-plain l s) (ascending-plain k t)
     (λ x. plain-has x l s ∙ total-same _||_ false joining-or (named x) (l ∷ s) (k ∷ t) h i ∙ sym (plain-has x k t))
-    (λ x. alike bitOr 0 joining-bits (λ c. statusIn x (c .members)) (plain-status x) l k s t h i))
+    (λ x. plain-status x l s ∙ alike bitOr 0 joining-bits (λ time c. statusIn x (standing time c)) l k s t h i ∙ sym (plain-status x k t)))

@@ -17,12 +17,12 @@ use Rattle.channel.specs.Channel.{Channel, member, byId}
 use Rattle.channel.specs.Record.{encode, decode}
 use Rattle.channel.specs.WellFormed.{wellFormed}
 use Rattle.channel.specs.Members.{statusIn}
-use Rattle.channel.specs.Standing.{counts, bare, standing}
+use Rattle.channel.specs.Standing.{counts, settingsAt, bare, standing}
 use Rattle.channel.proofs.Fields.{peopled}
 use Rattle.channel.proofs.Proper.{Proper}
 use Rattle.channel.proofs.Examples.{2cd, 1ab, stored, incoming}
 use Rattle.channel.proofs.Witnesses.{second, lines, proper, stored-in, incoming-in, second-in, incoming-later, well}
-use Rattle.merging.specs.Key.{greater}
+use Rattle.merging.specs.Settings.{greater, joinSettings}
 use Rattle.merging.specs.Merging.{merge, mergeAnswer, combined}
 use Rattle.merging.specs.Plain.{earliest, entries, everyone, statusAt, plain, spelled}
 use Rattle.merging.proofs.Rules.{merge-later, merge-equal, merge-earlier, later-keeps, later-none}
@@ -49,15 +49,8 @@ unfolding sameBy stored 1ab 2cd
 operator-none = later-none stored incoming incoming-later (1ab 65) refl
 
 -- the modes of both, the greater key, the limit of the one that has it, operator and voice together
-equal : merge stored second ≡ record {
-  name = stored .name;
-  time = 1000;
-  modes = second .modes;
-  key = second .key;
-  limit = 20;
-  members = member (1ab 65) 0 ∷ member 2cd 3 ∷ [];
-}
-unfolding insert put unite compare greater withMode stored second 1ab 2cd
+equal : merge stored second ≡ record { name = stored .name; time = 1000; settings = second .settings; members = member (1ab 65) 0 ∷ member 2cd 3 ∷ [] }
+unfolding insert put unite compare greater joinSettings withMode stored second 1ab 2cd
 equal = merge-equal stored second refl
 
 earlier : merge incoming stored ≡ spelled (incoming .name) (peopled stored (unite byId (bare (incoming .members)) (stored .members)))
@@ -81,15 +74,8 @@ plain-lines : merge (plain stored (incoming ∷ [])) (plain second (incoming ∷
 plain-lines = merge-plain stored second (incoming ∷ []) (incoming ∷ [])
 
 -- the three merged one after the other: of the later line only the users are there
-one-by-one : folded stored (incoming ∷ second ∷ []) ≡ record {
-  name = stored .name;
-  time = 1000;
-  modes = second .modes;
-  key = second .key;
-  limit = 20;
-  members = member (1ab 65) 0 ∷ member (1ab 66) 0 ∷ member 2cd 3 ∷ [];
-}
-unfolding plain earliest counts everyone entries statusIn statusAt sameBy insert put unite compare greater withMode stored incoming second 1ab 2cd
+one-by-one : folded stored (incoming ∷ second ∷ []) ≡ record { name = stored .name; time = 1000; settings = second .settings; members = member (1ab 65) 0 ∷ member (1ab 66) 0 ∷ member 2cd 3 ∷ [] }
+unfolding plain earliest settingsAt standing counts bare everyone entries statusIn statusAt sameBy insert put unite compare greater joinSettings withMode stored incoming second 1ab 2cd
 one-by-one = folded-plain stored (incoming ∷ second ∷ []) fair
 
 three-named : length (folded stored (incoming ∷ second ∷ []) .members) ≡ 3

@@ -1,4 +1,4 @@
-pub mod Key
+pub mod Settings
 pub mod Merging
 pub mod Plain
 pub mod Private

@@ -1,9 +1,8 @@
--- Two records merged (document 01, 'SJOIN'): at the earlier of the two times each side gives its modes, key, limit and statuses only if it counts then, and
--- what both give is united. `Rules` of proofs/ has the paper's three cases, later, equal and earlier, as laws.
-use Prim.Native.Nat.{ℕ, min, max}
+-- Two records merged (document 01, 'SJOIN'): at the earlier of the two times each side gives its settings and statuses only if it counts then, and what both
+-- give is united. `Rules` of proofs/ has the paper's three cases, later, equal and earlier, as laws.
+use Prim.Native.Nat.{ℕ, min}
 use mathlib.Core.Bool.{not, cond, _&&_}
 use mathlib.Core.List.{List, [], _∷_}
-use lib.Bits.{bitOr}
 use lib.ListN.{length}
 use lib.Dec.{eqb, ltb}
 use Rattle.refusal.specs.Numbers.{accepted, notWellFormed, badName, tooManyMembers}
@@ -16,9 +15,9 @@ use Rattle.channel.specs.Limits.{memberLimit}
 use Rattle.channel.specs.Channel.{Channel, byId}
 use Rattle.channel.specs.Record.{encode, decode}
 use Rattle.channel.specs.WellFormed.{wellFormed}
-use Rattle.channel.specs.Standing.{given, standing}
+use Rattle.channel.specs.Standing.{settingsAt, standing}
 use Rattle.merging.specs.declared.Merged.{Merged}
-use Rattle.merging.specs.Key.{greater}
+use Rattle.merging.specs.Settings.{joinSettings}
 
 -- two channels merged, `union` giving the members of both sides
 abbrev pub mergeBy : (List Member → List Member → List Member) → Channel → Channel → Channel
@@ -27,9 +26,7 @@ mergeBy union a b =
     record {
       name = a .name;
       time = time;
-      modes = bitOr (given 0 (λ c. c .modes) time a) (given 0 (λ c. c .modes) time b);
-      key = greater (given [] (λ c. c .key) time a) (given [] (λ c. c .key) time b);
-      limit = max (given 0 (λ c. c .limit) time a) (given 0 (λ c. c .limit) time b);
+      settings = joinSettings (settingsAt time a) (settingsAt time b);
       members = union (standing time a) (standing time b);
     }
 

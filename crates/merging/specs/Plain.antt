@@ -1,15 +1,16 @@
 -- The plain record of lines (document 01, 'Many joins, for demand 3'), of which there is one or more: each line is the channel that it tells of. It is
 -- told of the lines alone, all at once, and not by merging one after the other. A line counts that has the smallest time.
-use Prim.Native.Nat.{ℕ, min, max}
+use Prim.Native.Nat.{ℕ, min}
 use mathlib.Core.List.{List, [], _∷_, _++_, map}
 use lib.Bits.{bitOr}
 use Rattle.laws.specs.Joins.{total}
 use Rattle.ascending.specs.Ascending.{unite}
 use Rattle.channel.specs.declared.Member.{Member}
+use Rattle.channel.specs.Settings.{noSettings}
 use Rattle.channel.specs.Channel.{Channel, member, byId}
 use Rattle.channel.specs.Members.{statusIn}
-use Rattle.channel.specs.Standing.{given}
-use Rattle.merging.specs.Key.{greater}
+use Rattle.channel.specs.Standing.{settingsAt, standing}
+use Rattle.merging.specs.Settings.{joinSettings}
 
 -- time: the smallest of their times
 unfoldable pub earliest : Channel → List Channel → ℕ
@@ -27,7 +28,7 @@ everyone s = unite byId [] (entries s)
 
 -- the status that the lines that count give an id
 unfoldable pub statusAt : ℕ → List Channel → List ℕ → ℕ
-statusAt time s id = total bitOr 0 (given 0 (λ c. statusIn id (c .members)) time) s
+statusAt time s id = total bitOr 0 (λ c. statusIn id (standing time c)) s
 
 -- the record of the lines l and s, in that order
 unfoldable pub plain : Channel → List Channel → Channel
@@ -36,12 +37,10 @@ plain l s =
     record {
       name = l .name;
       time = time;
-      modes = total bitOr 0 (given 0 (λ c. c .modes) time) (l ∷ s);
-      key = total greater [] (given [] (λ c. c .key) time) (l ∷ s);
-      limit = total max 0 (given 0 (λ c. c .limit) time) (l ∷ s);
+      settings = total joinSettings noSettings (settingsAt time) (l ∷ s);
       members = map (λ m. member (m .id) (statusAt time (l ∷ s) (m .id))) (everyone (l ∷ s));
     }
 
 -- the same channel under another spelling of its name
 unfoldable pub spelled : List ℕ → Channel → Channel
-spelled name c = record { name = name; time = c .time; modes = c .modes; key = c .key; limit = c .limit; members = c .members }
+spelled name c = record { name = name; time = c .time; settings = c .settings; members = c .members }

@@ -20,7 +20,7 @@ use refusal::NOT_WELL_FORMED;
 use refusal::TOO_MANY_MEMBERS;
 use sides::earlier;
 use sides::front;
-use sides::given;
+use sides::given_if;
 use sides::greatest;
 use sides::larger;
 use uniting::united;
@@ -67,8 +67,8 @@ pub fn combine(a: Record, b: Record) -> Merged
     if Record::MEMBERS < all.count {
         return refused(TOO_MANY_MEMBERS, a);
     }
-    let x = given(first, a.modes, a.key_len, a.limit);
-    let y = given(second, b.modes, b.key_len, b.limit);
+    let x = given_if(first, a.modes, a.key_len, a.limit);
+    let y = given_if(second, b.modes, b.key_len, b.limit);
     let own = a.key;
     let other = b.key;
     let key = greatest(own, x.key_len, other, y.key_len);

@@ -2,15 +2,15 @@
 ghost use mathlib.Core.Path.{_≡_};
 ghost use Prim.Native.Nat.{min, max};
 ghost use lib.ListN.{take};
-ghost use Rattle.merging.specs.Key.{greater};
-ghost use Rattle.merging.specs.Private.Sides.{settingsOf, keyOf, nameOf};
+ghost use Rattle.merging.specs.Settings.{greater};
+ghost use Rattle.merging.specs.Private.Sides.{givenIf, keyOf, nameOf};
 use crate::greater_key;
 use channel::Record;
 use octets::part;
 use octets::put;
 
 // The modes, the key's length and the limit that a side gives.
-pub(crate) struct Settings {
+pub(crate) struct Given {
     pub(crate) modes: u8,
     pub(crate) key_len: usize,
     pub(crate) limit: u16,
@@ -49,17 +49,17 @@ pub(crate) fn larger(a: u16, b: u16) -> u16
 }
 
 // What a side gives if it counts, and nothing otherwise.
-pub(crate) fn given(counts: bool, modes: u8, key_len: usize, limit: u16) -> Settings
-    ensures { λ r. ⌜ r ≡ settingsOf counts modes «key_len» limit ⌝ }
+pub(crate) fn given_if(counts: bool, modes: u8, key_len: usize, limit: u16) -> Given
+    ensures { λ r. ⌜ r ≡ givenIf counts modes «key_len» limit ⌝ }
 {
     if counts {
-        return Settings {
+        return Given {
             modes,
             key_len,
             limit,
         };
     }
-    Settings {
+    Given {
         modes: 0,
         key_len: 0,
         limit: 0,

@@ -30,11 +30,11 @@ use Rattle.channel.specs.Key.{isKey}
 use Rattle.channel.specs.Channel.{Channel, member}
 use Rattle.channel.specs.Record.{encode, decode, emptyRecord}
 use Rattle.channel.specs.Members.{hasMember, others, withMembers, without}
-use Rattle.channel.specs.Standing.{counts, bare, standing}
-use Rattle.channel.specs.WellFormed.{goodTime, goodModes, goodKey, goodLimit, goodMember, goodMembers, channelTests, inRoom, clear, wellFormed, isBlank}
+use Rattle.channel.specs.Standing.{counts, settingsAt, bare, standing}
+use Rattle.channel.specs.WellFormed.{goodTime, goodSettings, goodKey, goodLimit, goodMember, goodMembers, channelTests, inRoom, clear, wellFormed, isBlank}
 use Rattle.channel.proofs.Fields.{peopled}
 use Rattle.channel.proofs.Examples.{2cd, 1ab, stored}
-use Rattle.merging.specs.Key.{greater}
+use Rattle.merging.specs.Settings.{greater, joinSettings}
 use Rattle.merging.specs.Merging.{merge}
 use Rattle.table.specs.declared.Table.{Table}
 use Rattle.table.specs.Table.{goodSlot, holds, alike, distinct, goodNetwork, goodTable}
@@ -82,11 +82,11 @@ quitting = 58 ∷ 50 ∷ 67 ∷ 68 ∷ 65 ∷ 65 ∷ 65 ∷ 65 ∷ 65 ∷ 65 ∷
 
 -- ---- what they come to
 water-good : goodTable water ≡ true
-unfolding water race stored 2cd withMode emptyRecord encode decode padded goodNetwork all goodSlot isBlank wellFormed inRoom clear channelTests goodTime goodModes goodKey goodLimit goodMembers goodMember isChannel isNameByte isPlain isKey isKeyByte startsWith within hasBit isUserId isServerId isDigit isIdByte ascends distinct alike holds sameName sameBy fold
+unfolding water race stored 2cd withMode emptyRecord encode decode padded goodNetwork all goodSlot isBlank wellFormed inRoom clear channelTests goodTime goodSettings goodKey goodLimit goodMembers goodMember isChannel isNameByte isPlain isKey isKeyByte startsWith within hasBit isUserId isServerId isDigit isIdByte ascends distinct alike holds sameName sameBy fold
 water-good = refl
 
 accepts : (firstOf (takenRules (networkOf water) (from3 joining)) ≡ accepted) × (firstOf (takenRules (networkOf water) (from3 parting)) ≡ accepted) × (firstOf (takenRules (networkOf water) (from3 quitting)) ≡ accepted)
-unfolding water race stored 2cd joining parting quitting takenRules slotRules commandAmong capital joinRules goodCount prefixIs isTime isDecimal leadsWithZero valueFrom isDigit isChannel isNameByte isServerId isUserId isIdByte isModes goodLetters once parametered goodArguments argumentsIn placeAmong goodEntries isEntry idOf past wordsAt contentOf contentIn isRead numberFor lineRules bodyRules firstOf endsLine sameBy bodyOf all isPlain startsWith prefix word prefixEnd commandStart spaces command isCommand isLetter within commandEnd rest params joinedRules resulting channelIn argumentOf modesByte memberOf statusOf slotFor firstAt freeSlot holds sameName fold emptyRecord encode decode padded withMode merge standing counts bare insert put unite compare greater partRules partedRules hasMember quitRules
+unfolding water race stored 2cd joining parting quitting takenRules slotRules commandAmong capital joinRules goodCount prefixIs isTime isDecimal leadsWithZero valueFrom isDigit isChannel isNameByte isServerId isUserId isIdByte isModes goodLetters once parametered goodArguments argumentsIn placeAmong goodEntries isEntry idOf past wordsAt contentOf contentIn isRead numberFor lineRules bodyRules firstOf endsLine sameBy bodyOf all isPlain startsWith prefix word prefixEnd commandStart spaces command isCommand isLetter within commandEnd rest params joinedRules resulting channelIn argumentOf modesByte memberOf statusOf slotFor firstAt freeSlot holds sameName fold emptyRecord encode decode padded withMode merge settingsAt standing counts bare insert put unite compare greater joinSettings partRules partedRules hasMember quitRules
 accepts = (refl, refl, refl)
 
 -- the lines that go out: `:1AB SJOIN 1000 #Race + :1ABAAAAAA 1ABAAAAAB`, `:2CDAAAAAA PART #race`, and the QUIT as it came
@@ -94,7 +94,7 @@ goes-out : (relayed (networkOf water) (from3 joining)
     ≡ 58 ∷ 49 ∷ 65 ∷ 66 ∷ 32 ∷ 83 ∷ 74 ∷ 79 ∷ 73 ∷ 78 ∷ 32 ∷ 49 ∷ 48 ∷ 48 ∷ 48 ∷ 32 ∷ 35 ∷ 82 ∷ 97 ∷ 99 ∷ 101 ∷ 32 ∷ 43 ∷ 32 ∷ 58 ∷ 49 ∷ 65 ∷ 66 ∷ 65 ∷ 65 ∷ 65 ∷ 65 ∷ 65 ∷ 65 ∷ 32 ∷ 49 ∷ 65 ∷ 66 ∷ 65 ∷ 65 ∷ 65 ∷ 65 ∷ 65 ∷ 66 ∷ crlf)
     × (relayed (networkOf water) (from3 parting) ≡ 58 ∷ 50 ∷ 67 ∷ 68 ∷ 65 ∷ 65 ∷ 65 ∷ 65 ∷ 65 ∷ 65 ∷ 32 ∷ 80 ∷ 65 ∷ 82 ∷ 84 ∷ 32 ∷ 35 ∷ 114 ∷ 97 ∷ 99 ∷ 101 ∷ crlf)
     × (relayed (networkOf water) (from3 quitting) ≡ quitting)
-unfolding water race stored 2cd joining parting quitting messageBy commandAmong capital written writtenBody writtenPrefix writtenParams writtenParam takesColon withCommand outgoing paramsOf separated prefixed entryOf lettersFrom digitsOf digitsUpTo hasBit isDigit argumentsIn placeAmong idOf past wordsAt contentOf contentIn isRead numberFor lineRules bodyRules firstOf endsLine sameBy bodyOf all isPlain startsWith prefix word prefixEnd commandStart spaces command isCommand isLetter within commandEnd rest params resulting channelIn argumentOf parametered modesByte valueFrom memberOf statusOf slotFor firstAt freeSlot holds sameName fold emptyRecord encode decode padded withMode merge standing counts bare insert put unite compare greater
+unfolding water race stored 2cd joining parting quitting messageBy commandAmong capital written writtenBody writtenPrefix writtenParams writtenParam takesColon withCommand outgoing paramsOf separated prefixed entryOf lettersFrom digitsOf digitsUpTo hasBit isDigit argumentsIn placeAmong idOf past wordsAt contentOf contentIn isRead numberFor lineRules bodyRules firstOf endsLine sameBy bodyOf all isPlain startsWith prefix word prefixEnd commandStart spaces command isCommand isLetter within commandEnd rest params resulting channelIn argumentOf parametered modesByte valueFrom memberOf statusOf slotFor firstAt freeSlot holds sameName fold emptyRecord encode decode padded withMode merge settingsAt standing counts bare insert put unite compare greater joinSettings
 goes-out = (refl, refl, refl)
 
 -- the slots after: time 1000, k `buoy`, members 1ABAAAAAA 0, 1ABAAAAAB 0, 2CDAAAAAA 2; and none once the member has left
@@ -103,7 +103,7 @@ unfolding stored
 after = peopled stored (member (1ab 65) 0 ∷ member (1ab 66) 0 ∷ member 2cd 2 ∷ [])
 
 comes-to : (networkBy (networkOf water) (from3 joining) .slots ≡ race (encode after)) × (networkBy (networkOf water) (from3 parting) .slots ≡ race emptyRecord) × (networkBy (networkOf water) (from3 quitting) .slots ≡ race emptyRecord)
-unfolding water race stored after 1ab 2cd joining parting quitting networkBy joined parted quitted without others withMembers commandAmong capital hasBit argumentsIn placeAmong idOf past wordsAt contentOf contentIn isRead numberFor lineRules bodyRules firstOf endsLine sameBy bodyOf all isPlain startsWith prefix word prefixEnd commandStart spaces command isCommand isLetter within commandEnd rest params resulting channelIn argumentOf parametered modesByte valueFrom memberOf statusOf slotFor firstAt freeSlot holds sameName fold emptyRecord encode decode padded withMode merge standing counts bare insert put unite compare greater
+unfolding water race stored after 1ab 2cd joining parting quitting networkBy joined parted quitted without others withMembers commandAmong capital hasBit argumentsIn placeAmong idOf past wordsAt contentOf contentIn isRead numberFor lineRules bodyRules firstOf endsLine sameBy bodyOf all isPlain startsWith prefix word prefixEnd commandStart spaces command isCommand isLetter within commandEnd rest params resulting channelIn argumentOf parametered modesByte valueFrom memberOf statusOf slotFor firstAt freeSlot holds sameName fold emptyRecord encode decode padded withMode merge settingsAt standing counts bare insert put unite compare greater joinSettings
 comes-to = (refl, refl, refl)
 
 -- the answer to a line that no rule refuses, of its parts

@@ -15,7 +15,7 @@ use Rattle.channel.specs.declared.Record.{Record}
 use Rattle.channel.specs.Limits.{slotCount}
 use Rattle.channel.specs.Channel.{Channel}
 use Rattle.channel.specs.Record.{encode, decode, emptyRecord}
-use Rattle.channel.specs.Standing.{counts, standing, bare}
+use Rattle.channel.specs.Standing.{counts, settingsAt, standing, bare}
 use Rattle.channel.proofs.Proper.{Proper, proper-fits}
 use Rattle.channel.proofs.Records.{decode-encode}
 use Rattle.merging.specs.declared.Merged.{Merged}
@@ -47,7 +47,7 @@ use Rattle.relay.proofs.Results.{back, held-inside, held-number, held-a
 
 -- ---- what goes out of an incoming record
 told-stands : (result incoming : Record) → decode (toldOf result incoming) ≡ outgoing (decode result) (decode incoming)
-unfolding toldOf decode outgoing counts standing bare
+unfolding toldOf decode outgoing counts settingsAt standing bare
 told-stands result incoming = go (eqb (incoming .time) (result .time)) refl
   where
     go : (t : Bool) → eqb (incoming .time) (result .time) ≡ t → decode (toldOf result incoming) ≡ outgoing (decode result) (decode incoming)

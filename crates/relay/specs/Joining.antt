@@ -1,10 +1,10 @@
 -- SJOIN (document 01, 'SJOIN' and 'What goes out'): the channel that the line tells of is merged into the slot that its name uses, or opens it.
-use mathlib.Core.List.{List, [], _++_}
+use mathlib.Core.List.{List, _++_}
 use lib.ListN.{set}
 use Rattle.refusal.specs.Rules.{Rule}
 use Rattle.channel.specs.Channel.{Channel}
 use Rattle.channel.specs.Record.{encode, decode}
-use Rattle.channel.specs.Standing.{given, standing}
+use Rattle.channel.specs.Standing.{settingsAt, standing}
 use Rattle.merging.specs.Merging.{merge, roomRules}
 use Rattle.table.specs.declared.Slot.{Slot}
 use Rattle.table.specs.declared.Slot.the-variants.{Held, Free, Full}
@@ -35,14 +35,12 @@ joinedRules n c = slotRules (n .slots) (c .name) ++ roomRules (resulting n c)
 unfoldable pub joined : Network → Channel → Network
 joined n c = withSlots n (set (n .slots) (placeOf (n .slots) (slotOf n c)) (encode (resulting n c)))
 
--- what goes out: resulting time, stored spelling; for a later incoming time no modes and bare ids, else the incoming modes and statuses
+-- what goes out: resulting time, stored spelling; for a later incoming time no settings and bare ids, else the incoming settings and statuses
 unfoldable pub outgoing : Channel → Channel → Channel
 outgoing result c = record {
   name = result .name;
   time = result .time;
-  modes = given 0 (λ d. d .modes) (result .time) c;
-  key = given [] (λ d. d .key) (result .time) c;
-  limit = given 0 (λ d. d .limit) (result .time) c;
+  settings = settingsAt (result .time) c;
   members = standing (result .time) c;
 }
 

@@ -18,9 +18,10 @@ use Rattle.names.specs.Names.{isServerId}
 use Rattle.channel.specs.Limits.{timeLimit, limitLimit}
 use Rattle.channel.specs.Modes.{keyMode, limitMode, hasMode, placeAmong}
 use Rattle.channel.specs.Key.{isKey}
+use Rattle.channel.specs.Settings.{Settings}
 use Rattle.channel.specs.Channel.{Channel, byId}
 use Rattle.channel.specs.Members.{ordered}
-use Rattle.channel.proofs.Proper.{Proper}
+use Rattle.channel.proofs.Proper.{ProperSettings, Proper}
 use Rattle.message.specs.Content.{Content, prefixIs}
 use Rattle.sjoin.specs.Modes.{keyLetter, limitLetter, isLimit, goodArgument, goodArguments, argumentOf, isModes}
 use Rattle.sjoin.specs.Entries.{goodEntries, named}
@@ -65,30 +66,31 @@ module _ (c : Channel) (p : Proper c) where
   list-back : ordered (named (listText (c .members))) ≡ c .members
   list-back = ap ordered (members-back (c .members) (p .listed)) ∙ unite-nil-left byId (c .members) (p .ascending)
 
-  key-good : hasMode (c .modes) keyMode ≡ true → isKey (c .key) ≡ true
-  key-good e = go (isNil (c .key)) refl
+module _ (s : Settings) (p : ProperSettings s) where
+  key-good : hasMode (s .modes) keyMode ≡ true → isKey (s .key) ≡ true
+  key-good e = go (isNil (s .key)) refl
     where
-      go : (t : Bool) → isNil (c .key) ≡ t → isKey (c .key) ≡ true
+      go : (t : Bool) → isNil (s .key) ≡ t → isKey (s .key) ≡ true
       go true f = absurd (true≢false (sym e ∙ p .keyed ∙ ap not f))
       go false f = rw f at (p .key)
 
-  key-none : hasMode (c .modes) keyMode ≡ false → c .key ≡ []
-  key-none e = nil (c .key) (sym e ∙ p .keyed)
+  key-none : hasMode (s .modes) keyMode ≡ false → s .key ≡ []
+  key-none e = nil (s .key) (sym e ∙ p .keyed)
     where
       nil : (k : List ℕ) → false ≡ not (isNil k) → k ≡ []
       nil [] h = refl
       nil (x ∷ k) h = absurd (true≢false (sym h))
 
-  limit-good : hasMode (c .modes) limitMode ≡ true → isLimit (digitsOf (c .limit)) ≡ true
+  limit-good : hasMode (s .modes) limitMode ≡ true → isLimit (digitsOf (s .limit)) ≡ true
   unfolding isLimit
   limit-good e =
-      let h : 0 < c .limit = ltb-true 0 (c .limit) (sym (p .limited) ∙ e) in
-      rw (decimal-digits (c .limit), value-digits (c .limit), le-leb 1 (c .limit) h, le-leb (c .limit) limitLimit (p .limit))
+      let h : 0 < s .limit = ltb-true 0 (s .limit) (sym (p .limited) ∙ e) in
+      rw (decimal-digits (s .limit), value-digits (s .limit), le-leb 1 (s .limit) h, le-leb (s .limit) limitLimit (p .limit))
 
-  limit-value : (b : Bool) → hasMode (c .modes) limitMode ≡ b → valueOf (cond b (digitsOf (c .limit)) []) ≡ c .limit
+  limit-value : (b : Bool) → hasMode (s .modes) limitMode ≡ b → valueOf (cond b (digitsOf (s .limit)) []) ≡ s .limit
   unfolding valueFrom
-  limit-value true e = value-digits (c .limit)
-  limit-value false e = let h = ltb-false 0 (c .limit) (sym (p .limited) ∙ e) in omega (arith, h)
+  limit-value true e = value-digits (s .limit)
+  limit-value false e = let h = ltb-false 0 (s .limit) (sym (p .limited) ∙ e) in omega (arith, h)
 
 -- ---- the parameters told, by whether key and limit are there
 abbrev content : List ℕ → List ℕ → List (List ℕ) → Content
@@ -108,25 +110,27 @@ shape false false sid command t n m k l s = (refl, refl, refl)
 pub channel-back : (c : Channel) → Proper c → (sid command : List ℕ) → channelIn (content sid command (paramsOf c)) ≡ c
 unfolding channelIn paramsOf argumentOf
 channel-back c p sid command =
-    let a = hasMode (c .modes) keyMode in
-    let b = hasMode (c .modes) limitMode in
-    let sh = shape a b sid command (digitsOf (c .time)) (c .name) (modesText (c .modes)) (c .key) (digitsOf (c .limit)) (listText (c .members)) in
-    let mb = modes-back (c .modes) (p .modes) in
-    rw (sh .1, sh .2, mb .1, mb .2, value-digits (c .time), key-at a b (c .key) (digitsOf (c .limit)) (key-none c p), limit-at a b (c .key) (digitsOf (c .limit)), limit-value c p b refl, list-back c p)
+    let s = c .settings in
+    let a = hasMode (s .modes) keyMode in
+    let b = hasMode (s .modes) limitMode in
+    let sh = shape a b sid command (digitsOf (c .time)) (c .name) (modesText (s .modes)) (s .key) (digitsOf (s .limit)) (listText (c .members)) in
+    let mb = modes-back (s .modes) (p .settings .modes) in
+    rw (sh .1, sh .2, mb .1, mb .2, value-digits (c .time), key-at a b (s .key) (digitsOf (s .limit)) (key-none s (p .settings)), limit-at a b (s .key) (digitsOf (s .limit)), limit-value s (p .settings) b refl, list-back c p)
 
 -- ---- and no rule refuses it
 -- No rule refuses what a server tells of a channel.
 pub rules-back : (c : Channel) → Proper c → (sid command : List ℕ) → isServerId sid ≡ true → accepted ≡ firstOf (joinRules (content sid command (paramsOf c)))
 unfolding paramsOf isModes prefixIs
 rules-back c p sid command h =
-    let a = hasMode (c .modes) keyMode in
-    let b = hasMode (c .modes) limitMode in
-    let sh = shape a b sid command (digitsOf (c .time)) (c .name) (modesText (c .modes)) (c .key) (digitsOf (c .limit)) (listText (c .members)) in
-    let mb = modes-back (c .modes) (p .modes) in
+    let s = c .settings in
+    let a = hasMode (s .modes) keyMode in
+    let b = hasMode (s .modes) limitMode in
+    let sh = shape a b sid command (digitsOf (c .time)) (c .name) (modesText (s .modes)) (s .key) (digitsOf (s .limit)) (listText (c .members)) in
+    let mb = modes-back (s .modes) (p .settings .modes) in
     let d = content sid command (paramsOf c) in
     sym
     (listed d (sym (sourced d (sh .0) h))
     (sym
     (settled d (time-back c p .0) (λ e. omega (arith, time-back c p .1, e, p .from)) (p .name)
-    (rw (sh .1, mb .0, mb .2) (fits a b (c .key) (digitsOf (c .limit)) (key-good c p) (limit-good c p)))))
+    (rw (sh .1, mb .0, mb .2) (fits a b (s .key) (digitsOf (s .limit)) (key-good s (p .settings)) (limit-good s (p .settings))))))
     (ap goodEntries (sh .2) ∙ list-good (c .members) (nil-length (c .members) ∙ ne-eqb (length (c .members)) 0 (λ e. omega (arith, p .some, e))) (p .listed)))

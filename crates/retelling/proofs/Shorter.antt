@@ -24,9 +24,10 @@ use Rattle.names.specs.Names.{isChannel}
 use Rattle.channel.specs.declared.Member.{Member}
 use Rattle.channel.specs.Limits.{limitLimit}
 use Rattle.channel.specs.Modes.{letters, keyMode, limitMode, hasMode, withMode, modePlace, plus}
+use Rattle.channel.specs.Settings.{Settings, noSettings}
 use Rattle.channel.specs.Channel.{Channel, voicePlace, operatorPlace, voice, operator, byId, at}
 use Rattle.channel.specs.Members.{ordered}
-use Rattle.channel.specs.Standing.{counts, bare, standing}
+use Rattle.channel.specs.Standing.{counts, settingsAt, bare, standing}
 use Rattle.channel.proofs.Letters.{has-no-mode}
 use Rattle.channel.proofs.Standing.{length-standing, sided, proper-sided}
 use Rattle.channel.proofs.Proper.{Proper}
@@ -161,40 +162,41 @@ module _ (c : Content) (none : firstOf (joinRules c) ≡ accepted) (p : Proper (
   time-shorter time h =
       omega (arith, digits-fewer (valueOf (timeIn c)) time h, ap (λ (s : List ℕ). length s) (digits-value (timeIn c) (and-left (isDecimal (timeIn c)) _ (good .time))))
 
-  -- modes, key and limit, of a side that counts or doesn't
-  abbrev modes : Bool → ℕ
-  modes t = cond t (channelIn c .modes) 0
+  -- the settings of a side that counts, or doesn't
+  abbrev settings : Bool → Settings
+  settings t = cond t (channelIn c .settings) noSettings
 
-  letters-shorter : (t : Bool) → length (modesText (modes t)) ≤ length (modesIn c)
+  letters-shorter : (t : Bool) → length (modesText (settings t .modes)) ≤ length (modesIn c)
   unfolding channelIn
   letters-shorter true = modes-shorter (modesIn c) sign
   letters-shorter false = modes-least (modesIn c) sign
 
-  arguments-shorter : (t : Bool) → cond (hasMode (modes t) keyMode) (suc (length (cond t (channelIn c .key) []))) 0
-      + cond (hasMode (modes t) limitMode) (suc (length (digitsOf (cond t (channelIn c .limit) 0)))) 0 ≤ room (argumentsIn c)
+  arguments-shorter : (t : Bool) → cond (hasMode (settings t .modes) keyMode) (suc (length (settings t .key))) 0
+      + cond (hasMode (settings t .modes) limitMode) (suc (length (digitsOf (settings t .limit)))) 0 ≤ room (argumentsIn c)
   unfolding channelIn argumentOf isModes
   arguments-shorter true =
       let s = parametered (lettersOf (modesIn c)) in
       let k = argumentOf keyLetter (modesIn c) (argumentsIn c) in
       let l = argumentOf limitLetter (modesIn c) (argumentsIn c) in
-      let limit = limit-takes (modes true) (lettersOf (modesIn c)) l (p .limited) (argument-given (modesIn c) (argumentsIn c) limitLetter refl (good .modes)) in
+      let limit = limit-takes (settings true .modes) (lettersOf (modesIn c)) l (p .settings .limited) (argument-given (modesIn c) (argumentsIn c) limitLetter refl (good .modes)) in
       let both = arguments-room keyLetter limitLetter refl s (argumentsIn c) (and-right (goodLetters (modesIn c)) _ (good .modes)) in
-      omega (arith, key-takes (modes true) k (p .keyed), limit, both)
+      omega (arith, key-takes (settings true .modes) k (p .settings .keyed), limit, both)
   arguments-shorter false = rw (has-no-mode keyMode, has-no-mode limitMode) (omega arith)
 
   -- What a side tells at a time that is no later, under a name as long, is no longer than what was told of it.
   pub told-shorter : (sid name : List ℕ) (time : ℕ) → c .prefix ≡ some sid → length (c .command) ≡ length sjoin → isChannel name ≡ true → length name ≡ length (nameIn c)
       → 1 ≤ time → time ≤ channelIn c .time
       → length (written (joinMessage sid (sided name time (channelIn c)))) ≤ length (written c)
-  unfolding paramsOf argumentsIn channelIn
+  unfolding paramsOf argumentsIn channelIn settingsAt
   told-shorter sid name time source command named same from until =
       let ch = channelIn c in
       let o = sided name time ch in
       let q = proper-sided name time ch named from (omega (arith, p .until)) p in
-      let a = hasMode (o .modes) keyMode in
-      let b = hasMode (o .modes) limitMode in
+      let s = o .settings in
+      let a = hasMode (s .modes) keyMode in
+      let b = hasMode (s .modes) limitMode in
       written-shorter (joinMessage sid o) c
-      (before a b (digitsOf time) name (modesText (o .modes)) (o .key) (digitsOf (o .limit)))
+      (before a b (digitsOf time) name (modesText (s .modes)) (s .key) (digitsOf (s .limit)))
       (timeIn c ∷ nameIn c ∷ modesIn c ∷ argumentsIn c)
       (listText (o .members))
       (listIn c)
@@ -202,6 +204,6 @@ module _ (c : Content) (none : firstOf (joinRules c) ≡ accepted) (p : Proper (
       (parts (c .params) (bounds c (good .count) .0) (bounds c (good .count) .1))
       (sym source)
       (omega (arith, command))
-      (omega (arith, before-room a b (digitsOf time) name (modesText (o .modes)) (o .key) (digitsOf (o .limit)), time-shorter time until, letters-shorter (counts time ch), arguments-shorter (counts time ch)))
+      (omega (arith, before-room a b (digitsOf time) name (modesText (s .modes)) (s .key) (digitsOf (s .limit)), time-shorter time until, letters-shorter (counts time ch), arguments-shorter (counts time ch)))
       (list-shorter ch (listIn c) refl time (p .some))
       (λ m. entry-alone (o .members) (q .some) (standing-one ch (listIn c) refl time m) (q .listed))

@@ -115,11 +115,13 @@ module _ (c : Content) (none : firstOf (joinRules c) ≡ accepted) (small : leng
         name = good .name;
         from = omega (arith, eqb-false (valueOf (timeIn c)) 0 (sym (time-zero (timeIn c) (good .time)) ∙ good .after));
         until = time-to;
-        modes = bits-small s;
-        keyed = bits-have keyLetter s letters-good ∙ k .0;
-        key = k .1;
-        limited = bits-have limitLetter s letters-good ∙ l .0;
-        limit = l .1;
+        settings = record {
+          modes = bits-small s;
+          keyed = bits-have keyLetter s letters-good ∙ k .0;
+          key = k .1;
+          limited = bits-have limitLetter s letters-good ∙ l .0;
+          limit = l .1;
+        };
         some = unite-some byId [] n (nil-map memberOf (wordsOf (listIn c)) ∙ words-some);
         few = omega (arith, unite-few byId [] n, length-map (wordsOf (listIn c)) memberOf, list-room (listIn c) (good .list) small);
         listed = all-unite byId goodMember both-statuses [] n refl (named-good (wordsOf (listIn c)) (list-entries (listIn c) (good .list)));

@@ -83,9 +83,11 @@ unfoldable pub channelIn : Content → Channel
 channelIn c = record {
   name = nameIn c;
   time = valueOf (timeIn c);
-  modes = modesByte (modesIn c);
-  key = argumentOf keyLetter (modesIn c) (argumentsIn c);
-  limit = valueOf (argumentOf limitLetter (modesIn c) (argumentsIn c));
+  settings = record {
+    modes = modesByte (modesIn c);
+    key = argumentOf keyLetter (modesIn c) (argumentsIn c);
+    limit = valueOf (argumentOf limitLetter (modesIn c) (argumentsIn c));
+  };
   members = ordered (named (listIn c));
 }
 

@@ -19,7 +19,7 @@ use Rattle.channel.specs.Limits.{slotCount}
 use Rattle.channel.specs.Key.{isKey}
 use Rattle.channel.specs.Modes.{withMode}
 use Rattle.channel.specs.Record.{encode, decode, emptyRecord}
-use Rattle.channel.specs.WellFormed.{goodTime, goodModes, goodKey, goodLimit, goodMember, goodMembers, channelTests, inRoom, clear, wellFormed, isBlank}
+use Rattle.channel.specs.WellFormed.{goodTime, goodSettings, goodKey, goodLimit, goodMember, goodMembers, channelTests, inRoom, clear, wellFormed, isBlank}
 use Rattle.channel.proofs.Examples.{stored, 2cd}
 use Rattle.table.specs.declared.Table.{Table}
 use Rattle.table.specs.declared.Slot.{Slot}
@@ -45,7 +45,7 @@ many = record { slots = replicate slotCount race; links = noLinks }
 
 -- the second has equal names
 judged : goodTable one ∷ goodTable many ∷ [] ≡ true ∷ false ∷ []
-unfolding one many race stored 2cd withMode emptyRecord encode decode padded goodNetwork all goodSlot isBlank wellFormed inRoom clear channelTests goodTime goodModes goodKey goodLimit goodMembers goodMember isChannel isNameByte isPlain isKey isKeyByte startsWith within hasBit isUserId isServerId isDigit isIdByte ascends distinct alike holds sameName sameBy fold
+unfolding one many race stored 2cd withMode emptyRecord encode decode padded goodNetwork all goodSlot isBlank wellFormed inRoom clear channelTests goodTime goodSettings goodKey goodLimit goodMembers goodMember isChannel isNameByte isPlain isKey isKeyByte startsWith within hasBit isUserId isServerId isDigit isIdByte ascends distinct alike holds sameName sameBy fold
 judged = refl
 
 -- #rACE, which is held, and #b, which is new and takes the second slot, or finds none

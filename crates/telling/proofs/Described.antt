@@ -23,7 +23,7 @@ use Rattle.channel.specs.Limits.{memberLimit, keyLimit}
 use Rattle.channel.specs.Modes.{letters, keyMode, limitMode, hasMode}
 use Rattle.channel.specs.Channel.{Channel}
 use Rattle.telling.specs.Telling.{lettersFrom, modesText, listText, paramsOf, described, descriptionLimit, describedIn}
-use Rattle.telling.specs.Private.Pieces.{settingsText}
+use Rattle.telling.specs.Private.Pieces.{leadText}
 use Rattle.telling.proofs.Lengths.{takes, entry-few, list-length}
 
 -- ---- the pieces, by whether key and limit are there
@@ -37,10 +37,11 @@ spaced false true t n m k l s = simp (append-assoc, append-nil)
 spaced false false t n m k l s = simp (append-assoc, append-nil)
 
 -- The pieces one behind the other are a SPACE and the text.
-pub described-text : (c : Channel) → settingsText c ++ (space ∷ []) ++ listText (c .members) ≡ space ∷ described c
-unfolding described paramsOf settingsText
+pub described-text : (c : Channel) → leadText c ++ (space ∷ []) ++ listText (c .members) ≡ space ∷ described c
+unfolding described paramsOf leadText
 described-text c =
-    spaced (hasMode (c .modes) keyMode) (hasMode (c .modes) limitMode) (digitsOf (c .time)) (c .name) (modesText (c .modes)) (c .key) (digitsOf (c .limit)) (listText (c .members))
+    let s = c .settings in
+    spaced (hasMode (s .modes) keyMode) (hasMode (s .modes) limitMode) (digitsOf (c .time)) (c .name) (modesText (s .modes)) (s .key) (digitsOf (s .limit)) (listText (c .members))
 
 -- ---- how long they are
 letters-few : (k : ℕ) (s : List ℕ) (modes : ℕ) → length (lettersFrom k s modes) ≤ length s
@@ -56,23 +57,24 @@ cond-few : (t : Bool) (s : List ℕ) → length (cond t s []) ≤ length s
 cond-few true s = omega arith
 cond-few false s = omega arith
 
-settings-few : (c : Channel) → length (settingsText c) ≤ 14 + length (digitsOf (c .time)) + length (c .name) + length (c .key) + length (digitsOf (c .limit))
-unfolding settingsText
-settings-few c =
+lead-few : (c : Channel) → length (leadText c) ≤ 14 + length (digitsOf (c .time)) + length (c .name) + length (c .settings .key) + length (digitsOf (c .settings .limit))
+unfolding leadText
+lead-few c =
+    let s = c .settings in
     let timed : List ℕ = space ∷ digitsOf (c .time) in
     let named : List ℕ = timed ++ (space ∷ c .name) in
-    let lettered : List ℕ = named ++ (space ∷ modesText (c .modes)) in
-    let key : List ℕ = cond (hasMode (c .modes) keyMode) (space ∷ c .key) [] in
-    let limit : List ℕ = cond (hasMode (c .modes) limitMode) (space ∷ digitsOf (c .limit)) [] in
+    let lettered : List ℕ = named ++ (space ∷ modesText (s .modes)) in
+    let key : List ℕ = cond (hasMode (s .modes) keyMode) (space ∷ s .key) [] in
+    let limit : List ℕ = cond (hasMode (s .modes) limitMode) (space ∷ digitsOf (s .limit)) [] in
     omega (
       arith,
       length-append timed (space ∷ c .name),
-      length-append named (space ∷ modesText (c .modes)),
+      length-append named (space ∷ modesText (s .modes)),
       length-append lettered key,
       length-append (lettered ++ key) limit,
-      letters-few 0 letters (c .modes),
-      cond-few (hasMode (c .modes) keyMode) (space ∷ c .key),
-      cond-few (hasMode (c .modes) limitMode) (space ∷ digitsOf (c .limit)),
+      letters-few 0 letters (s .modes),
+      cond-few (hasMode (s .modes) keyMode) (space ∷ s .key),
+      cond-few (hasMode (s .modes) limitMode) (space ∷ digitsOf (s .limit)),
     )
 
 -- every id has its nine bytes
@@ -93,21 +95,21 @@ list-few [] few h = omega (arith, ap (λ (s : List ℕ). length s) (separated-en
 list-few (m ∷ l) few h = omega (arith, list-length (m ∷ l) (omega arith), entries-few (m ∷ l) h)
 
 -- ---- so there is room
-module _ (c : Channel) (time : c .time < 2 ^ 32) (name : length (c .name) ≤ nameLimit) (key : length (c .key) ≤ keyLimit) (limit : c .limit < 2 ^ 16) where
+module _ (c : Channel) (time : c .time < 2 ^ 32) (name : length (c .name) ≤ nameLimit) (key : length (c .settings .key) ≤ keyLimit) (limit : c .settings .limit < 2 ^ 16) where
   -- The text is never longer than its limit.
   pub described-few : length (c .members) ≤ memberLimit → Whole (c .members) → length (described c) ≤ descriptionLimit
   described-few few whole =
-      let settings = settingsText c in
+      let lead = leadText c in
       let list = listText (c .members) in
       omega (
         arith,
         ap (λ (l : List ℕ). length l) (described-text c),
-        length-append (settings ++ (space ∷ [])) list,
-        length-append settings (space ∷ []),
-        settings-few c,
+        length-append (lead ++ (space ∷ [])) list,
+        length-append lead (space ∷ []),
+        lead-few c,
         list-few (c .members) few whole,
         digits-ten (c .time) time,
-        digits-within (c .limit) 4 (omega arith),
+        digits-within (c .settings .limit) 4 (omega arith),
       )
 
 -- ---- what is put into lent room

@@ -6,6 +6,7 @@ use mathlib.Core.List.{List, [], _∷_}
 use Rattle.laws.specs.Bits.{hasBit}
 use Rattle.octets.specs.Decimals.{digitsUpTo, digitsOf}
 use Rattle.laws.specs.Lists.{all, startsWith, prefixed, separated}
+use Rattle.channel.specs.Settings.{noSettings}
 use Rattle.channel.specs.Channel.{Channel, member}
 use Rattle.channel.proofs.Examples.{1ab}
 use Rattle.message.specs.Reading.{crlf}
@@ -17,7 +18,7 @@ sid : List ℕ
 sid = 49 ∷ 65 ∷ 66 ∷ []
 
 -- `:1AB SJOIN 1000 #Race + :1ABAAAAAA 1ABAAAAAB`
-later-told : written (joinMessage sid (record { name = 35 ∷ 82 ∷ 97 ∷ 99 ∷ 101 ∷ []; time = 1000; modes = 0; key = []; limit = 0; members = member (1ab 65) 0 ∷ member (1ab 66) 0 ∷ [] }))
+later-told : written (joinMessage sid (record { name = 35 ∷ 82 ∷ 97 ∷ 99 ∷ 101 ∷ []; time = 1000; settings = noSettings; members = member (1ab 65) 0 ∷ member (1ab 66) 0 ∷ [] }))
     ≡ 58 ∷ 49 ∷ 65 ∷ 66 ∷ 32 ∷ 83 ∷ 74 ∷ 79 ∷ 73 ∷ 78 ∷ 32 ∷ 49 ∷ 48 ∷ 48 ∷ 48 ∷ 32 ∷ 35 ∷ 82 ∷ 97 ∷ 99 ∷ 101 ∷ 32 ∷ 43 ∷ 32
     ∷ 58 ∷ 49 ∷ 65 ∷ 66 ∷ 65 ∷ 65 ∷ 65 ∷ 65 ∷ 65 ∷ 65 ∷ 32 ∷ 49 ∷ 65 ∷ 66 ∷ 65 ∷ 65 ∷ 65 ∷ 65 ∷ 65 ∷ 66 ∷ crlf
 unfolding sid 1ab written writtenBody writtenPrefix writtenParams writtenParam takesColon paramsOf separated prefixed lettersFrom entryOf digitsOf digitsUpTo hasBit all startsWith
@@ -25,7 +26,7 @@ later-told = refl
 
 -- one with all that a line can have
 keyed : Channel
-keyed = record { name = 35 ∷ 97 ∷ []; time = 7; modes = 196; key = 98 ∷ 117 ∷ 111 ∷ 121 ∷ []; limit = 10; members = member (1ab 65) 3 ∷ [] }
+keyed = record { name = 35 ∷ 97 ∷ []; time = 7; settings = record { modes = 196; key = 98 ∷ 117 ∷ 111 ∷ 121 ∷ []; limit = 10 }; members = member (1ab 65) 3 ∷ [] }
 
 -- `:1AB SJOIN 7 #a +nkl buoy 10 @+1ABAAAAAA`: the key before the limit, and no ':' before one entry
 keyed-told : written (joinMessage sid keyed)

@@ -25,7 +25,7 @@ use Rattle.message.specs.Reading.{crlf}
 use Rattle.writer.specs.Form.{takesColon, writtenParam, writtenParams, written}
 use Rattle.writer.proofs.Parts.{colon-then, written-before, written-last, written-sourced}
 use Rattle.telling.specs.Telling.{lettersFrom, modesText, entryOf, listText, paramsOf, sjoin, joinMessage, tellRules}
-use Rattle.telling.specs.Private.Pieces.{listPlace, settingsText}
+use Rattle.telling.specs.Private.Pieces.{listPlace, leadText}
 
 -- ---- the letters, one by one
 -- The letter at a place is told if the byte has its mode, and those behind it follow.
@@ -65,7 +65,7 @@ entries-past l k h = rw (drop-of-length-le l {i = k} h) (separated-end space k)
 pub list-over : (k : ℕ) (p : List ℕ) (n : ℕ) → n < length p → n < length (space ∷ writtenParam k true p)
 list-over k p n h = omega (arith, ap (λ (l : List ℕ). length l) (colon-then k true p), length-append (cond (takesColon k true p) (colon ∷ []) []) p)
 
--- ---- the settings, by whether key and limit are there
+-- ---- the parameters, by whether key and limit are there
 params-text : (a b : Bool) (t n m k l s : List ℕ) → writtenParams 0 ((t ∷ n ∷ m ∷ []) ++ cond a (k ∷ []) [] ++ cond b (l ∷ []) [] ++ (s ∷ []))
     ≡ (space ∷ t) ++ (space ∷ n) ++ (space ∷ m) ++ cond a (space ∷ k) [] ++ cond b (space ∷ l) [] ++ (space ∷ writtenParam (3 + cond a 1 0 + cond b 1 0) true s)
 params-text true true t n m k l s = simp (written-before, written-last, append-assoc)
@@ -76,14 +76,15 @@ params-text false false t n m k l s = simp (written-before, written-last, append
 -- ---- the whole line
 -- The line is its pieces one behind the other.
 pub join-text : (sid : List ℕ) (c : Channel)
-    → (colon ∷ sid) ++ (space ∷ sjoin) ++ settingsText c ++ (space ∷ writtenParam (listPlace (c .modes)) true (listText (c .members))) ++ crlf ≡ written (joinMessage sid c)
-unfolding paramsOf settingsText listPlace
+    → (colon ∷ sid) ++ (space ∷ sjoin) ++ leadText c ++ (space ∷ writtenParam (listPlace (c .settings .modes)) true (listText (c .members))) ++ crlf ≡ written (joinMessage sid c)
+unfolding paramsOf leadText listPlace
 join-text sid c =
+    let s = c .settings in
     let head : List ℕ = (colon ∷ sid) ++ (space ∷ sjoin) in
-    let last : List ℕ = space ∷ writtenParam (listPlace (c .modes)) true (listText (c .members)) in
-    let p : writtenParams 0 (paramsOf c) ≡ settingsText c ++ last =
-    params-text (hasMode (c .modes) keyMode) (hasMode (c .modes) limitMode) (digitsOf (c .time)) (c .name) (modesText (c .modes)) (c .key) (digitsOf (c .limit)) (listText (c .members)) in
-    sym (written-sourced sid sjoin (paramsOf c) ∙ ap (λ (l : List ℕ). l ++ crlf) (ap (λ (l : List ℕ). head ++ l) p ∙ sym (append-assoc head (settingsText c) last)))
+    let last : List ℕ = space ∷ writtenParam (listPlace (s .modes)) true (listText (c .members)) in
+    let p : writtenParams 0 (paramsOf c) ≡ leadText c ++ last =
+    params-text (hasMode (s .modes) keyMode) (hasMode (s .modes) limitMode) (digitsOf (c .time)) (c .name) (modesText (s .modes)) (s .key) (digitsOf (s .limit)) (listText (c .members)) in
+    sym (written-sourced sid sjoin (paramsOf c) ∙ ap (λ (l : List ℕ). l ++ crlf) (ap (λ (l : List ℕ). head ++ l) p ∙ sym (append-assoc head (leadText c) last)))
 
 -- ---- when it is written
 module _ (sid : List ℕ) (c : Channel) (out : List ℕ) where

@@ -148,7 +148,8 @@ command-good = refl
 pub told-good : (sid : List ℕ) (c : Channel) → isServerId sid ≡ true → Proper c → good (joinMessage sid c) ≡ true
 unfolding good goodSource paramsOf
 told-good sid c h p =
+    let s = c .settings in
     rw (source-good sid h, command-good)
-    (params-good (hasMode (c .modes) keyMode) (hasMode (c .modes) limitMode) (digitsOf (c .time)) (c .name) (modesText (c .modes)) (c .key) (digitsOf (c .limit)) (listText (c .members))
-    (digits-middle (c .time)) (name-middle (c .name) (p .name)) (modes-middle (c .modes)) (λ e. keyed-middle (c .key) (p .key) (sym (p .keyed) ∙ e)) (digits-middle (c .limit))
+    (params-good (hasMode (s .modes) keyMode) (hasMode (s .modes) limitMode) (digitsOf (c .time)) (c .name) (modesText (s .modes)) (s .key) (digitsOf (s .limit)) (listText (c .members))
+    (digits-middle (c .time)) (name-middle (c .name) (p .name)) (modes-middle (s .modes)) (λ e. keyed-middle (s .key) (p .settings .key) (sym (p .settings .keyed) ∙ e)) (digits-middle (s .limit))
     (list-plain (c .members) (p .listed)))

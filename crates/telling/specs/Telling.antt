@@ -39,9 +39,9 @@ listText l = separated space (map entryOf l)
 -- what follows the command
 unfoldable pub paramsOf : Channel → List (List ℕ)
 paramsOf c =
-    (digitsOf (c .time) ∷ c .name ∷ modesText (c .modes) ∷ [])
-    ++ cond (hasMode (c .modes) keyMode) (c .key ∷ []) []
-    ++ cond (hasMode (c .modes) limitMode) (digitsOf (c .limit) ∷ []) []
+    (digitsOf (c .time) ∷ c .name ∷ modesText (c .settings .modes) ∷ [])
+    ++ cond (hasMode (c .settings .modes) keyMode) (c .settings .key ∷ []) []
+    ++ cond (hasMode (c .settings .modes) limitMode) (digitsOf (c .settings .limit) ∷ []) []
     ++ (listText (c .members) ∷ [])
 
 -- and the same as a text of its own, one SPACE between parameters

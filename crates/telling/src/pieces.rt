@@ -13,7 +13,7 @@ ghost use Rattle.channel.specs.Record.{decode};
 ghost use Rattle.message.specs.Grammar.{lineLimit};
 ghost use Rattle.writer.specs.Form.{writtenParam, written};
 ghost use Rattle.telling.specs.Telling.{modesText, entryOf, listText, described, joinMessage};
-ghost use Rattle.telling.specs.Private.Pieces.{listPlace, settingsText};
+ghost use Rattle.telling.specs.Private.Pieces.{listPlace, leadText};
 use channel::Member;
 use channel::Record;
 use channel::modes::KEY_MODE;
@@ -27,13 +27,13 @@ use octets::put;
 use writer::form::takes_colon;
 
 // The parameters that always come before the list: time, name and modes.
-const SETTINGS: usize = 3;
+const FIXED: usize = 3;
 
 // The place of the list among the parameters: behind the time, the name, the modes, and the key and the limit where they are told.
 fn list_place(modes: u8) -> usize
     ensures { λ k. ⌜ k ≡ listPlace modes ⌝ }
 {
-    SETTINGS + has_mode(modes, KEY_MODE) as usize + has_mode(modes, LIMIT_MODE) as usize
+    FIXED + has_mode(modes, KEY_MODE) as usize + has_mode(modes, LIMIT_MODE) as usize
 }
 
 // Adds the bytes if the test holds.
@@ -101,9 +101,9 @@ fn put_limit(line: &mut [u8], at: usize, modes: u8, limit: u32) -> usize
     at
 }
 
-// Adds all that comes before the list, a SPACE before each parameter.
-fn put_settings(line: &mut [u8], at: usize, r: Record) -> usize
-    ensures { λ n. ⌜ Adds (now (line .entry)) at (now (line .exit)) n (settingsText (decode r)) ⌝ }
+// Adds the time, the name and the settings, a SPACE before each parameter: all that comes before the list.
+fn put_lead(line: &mut [u8], at: usize, r: Record) -> usize
+    ensures { λ n. ⌜ Adds (now (line .entry)) at (now (line .exit)) n (leadText (decode r)) ⌝ }
 {
     let name = r.name;
     let key = r.key;
@@ -175,8 +175,8 @@ pub(crate) fn put_join(source: &[u8], r: Record, line: &mut [u8]) -> usize
     let after = put(line, 0, b":");
     let sourced = put(line, after, source);
     let commanded = put(line, sourced, b" SJOIN");
-    let settled = put_settings(line, commanded, r);
-    let listed = put_list(line, settled, r);
+    let led = put_lead(line, commanded, r);
+    let listed = put_list(line, led, r);
     put(line, listed, b"\r\n")
 }
 
@@ -185,7 +185,7 @@ pub(crate) fn put_description(r: Record, text: &mut [u8]) -> usize
     ensures { λ n. ⌜ Adds (now (text .entry)) 0 (now (text .exit)) n (space ∷ described (decode r)) ⌝ }
 {
     let members = r.members;
-    let settled = put_settings(text, 0, r);
-    let next = put(text, settled, b" ");
+    let led = put_lead(text, 0, r);
+    let next = put(text, led, b" ");
     put_entries(text, next, members, r.count)
 }

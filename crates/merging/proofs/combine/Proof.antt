@@ -52,11 +52,11 @@ returns c =
     c .refused .ensures
     ∙ sym (combined-over (a .a) (a .b) (time u) (timed u) _ _ (first u) (second u) (omega (arith, u .united .ensures .counts, c .before .if1 .taken)))
 
-given-requires : tie.Need-given-requires
-given-requires c κs = search needs
+given-if-requires : tie.Need-given-if-requires
+given-if-requires c κs = search needs
 
-given-requires-2 : tie.Need-given-requires-2
-given-requires-2 c κs = search needs
+given-if-requires-2 : tie.Need-given-if-requires-2
+given-if-requires-2 c κs = search needs
 
 greatest-requires : tie.Need-greatest-requires
 greatest-requires c κs = search needs
@@ -77,8 +77,8 @@ returns-2 c =
     let a = start u .args in
     let n : length (members (a .a) (u .before .before .within .result) (a .b) (u .before .within2 .result) (time u)) ≤ memberLimit = omega (arith, u .united .ensures .counts, x .before .if1 .left) in
     sym
-    (combined-fits (a .a) (a .b) (time u) (timed u) _ _ (first u) (second u) (f .front .result) (x .given .result) (y .given2 .result) (g .greatest .result) (c .larger .result) (u .united .result)
-    (f .front .ensures) (x .given .ensures) (y .given2 .ensures) (g .greatest .ensures) (c .larger .ensures) (u .united .ensures .holds n) n)
+    (combined-fits (a .a) (a .b) (time u) (timed u) _ _ (first u) (second u) (f .front .result) (x .given-if .result) (y .given-if2 .result) (g .greatest .result) (c .larger .result) (u .united .result)
+    (f .front .ensures) (x .given-if .ensures) (y .given-if2 .ensures) (g .greatest .ensures) (c .larger .ensures) (u .united .ensures .holds n) n)
 
 pub combine-spec : {M : Type 1} → statement M
 combine-spec =
@@ -90,8 +90,8 @@ combine-spec =
     united-requires
     refused-requires
     returns
-    given-requires
-    given-requires-2
+    given-if-requires
+    given-if-requires-2
     greatest-requires
     front-requires
     larger-requires

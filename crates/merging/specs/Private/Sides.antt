@@ -6,13 +6,13 @@ use lib.ListN.{length}
 use Rattle.laws.specs.Lists.{padded}
 use Rattle.names.specs.Names.{nameLimit}
 use Rattle.channel.specs.Limits.{keyLimit}
-use Rattle.merging.specs.declared.sides.Settings.{Settings}
+use Rattle.merging.specs.declared.sides.Given.{Given}
 use Rattle.merging.specs.declared.sides.Key.{Key}
 use Rattle.merging.specs.declared.sides.Name.{Name}
 
 -- the modes, the key's length and the limit, or nothing
-unfoldable pub settingsOf : Bool → ℕ → ℕ → ℕ → Settings
-settingsOf counts modes len limit = record { modes = cond counts modes 0; «key_len» = cond counts len 0; limit = cond counts limit 0 }
+unfoldable pub givenIf : Bool → ℕ → ℕ → ℕ → Given
+givenIf counts modes len limit = record { modes = cond counts modes 0; «key_len» = cond counts len 0; limit = cond counts limit 0 }
 
 -- a key in its room
 unfoldable pub keyOf : List ℕ → Key

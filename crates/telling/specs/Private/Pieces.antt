@@ -12,11 +12,11 @@ use Rattle.telling.specs.Telling.{modesText}
 unfoldable pub listPlace : ℕ → ℕ
 listPlace modes = 3 + cond (hasMode modes keyMode) 1 0 + cond (hasMode modes limitMode) 1 0
 
--- all that comes between the command and the list, a SPACE before each parameter
-unfoldable pub settingsText : Channel → List ℕ
-settingsText c =
+-- all that comes between the command and the list, a SPACE before each parameter: the time, the name and the settings
+unfoldable pub leadText : Channel → List ℕ
+leadText c =
     (space ∷ digitsOf (c .time))
     ++ (space ∷ c .name)
-    ++ (space ∷ modesText (c .modes))
-    ++ cond (hasMode (c .modes) keyMode) (space ∷ c .key) []
-    ++ cond (hasMode (c .modes) limitMode) (space ∷ digitsOf (c .limit)) []
+    ++ (space ∷ modesText (c .settings .modes))
+    ++ cond (hasMode (c .settings .modes) keyMode) (space ∷ c .settings .key) []
+    ++ cond (hasMode (c .settings .modes) limitMode) (space ∷ digitsOf (c .settings .limit)) []

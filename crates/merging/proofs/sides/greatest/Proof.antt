@@ -10,8 +10,8 @@ use borrow.Author.Needs.{needs}
 use Rattle.octets.specs.Order.{compare, isLess}
 use Rattle.octets.proofs.Room.{part-front}
 use Rattle.channel.specs.Limits.{keyLimit}
-use Rattle.merging.specs.Key.{greater}
-use Rattle.merging.proofs.Keys.{greater-is}
+use Rattle.merging.specs.Settings.{greater}
+use Rattle.merging.proofs.Settings.{greater-is}
 use Rattle.merging.proofs.Rooms.{key-put}
 use Rattle.merging.proofs.sides.greatest.Statement.{statement}
 use Rattle.merging.proofs.sides.greatest.Tie as tie

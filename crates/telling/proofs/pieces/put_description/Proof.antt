@@ -1,4 +1,4 @@
--- `put_description` meets its contract: the settings, a SPACE and the entries are added one after the other. Assumes nothing.
+-- `put_description` meets its contract: what comes before the list, a SPACE and the entries are added one after the other. Assumes nothing.
 use mathlib.Core.List.{[], _∷_}
 use borrow.Author.Needs.{needs}
 use Rattle.octets.specs.Bytes.{space}
@@ -8,8 +8,8 @@ use Rattle.telling.proofs.Described.{described-text}
 use Rattle.telling.proofs.pieces.put_description.Statement.{statement}
 use Rattle.telling.proofs.pieces.put_description.Tie as tie
 
-put-settings-requires : tie.Need-put-settings-requires
-put-settings-requires c κs = search needs
+put-lead-requires : tie.Need-put-lead-requires
+put-lead-requires c κs = search needs
 
 slice-aggregate-put : tie.Need-slice-aggregate-put
 slice-aggregate-put c = search needs
@@ -28,18 +28,18 @@ unfolding decode
 returns c =
     let listed = c .before .before in
     let spaced = listed .before .before .before .before in
-    let settled = spaced .before .before .before .before .before in
-    let r = settled .before .before .before .before .args .r in
+    let led = spaced .before .before .before .before .before in
+    let r = led .before .before .before .before .args .r in
     rw (← described-text (decode r))
     (adds-then _ _ _ _ _ _ _ _
-    (adds-then _ _ _ _ _ _ _ (space ∷ []) (settled .put-settings .ensures) (added _ _ _ _ _ (spaced .put .ensures .0) (spaced .put .ensures .1)))
+    (adds-then _ _ _ _ _ _ _ (space ∷ []) (led .put-lead .ensures) (added _ _ _ _ _ (spaced .put .ensures .0) (spaced .put .ensures .1)))
     (listed .put-entries .ensures))
 
 pub put-description-spec : {M : Type 1} → statement M
 put-description-spec =
     tie.close
     (tie.spec
-    put-settings-requires
+    put-lead-requires
     slice-aggregate-put
     put-requires
     put-entries-requires

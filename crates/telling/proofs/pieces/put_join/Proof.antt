@@ -25,8 +25,8 @@ slice-aggregate-put-2 c = search needs
 put-requires-3 : tie.Need-put-requires-3
 put-requires-3 c κs = search needs
 
-put-settings-requires : tie.Need-put-settings-requires
-put-settings-requires c κs = search needs
+put-lead-requires : tie.Need-put-lead-requires
+put-lead-requires c κs = search needs
 
 put-list-requires : tie.Need-put-list-requires
 put-list-requires c κs = search needs
@@ -45,8 +45,8 @@ unfolding decode
 returns c =
     let ended = c .before .before in
     let listed = ended .before .before .before .before .before in
-    let settled = listed .before .before .before .before in
-    let commanded = settled .before .before .before .before in
+    let led = listed .before .before .before .before in
+    let commanded = led .before .before .before .before in
     let sourced = commanded .before .before .before .before .before in
     let opened = sourced .before .before .before .before in
     let a = opened .before .before .before .before .before .args in
@@ -57,7 +57,7 @@ returns c =
     (adds-then _ _ _ _ _ _ _ (space ∷ sjoin)
     (adds-then _ _ _ _ _ _ (colon ∷ []) _ (added _ _ _ _ _ (opened .put .ensures .0) (opened .put .ensures .1)) (added _ _ _ _ _ (sourced .put2 .ensures .0) (sourced .put2 .ensures .1)))
     (added _ _ _ _ _ (commanded .put3 .ensures .0) (commanded .put3 .ensures .1)))
-    (settled .put-settings .ensures))
+    (led .put-lead .ensures))
     (listed .put-list .ensures))
     (added _ _ _ _ _ (ended .put4 .ensures .0) (ended .put4 .ensures .1)))
 
@@ -70,7 +70,7 @@ put-join-spec =
     put-requires-2
     slice-aggregate-put-2
     put-requires-3
-    put-settings-requires
+    put-lead-requires
     put-list-requires
     slice-aggregate-put-3
     put-requires-4

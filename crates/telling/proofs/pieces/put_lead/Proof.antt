@@ -1,10 +1,10 @@
--- `put_settings` meets its contract: the settings are added one after the other, name and key as far as they are in use. Assumes nothing.
+-- `put_lead` meets its contract: time, name, modes, key and limit are added one after the other, name and key as far as they are in use. Assumes nothing.
 use borrow.Author.Needs.{needs}
 use Rattle.octets.proofs.Room.{part-front, adds-then}
 use Rattle.channel.specs.Record.{decode}
-use Rattle.telling.specs.Private.Pieces.{settingsText}
-use Rattle.telling.proofs.pieces.put_settings.Statement.{statement}
-use Rattle.telling.proofs.pieces.put_settings.Tie as tie
+use Rattle.telling.specs.Private.Pieces.{leadText}
+use Rattle.telling.proofs.pieces.put_lead.Statement.{statement}
+use Rattle.telling.proofs.pieces.put_lead.Tie as tie
 
 put-number-requires : tie.Need-put-number-requires
 put-number-requires c κs = search needs
@@ -40,7 +40,7 @@ same-length : tie.Need-same-length
 same-length c = search needs
 
 returns : tie.Need-returns
-unfolding settingsText decode
+unfolding leadText decode
 returns c =
     let limited = c .before .before in
     let keyed = limited .before .before .before .before .before in
@@ -56,8 +56,8 @@ returns c =
     (rw (keyed .before .part2 .ensures .0, part-front (r .key) (r .«key_len»)) at (keyed .put-key .ensures)))
     (limited .put-limit .ensures)
 
-pub put-settings-spec : {M : Type 1} → statement M
-put-settings-spec =
+pub put-lead-spec : {M : Type 1} → statement M
+put-lead-spec =
     tie.close
     (tie.spec
     put-number-requires
