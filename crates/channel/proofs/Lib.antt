@@ -9,7 +9,6 @@ pub mod Standing
 pub mod Removals
 pub mod Blank
 pub mod Decoded
-pub mod Fronts
 pub mod Gathering
 pub mod Examples
 pub mod Witnesses

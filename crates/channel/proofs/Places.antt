@@ -1,19 +1,19 @@
 -- The places of a record's members: of those in use each is a member and smaller than the next, looked at one after the other, and the rest is vacant.
 -- Assumes nothing.
-use mathlib.Core.Path.{_≡_, refl, _∙_}
+use mathlib.Core.Path.{_≡_, refl, ap, _∙_}
 use mathlib.Core.Bool.{Bool, true, false, _&&_, and-true}
 use mathlib.Core.List.{List, [], _∷_}
 use Prim.Native.Nat.{ℕ, _+_, _≤_, _<_}
 use native.Mathlib.Omega.{arith}
 use lib.ListN.{length, take, drop, getD, length-take, length-drop}
+use lib.Seq.{length-take-le, getD-take}
 use Rattle.laws.specs.Lists.{all}
 use Rattle.octets.specs.Order.{compare, isLess}
-use Rattle.laws.proofs.Lists.{all-past}
+use Rattle.laws.proofs.Lists.{front-step, all-past, all-step}
 use Rattle.ascending.specs.Ascending.{ascends}
 use Rattle.channel.specs.declared.Member.{Member}
 use Rattle.channel.specs.Channel.{byId}
 use Rattle.channel.specs.WellFormed.{isVacant, goodMember}
-use Rattle.channel.proofs.Fronts.{front-step, all-front}
 
 -- members that ascend
 abbrev pub proper : List Member → Bool
@@ -55,4 +55,4 @@ module _ (l : List Member) (n : ℕ) where
     pub proper-last : i + 1 ≡ n → proper (drop i (take n l)) ≡ goodMember (getD l i d)
     proper-last h =
         rw (short (drop i (take n l)) (omega (arith, length-drop i (take n l), length-take n l)), and-true (all goodMember (drop i (take n l))))
-        (all-front l n i d (omega arith) k goodMember ∙ rw (all-past goodMember (take n l) (i + 1) (omega (arith, length-take n l))) (and-true (goodMember (getD l i d))))
+        ((all-step goodMember (take n l) i d (omega (arith, length-take-le n l k)) ∙ ap (λ (m : Member). goodMember m && all goodMember (drop (i + 1) (take n l))) (getD-take n l i d (omega arith))) ∙ rw (all-past goodMember (take n l) (i + 1) (omega (arith, length-take n l))) (and-true (goodMember (getD l i d))))

@@ -8,6 +8,7 @@ use lib.Bits.{bitOr}
 use lib.ListN.{length, take}
 use lib.Dec.{eqb, ltb}
 use borrow.Author.Tests.{lt-ltb, le-ltb}
+use Rattle.laws.proofs.Lists.{take-within}
 use Rattle.refusal.specs.Numbers.{accepted, notWellFormed, badName, tooManyMembers}
 use Rattle.refusal.specs.Rules.{Rule, _when_, firstOf}
 use Rattle.refusal.proofs.Rules.{skip, stop, first-nil}
@@ -26,7 +27,6 @@ use Rattle.channel.specs.WellFormed.{wellFormed}
 use Rattle.channel.specs.Members.{roster}
 use Rattle.channel.specs.Standing.{counts, settingsAt, bare, standing}
 use Rattle.channel.proofs.Fields.{channel-path}
-use Rattle.channel.proofs.Fronts.{take-within}
 use Rattle.channel.proofs.Records.{decode-encode}
 use Rattle.channel.proofs.Proper.{Proper, proper-fits, well-says, encode-well}
 use Rattle.channel.proofs.Statuses.{stays-byId}

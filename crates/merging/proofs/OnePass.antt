@@ -12,7 +12,7 @@ use Rattle.octets.specs.declared.Order.the-variants.{Less, Same, More}
 use Rattle.laws.specs.Lists.{padded}
 use Rattle.octets.specs.Order.{compare}
 use Rattle.ascending.specs.Ascending.{taken, onePass}
-use Rattle.laws.proofs.Lists.{length-padded}
+use Rattle.laws.proofs.Lists.{length-padded, front-step}
 use Rattle.ascending.proofs.Ascends.{pass-nil-left, pass-nil-right, pass-step}
 use Rattle.channel.specs.declared.Member.{Member}
 use Rattle.channel.specs.declared.Roster.{Roster}
@@ -20,7 +20,6 @@ use Rattle.channel.specs.Limits.{memberLimit}
 use Rattle.channel.specs.Channel.{byId}
 use Rattle.channel.specs.Record.{nobody}
 use Rattle.channel.specs.Members.{roster}
-use Rattle.channel.proofs.Fronts.{front-step}
 use Rattle.channel.proofs.Gathering.{Gathers, gathers-take, gathers-more, gathers-roster}
 use Rattle.merging.specs.declared.uniting.Next.{Next}
 use Rattle.merging.specs.Private.Uniting.{Packed, Fills, asGiven, nextFrom}

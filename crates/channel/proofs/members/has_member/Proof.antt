@@ -6,14 +6,13 @@ use lib.ListN.{length, take, drop, length-take}
 use lib.Seq.{getD-take}
 use borrow.Author.Needs.{needs}
 use Rattle.laws.specs.Lists.{same}
-use Rattle.laws.proofs.Lists.{unmapped}
+use Rattle.laws.proofs.Lists.{unmapped, take-within}
 use Rattle.channel.specs.declared.Member.{Member}
 use Rattle.channel.specs.declared.Record.{Record}
 use Rattle.channel.specs.Limits.{memberLimit}
 use Rattle.channel.specs.Members.{hasMember}
 use Rattle.channel.specs.Record.{decode}
 use Rattle.channel.proofs.Others.{has-stop, has-go, has-past}
-use Rattle.channel.proofs.Fronts.{take-within}
 use Rattle.channel.proofs.members.has_member.Statement.{statement}
 use Rattle.channel.proofs.members.has_member.Tie as tie
 

@@ -6,10 +6,10 @@ use Prim.Native.Nat.{_+_, _-_, _≤_, _<_}
 use native.Mathlib.Omega.{arith}
 use lib.ListN.{length}
 use borrow.Author.Needs.{needs}
+use Rattle.laws.proofs.Lists.{take-within}
 use Rattle.channel.specs.declared.Member.{Member}
 use Rattle.channel.specs.Limits.{memberLimit}
 use Rattle.channel.specs.Members.{roster, ordered}
-use Rattle.channel.proofs.Fronts.{take-within}
 use Rattle.channel.proofs.Gathering.{gathers-roster}
 use Rattle.channel.proofs.Ordering.{Inserted, inserted-none, inserted-sorted, inserted-last, inserted-count, inserted-put}
 use Rattle.channel.proofs.members.ordered.Statement.{statement}

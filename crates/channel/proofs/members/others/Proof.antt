@@ -5,14 +5,13 @@ use Prim.Native.Nat.{_-_, _≤_}
 use native.Mathlib.Omega.{arith}
 use lib.ListN.{length, take}
 use borrow.Author.Needs.{needs}
-use Rattle.laws.proofs.Lists.{unmapped}
+use Rattle.laws.proofs.Lists.{unmapped, take-within}
 use Rattle.channel.specs.declared.Member.{Member}
 use Rattle.channel.specs.Limits.{memberLimit}
 use Rattle.channel.specs.Members.{roster, others}
 use Rattle.channel.specs.Record.{decode}
 use Rattle.channel.proofs.Gathering.{Gathers, gathers-more, gathers-roster}
 use Rattle.channel.proofs.Others.{others-gone, others-stay}
-use Rattle.channel.proofs.Fronts.{take-within}
 use Rattle.channel.proofs.members.others.Statement.{statement}
 use Rattle.channel.proofs.members.others.Tie as tie
 
