@@ -55,7 +55,7 @@ extern "C" {
 #endif
 
 /* The version of the whole project, as the file VERSION has it. */
-#define RELAY_VERSION "0.2.0"
+#define RELAY_VERSION "0.3.0"
 
 /* The bytes of stack that are enough for a call. */
 #define RELAY_STACK 131072

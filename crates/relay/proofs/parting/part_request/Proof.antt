@@ -28,23 +28,39 @@ use Rattle.relay.proofs.parting.part_request.Tie as tie
 abbrev content : tie.Start → Content
 content c = contentBy (c .args .line .now) (c .args .t2)
 
+-- ---- the moments after each test, and the one before it
+abbrev first : tie.Else1 → tie.Start
+first c = c .before .before
+
+abbrev counted : tie.Else2 → tie.Start
+counted c = first (c .before)
+
+abbrev second : tie.After-is-user-id → tie.Else2
+second c = c .before .before
+
+abbrev third : tie.After-is-channel → tie.Else3
+third c = c .before .before
+
+abbrev judged : tie.Else3 → tie.Start
+judged c = counted (second (c .before))
+
 -- ---- what is known after each test
 count : (c : tie.Start) → length (content c .params) ≡ min (c .args .t2 .count) paramLimit
 count c = params-count (c .args .line .now) (c .args .t2) (search (needs, unmapped))
 
-some : (c : tie.Else1) → 1 ≤ length (content (c .before .before) .params)
-some c = omega (arith, c .if1 .left, count (c .before .before))
+some : (c : tie.Else1) → 1 ≤ length (content (first c) .params)
+some c = omega (arith, c .if1 .left, count (first c))
 
-few : (c : tie.Else2) → length (content (c .before .before .before) .params) ≤ 2
-few c = omega (arith, c .if2 .left, count (c .before .before .before))
+few : (c : tie.Else2) → length (content (counted c) .params) ≤ 2
+few c = omega (arith, c .if2 .left, count (counted c))
 
-sourced : (c : tie.After-is-user-id) (t : Bool) → c .is-user-id .result ≡ t → prefixIs isUserId (content (c .before .before .before .before .before) .prefix) ≡ t
-sourced c t e = user-told (content (c .before .before .before .before .before)) (c .before .prefix-in .result .now) (c .before .prefix-in .ensures .0) _ t (c .is-user-id .ensures) e
+sourced : (c : tie.After-is-user-id) (t : Bool) → c .is-user-id .result ≡ t → prefixIs isUserId (content (counted (second c)) .prefix) ≡ t
+sourced c t e = user-told (content (counted (second c))) (c .before .prefix-in .result .now) (c .before .prefix-in .ensures .0) _ t (c .is-user-id .ensures) e
 
-user : (c : tie.Else3) → prefixIs isUserId (content (c .before .before .before .before .before .before) .prefix) ≡ true
+user : (c : tie.Else3) → prefixIs isUserId (content (judged c) .prefix) ≡ true
 user c = sourced (c .before) true (not-false _ (c .if3 .left))
 
-channel : (c : tie.After-is-channel) (t : Bool) → c .is-channel .result ≡ t → isChannel (partedIn (content (c .before .before .before .before .before .before .before .before))) ≡ t
+channel : (c : tie.After-is-channel) (t : Bool) → c .is-channel .result ≡ t → isChannel (partedIn (content (judged (third c)))) ≡ t
 channel c t e = ap isChannel (sym (c .before .param-in .ensures .0)) ∙ sym (c .is-channel .ensures) ∙ e
 
 -- ---- a refusal
@@ -66,8 +82,9 @@ nothing-requires-2 c κs = search needs
 
 returns-2 : tie.Need-returns-2
 returns-2 c =
-    let s = c .before .before .before .before in
-    refuses s _ (c .nothing2 .result) (c .nothing2 .ensures) (λ z. omega (arith, z)) (part-many (content s) (some (c .before .before)) (omega (arith, c .before .if2 .taken, count s)))
+    let one = c .before .before in
+    let s = first one in
+    refuses s _ (c .nothing2 .result) (c .nothing2 .ensures) (λ z. omega (arith, z)) (part-many (content s) (some one) (omega (arith, c .before .if2 .taken, count s)))
 
 prefix-in-requires : tie.Need-prefix-in-requires
 prefix-in-requires c κs = search needs
@@ -80,10 +97,11 @@ nothing-requires-3 c κs = search needs
 
 returns-3 : tie.Need-returns-3
 returns-3 c =
-    let s = c .before .before .before .before .before .before .before in
-    let two = c .before .before .before .before in
+    let source = c .before .before in
+    let two = second source in
+    let s = counted two in
     refuses s _ (c .nothing3 .result) (c .nothing3 .ensures) (λ z. omega (arith, z))
-    (part-unsourced (content s) (some (two .before)) (few two) (sourced (c .before .before) false (not-true _ (c .before .if3 .taken))))
+    (part-unsourced (content s) (some (two .before)) (few two) (sourced source false (not-true _ (c .before .if3 .taken))))
 
 param-in-requires : tie.Need-param-in-requires
 param-in-requires c κs = search needs
@@ -96,11 +114,12 @@ nothing-requires-4 c κs = search needs
 
 returns-4 : tie.Need-returns-4
 returns-4 c =
-    let s = c .before .before .before .before .before .before .before .before .before .before in
-    let three = c .before .before .before .before in
-    let two = three .before .before .before in
+    let name = c .before .before in
+    let three = third name in
+    let two = second (three .before) in
+    let s = counted two in
     refuses s _ (c .nothing4 .result) (c .nothing4 .ensures) (λ z. omega (arith, z))
-    (part-unnamed (content s) (some (two .before)) (few two) (user three) (channel (c .before .before) false (not-true _ (c .before .if4 .taken))))
+    (part-unnamed (content s) (some (two .before)) (few two) (user three) (channel name false (not-true _ (c .before .if4 .taken))))
 
 element-copy-out-name : tie.Need-element-copy-out-name
 element-copy-out-name c = search needs
@@ -114,9 +133,9 @@ empty-requires c κs = search needs
 returns-5 : tie.Need-returns-5
 returns-5 c =
     let four = c .before .before .before in
-    let three = four .before .before .before in
-    let two = three .before .before .before in
-    let s = four .before .before .before .before .before .before .before .before .before in
+    let three = third (four .before) in
+    let two = second (three .before) in
+    let s = counted two in
     let source = three .before .before .prefix-in in
     rw (c .empty .ensures .0, user-held (content s) (source .result .now) (source .ensures .0) (user three) _ (c .before .user-id .ensures))
     (asked-passes Part (s .args .t2) (content s) (part-passes (content s) (some (two .before)) (few two) (user three) (channel (four .before) true (not-false _ (four .if4 .left)))))

@@ -28,15 +28,22 @@ use Rattle.relay.proofs.quitting.quit_request.Tie as tie
 abbrev content : tie.Start → Content
 content c = contentBy (c .args .line .now) (c .args .m)
 
+-- the start, from the moments after each test
+abbrev counted : tie.Else1 → tie.Start
+counted c = c .before .before
+
+abbrev judged : tie.After-is-user-id → tie.Start
+judged c = counted (c .before .before)
+
 -- ---- what is known after each test
 count : (c : tie.Start) → length (content c .params) ≡ min (c .args .m .count) paramLimit
 count c = params-count (c .args .line .now) (c .args .m) (search (needs, unmapped))
 
-few : (c : tie.Else1) → length (content (c .before .before) .params) ≤ 1
-few c = omega (arith, c .if1 .left, count (c .before .before))
+few : (c : tie.Else1) → length (content (counted c) .params) ≤ 1
+few c = omega (arith, c .if1 .left, count (counted c))
 
-sourced : (c : tie.After-is-user-id) (t : Bool) → c .is-user-id .result ≡ t → prefixIs isUserId (content (c .before .before .before .before) .prefix) ≡ t
-sourced c t e = user-told (content (c .before .before .before .before)) (c .before .prefix-in .result .now) (c .before .prefix-in .ensures .0) _ t (c .is-user-id .ensures) e
+sourced : (c : tie.After-is-user-id) (t : Bool) → c .is-user-id .result ≡ t → prefixIs isUserId (content (judged c) .prefix) ≡ t
+sourced c t e = user-told (content (judged c)) (c .before .prefix-in .result .now) (c .before .prefix-in .ensures .0) _ t (c .is-user-id .ensures) e
 
 -- ---- a refusal
 refuses : (c : tie.Start) (k : ℕ) (q : Asked) → q ≡ nothing k → (k ≡ accepted → ⊥) → firstOf (quitRules (content c)) ≡ k → q ≡ askedBy Quit (c .args .m) (content c)
@@ -64,7 +71,7 @@ nothing-requires-2 c κs = search needs
 returns-2 : tie.Need-returns-2
 returns-2 c =
     let u = c .before .before in
-    refuses (u .before .before .before .before) _ (c .nothing2 .result) (c .nothing2 .ensures) (λ z. omega (arith, z)) (quit-unsourced _ (few (u .before .before)) (sourced u _ (not-true _ (c .before .if2 .taken))))
+    refuses (judged u) _ (c .nothing2 .result) (c .nothing2 .ensures) (λ z. omega (arith, z)) (quit-unsourced _ (few (u .before .before)) (sourced u _ (not-true _ (c .before .if2 .taken))))
 
 user-id-requires : tie.Need-user-id-requires
 user-id-requires c κs = search needs
@@ -75,7 +82,7 @@ empty-requires c κs = search needs
 returns-3 : tie.Need-returns-3
 returns-3 c =
     let u = c .before .before .before in
-    let s = u .before .before .before .before in
+    let s = judged u in
     let source = u .before .prefix-in in
     let user : prefixIs isUserId (content s .prefix) ≡ true = sourced u _ (not-false _ (c .before .before .if2 .left)) in
     rw (c .empty .ensures .0, user-held (content s) (source .result .now) (source .ensures .0) user _ (c .before .user-id .ensures)) (asked-passes Quit (s .args .m) (content s) (quit-passes _ (few (u .before .before)) user))
