@@ -39,7 +39,7 @@ use Rattle.merging.specs.Merging.{merge}
 use Rattle.table.specs.declared.Table.{Table}
 use Rattle.table.specs.Table.{goodSlot, holds, alike, distinct, goodNetwork, goodTable}
 use Rattle.table.specs.Network.{networkOf}
-use Rattle.table.specs.Slots.{firstAt, freeSlot, slotFor, placeOf, slotRules}
+use Rattle.table.specs.Slots.{slotIn, firstAt, freeSlot, slotFor, placeOf, slotRules}
 use Rattle.sjoin.specs.Modes.{once, goodLetters, modesByte, parametered, goodArguments, argumentOf, isModes}
 use Rattle.sjoin.specs.Entries.{past, idOf, statusOf, isEntry, memberOf, goodEntries}
 use Rattle.sjoin.specs.Join.{argumentsIn, goodCount, joinRules, channelIn, isTime}
@@ -47,7 +47,7 @@ use Rattle.telling.specs.Telling.{lettersFrom, entryOf, paramsOf}
 use Rattle.relay.specs.declared.Taken.{Taken}
 use Rattle.relay.specs.declared.Command.the-variants.{Sjoin}
 use Rattle.relay.specs.Arrival.{Arrival, arrival}
-use Rattle.relay.specs.Joining.{slotOf, resulting, joinedRules, joined, outgoing}
+use Rattle.relay.specs.Joining.{resulting, joinedRules, joined, outgoing}
 use Rattle.relay.specs.Parting.{partRules, partedRules, parted}
 use Rattle.relay.specs.Quitting.{quitRules, quitted}
 use Rattle.relay.specs.Commands.{commandAmong, commandIn}
@@ -140,7 +140,7 @@ is-sjoin : commandIn joining ≡ Sjoin
 unfolding joining commandAmong capital contentOf contentIn isRead numberFor lineRules bodyRules firstOf endsLine sameBy bodyOf all isPlain startsWith prefix word prefixEnd commandStart spaces command isCommand isLetter within commandEnd rest params
 is-sjoin = refl
 
-changes-one : OneChanged (networkOf water) (networkBy (networkOf water) (from3 joining)) (channelIn (contentOf joining)) (placeOf (water .slots) (slotOf (networkOf water) (channelIn (contentOf joining)))) (encode (resulting (networkOf water) (channelIn (contentOf joining))))
+changes-one : OneChanged (networkOf water) (networkBy (networkOf water) (from3 joining)) (channelIn (contentOf joining)) (placeOf (water .slots) (slotIn (networkOf water) (channelIn (contentOf joining) .name))) (encode (resulting (networkOf water) (channelIn (contentOf joining))))
 changes-one = join-one (networkOf water) (from3 joining) water-good is-sjoin (accepts .0)
 
 -- and does so whatever the other links are: here link 3 alone is registered

@@ -31,9 +31,10 @@ use Rattle.table.specs.Table.{goodTable}
 use Rattle.sjoin.specs.Join.{joinRules, channelIn}
 use Rattle.telling.specs.Telling.{sjoin}
 use Rattle.sjoin.proofs.Wellformed.{read-proper}
+use Rattle.table.specs.Slots.{slotIn}
 use Rattle.relay.specs.declared.Command.the-variants.{Sjoin}
 use Rattle.relay.specs.Arrival.{Arrival, said}
-use Rattle.relay.specs.Joining.{slotOf, resulting, joinedRules, joined}
+use Rattle.relay.specs.Joining.{resulting, joinedRules, joined}
 use Rattle.relay.specs.Commands.{commandAmong, commandIn}
 use Rattle.relay.specs.Relay.{meaningIn, commandRules, takenRules, processRules}
 use Rattle.relay.proofs.Results.{slot-told, room-left}
@@ -119,12 +120,12 @@ module _ (a : Arrival) (is : IsJoin (a .line)) where
 -- ---- the slots
 module _ (n : Network) (c : Channel) (k : ℕ) where
   -- the channel is new
-  pub opened : slotOf n c ≡ Free k → joined n c ≡ withSlots n (set (n .slots) k (encode c))
+  pub opened : slotIn n (c .name) ≡ Free k → joined n c ≡ withSlots n (set (n .slots) k (encode c))
   unfolding joined resulting
   opened e = rw e
 
   -- the channel is there
-  module _ (e : slotOf n c ≡ Held k) where
+  module _ (e : slotIn n (c .name) ≡ Held k) where
     pub merged : joined n c ≡ withSlots n (set (n .slots) k (encode (merge (decode (getD (n .slots) k emptyRecord)) c)))
     unfolding joined resulting
     merged = rw e

@@ -22,14 +22,14 @@ use Rattle.table.specs.declared.Slot.{Slot}
 use Rattle.table.specs.declared.Slot.the-variants.{Held, Free, Full}
 use Rattle.table.specs.Network.{Network}
 use Rattle.table.specs.Table.{goodSlot, goodNetwork}
-use Rattle.table.specs.Slots.{heldIn, isHeld, placeOf}
+use Rattle.table.specs.Slots.{slotIn, heldIn, isHeld, placeOf}
 use Rattle.table.proofs.Searching.{slot-held}
 use Rattle.table.proofs.WellFormed.{slots-good, slots-distinct}
 use Rattle.table.proofs.Changing.{good-at, without-good, without-keeps, kept-set, distinct-kept}
 use Rattle.relay.specs.declared.Command.the-variants.{Part}
 use Rattle.relay.specs.declared.Change.{Change}
 use Rattle.relay.specs.Arrival.{Arrival, said, sourceIn}
-use Rattle.relay.specs.Parting.{partedIn, partRules, slotOf, partedRules, parted, meaning}
+use Rattle.relay.specs.Parting.{partedIn, partRules, partedRules, parted, meaning}
 use Rattle.relay.specs.Relay.{commandRules}
 use Rattle.relay.specs.Private.Parting.{parts, partsHeld, partsFound}
 use Rattle.relay.proofs.Judgements.{Judged, refused-judged, settles}
@@ -86,11 +86,11 @@ module _ (n : Network) (a : Arrival) where
     rest : firstOf (commandRules meaning n a) ≡ firstOf (partedRules n (said a))
     rest = append-none (partedRules n (said a)) (partRules (said a)) (own-numbered (said a)) own
 
-    absent : isHeld (slotOf n (said a)) ≡ false → firstOf (commandRules meaning n a) ≡ noSuchChannel
+    absent : isHeld (slotIn n (partedIn (said a))) ≡ false → firstOf (commandRules meaning n a) ≡ noSuchChannel
     unfolding partedRules
     absent e = rest ∙ stop _ _ (ap not e)
 
-    module _ (k : ℕ) (e : slotOf n (said a) ≡ Held k) where
+    module _ (k : ℕ) (e : slotIn n (partedIn (said a)) ≡ Held k) where
       abbrev held : Record
       held = getD (n .slots) k emptyRecord
 
@@ -110,20 +110,20 @@ module _ (n : Network) (a : Arrival) where
               settles meaning n a accepted (user-decides ∙ skip _ _ (ap not h) ∙ first-nil) j (parts k (without (sourceIn (said a)) held)) refl i (λ _. record { network = rw e; sends = refl }) (f ∙ rw h)
           go false h = refused-judged meaning n a notOnChannel (user-decides ∙ stop _ _ (ap not h)) j (λ z. omega (arith, z)) (f ∙ rw h)
 
-    settled : length (n .slots) ≡ slotCount → (j : Change) (s : Slot) → slotOf n (said a) ≡ s → j ≡ partsFound s (heldIn (n .slots) s) (sourceIn (said a)) → Judged meaning n a j
+    settled : length (n .slots) ≡ slotCount → (j : Change) (s : Slot) → slotIn n (partedIn (said a)) ≡ s → j ≡ partsFound s (heldIn (n .slots) s) (sourceIn (said a)) → Judged meaning n a j
     settled sixteen j (Held k) e f = judged-held k e (omega (arith, slot-held (n .slots) (partedIn (said a)) emptyRecord k e .inside)) j f
     settled sixteen j (Free k) e f = refused-judged meaning n a noSuchChannel (absent (ap isHeld e)) j (λ z. omega (arith, z)) f
     settled sixteen j Full e f = refused-judged meaning n a noSuchChannel (absent (ap isHeld e)) j (λ z. omega (arith, z)) f
 
   -- ---- where no rule refuses it
   -- it names a channel that is there
-  names-held : firstOf (commandRules meaning n a) ≡ accepted → isHeld (slotOf n (said a)) ≡ true
+  names-held : firstOf (commandRules meaning n a) ≡ accepted → isHeld (slotIn n (partedIn (said a))) ≡ true
   unfolding partedRules
   names-held none = not-false _ (first-none _ _ (λ z. omega arith) (both-none (partedRules n (said a)) (partRules (said a)) (own-numbered (said a)) none .1) .0)
 
-  keeps : goodNetwork n ≡ true → isHeld (slotOf n (said a)) ≡ true → goodNetwork (parted n (said a)) ≡ true
+  keeps : goodNetwork n ≡ true → isHeld (slotIn n (partedIn (said a))) ≡ true → goodNetwork (parted n (said a)) ≡ true
   unfolding goodNetwork parted
-  keeps good = go (slotOf n (said a))
+  keeps good = go (slotIn n (partedIn (said a)))
     where
       slots : List Record
       slots = n .slots
@@ -149,7 +149,7 @@ lawful = record {
   asks = λ m c. refl;
   judged = λ n a good sixteen read own j e.
       let found = name-found (a .line) (n .slots) 0 (omega arith) (names-channel (said a) own) in
-      settled n a own sixteen j (slotOf n (said a)) refl (e ∙ ap (λ (f : Found). partsFound (f .slot) (f .«record») (sourceIn (said a))) found);
+      settled n a own sixteen j (slotIn n (partedIn (said a))) refl (e ∙ ap (λ (f : Found). partsFound (f .slot) (f .«record») (sourceIn (said a))) found);
   leaves = λ n a. refl;
   keeps = λ n a p. keeps n a (p .good) (names-held n a (p .none));
   reads = λ n a p. as-read (a .line) (p .read);

@@ -34,17 +34,17 @@ use Rattle.table.specs.declared.Slot.{Slot}
 use Rattle.table.specs.declared.Slot.the-variants.{Held, Free, Full}
 use Rattle.table.specs.Network.{Network, withSlots}
 use Rattle.table.specs.Table.{isFree, goodSlot, holds, distinct, goodNetwork}
-use Rattle.table.specs.Slots.{slotNumber, placeOf, slotRules}
+use Rattle.table.specs.Slots.{slotIn, slotNumber, placeOf, slotRules}
 use Rattle.table.proofs.First.{IsFirst}
 use Rattle.table.proofs.Searching.{slot-held, slot-free, number-is}
 use Rattle.table.proofs.WellFormed.{holding-used, holding-name, slots-good, slots-distinct}
 use Rattle.table.proofs.Using.{held-well}
 use Rattle.table.proofs.Changing.{well-used, well-good, kept-set, distinct-kept, distinct-new}
-use Rattle.relay.specs.Joining.{slotOf, resultIn, resulting, joinedRules, joined}
+use Rattle.relay.specs.Joining.{resultIn, resulting, joinedRules, joined}
 
 -- ---- its rules
 -- number 21, by the slot that its name uses
-pub slot-told : (n : Network) (c : Channel) (s : Slot) → slotOf n c ≡ s → firstOf (slotRules (n .slots) (c .name)) ≡ slotNumber s
+pub slot-told : (n : Network) (c : Channel) (s : Slot) → slotIn n (c .name) ≡ s → firstOf (slotRules (n .slots) (c .name)) ≡ slotNumber s
 slot-told n c s e = sym (number-is (n .slots) (c .name)) ∙ ap slotNumber e
 
 -- where there is one, number 22 is left
@@ -64,7 +64,7 @@ module _ (n : Network) (c : Channel) (p : Proper c) where
   back = decode-encode c (proper-fits c p)
 
   -- slot k holds the name
-  module _ (k : ℕ) (e : slotOf n c ≡ Held k) where
+  module _ (k : ℕ) (e : slotIn n (c .name) ≡ Held k) where
     abbrev there : Record
     there = getD (n .slots) k emptyRecord
 
@@ -102,7 +102,7 @@ module _ (n : Network) (c : Channel) (p : Proper c) where
       held-answer z = ap (λ (m : Merged). m .result) held-merges ∙ rw (held-rules, z, back, held-result)
 
   -- no slot holds it, and slot k is free
-  module _ (k : ℕ) (e : slotOf n c ≡ Free k) where
+  module _ (k : ℕ) (e : slotIn n (c .name) ≡ Free k) where
     pub free-inside : k < length (n .slots)
     free-inside = slot-free (n .slots) (c .name) emptyRecord k e .1 .inside
 
@@ -117,9 +117,9 @@ module _ (n : Network) (c : Channel) (p : Proper c) where
   -- what results has the name, in the stored spelling, and a time that is no later
   pub result-heads : goodNetwork n ≡ true → (isChannel (resulting n c .name) ≡ true) × (length (resulting n c .name) ≡ length (c .name)) × (1 ≤ resulting n c .time) × (resulting n c .time ≤ c .time)
   unfolding resulting merge
-  result-heads good = go (slotOf n c) refl
+  result-heads good = go (slotIn n (c .name)) refl
     where
-      go : (s : Slot) → slotOf n c ≡ s → (isChannel (resultIn n c s .name) ≡ true) × (length (resultIn n c s .name) ≡ length (c .name)) × (1 ≤ resultIn n c s .time) × (resultIn n c s .time ≤ c .time)
+      go : (s : Slot) → slotIn n (c .name) ≡ s → (isChannel (resultIn n c s .name) ≡ true) × (length (resultIn n c s .name) ≡ length (c .name)) × (1 ≤ resultIn n c s .time) × (resultIn n c s .time ≤ c .time)
       go (Held k) e =
           let r = getD (n .slots) k emptyRecord in
           let h = well-says r (held-well (n .slots) (slots-good n good) (c .name) k e) .holds in
@@ -128,7 +128,7 @@ module _ (n : Network) (c : Channel) (p : Proper c) where
       go Full e = (p .name, refl, p .from, omega arith)
 
 -- nor is one free
-pub full-rules : (n : Network) (c : Channel) → slotOf n c ≡ Full → firstOf (joinedRules n c) ≡ noFreeSlot
+pub full-rules : (n : Network) (c : Channel) → slotIn n (c .name) ≡ Full → firstOf (joinedRules n c) ≡ noFreeSlot
 unfolding joinedRules
 full-rules n c e =
     let told = slot-told n c Full e in
@@ -151,7 +151,7 @@ pub record OneChanged (n after : Network) (c : Channel) (k : ℕ) (r : Record) :
   pub others : (j : ℕ) (d : Record) → (j ≡ k → ⊥) → getD (after .slots) j d ≡ getD (n .slots) j d
 
 module _ (n : Network) (good : goodNetwork n ≡ true) (c : Channel) (p : Proper c) (none : firstOf (joinedRules n c) ≡ accepted) where
-  not-full : slotOf n c ≡ Full → ⊥
+  not-full : slotIn n (c .name) ≡ Full → ⊥
   not-full e = omega (arith, slot-told n c Full e, joined-none n c none .0)
 
   result-few : length (resulting n c .members) ≤ memberLimit
@@ -160,9 +160,9 @@ module _ (n : Network) (good : goodNetwork n ≡ true) (c : Channel) (p : Proper
   -- what results is a channel as document 01 has it
   pub result-proper : Proper (resulting n c)
   unfolding resulting
-  result-proper = go (slotOf n c) refl result-few
+  result-proper = go (slotIn n (c .name)) refl result-few
     where
-      go : (s : Slot) → slotOf n c ≡ s → length (resultIn n c s .members) ≤ memberLimit → Proper (resultIn n c s)
+      go : (s : Slot) → slotIn n (c .name) ≡ s → length (resultIn n c s .members) ≤ memberLimit → Proper (resultIn n c s)
       go (Held k) e few = let r = getD (n .slots) k emptyRecord in proper-merge (decode r) c (well-says r (held-well (n .slots) (slots-good n good) (c .name) k e) .holds) p few
       go (Free k) e few = p
       go Full e few = p
@@ -177,16 +177,16 @@ module _ (n : Network) (good : goodNetwork n ≡ true) (c : Channel) (p : Proper
   result-name = ap (λ (d : Channel). d .name) (decode-encode (resulting n c) (proper-fits (resulting n c) result-proper))
 
   abbrev place : ℕ
-  place = placeOf (n .slots) (slotOf n c)
+  place = placeOf (n .slots) (slotIn n (c .name))
 
   joined-distinct : distinct (joined n c .slots) ≡ true
   unfolding joined resulting merge
-  joined-distinct = go (slotOf n c) refl result-name
+  joined-distinct = go (slotIn n (c .name)) refl result-name
     where
       slots : List Record
       slots = n .slots
 
-      go : (s : Slot) → slotOf n c ≡ s → decode (encode (resultIn n c s)) .name ≡ resultIn n c s .name → distinct (set slots (placeOf slots s) (encode (resultIn n c s))) ≡ true
+      go : (s : Slot) → slotIn n (c .name) ≡ s → decode (encode (resultIn n c s)) .name ≡ resultIn n c s .name → distinct (set slots (placeOf slots s) (encode (resultIn n c s))) ≡ true
       go (Held k) e m =
           let r = getD slots k emptyRecord in
           let x = encode (resultIn n c (Held k)) in
@@ -201,9 +201,9 @@ module _ (n : Network) (good : goodNetwork n ≡ true) (c : Channel) (p : Proper
 
   place-used : (place < length (n .slots)) × MergesOrOpens (getD (n .slots) place emptyRecord) c result × (sameName (resulting n c .name) (c .name) ≡ true)
   unfolding resulting merge
-  place-used = go (slotOf n c) refl
+  place-used = go (slotIn n (c .name)) refl
     where
-      go : (s : Slot) → slotOf n c ≡ s
+      go : (s : Slot) → slotIn n (c .name) ≡ s
           → (placeOf (n .slots) s < length (n .slots)) × MergesOrOpens (getD (n .slots) (placeOf (n .slots) s) emptyRecord) c (encode (resultIn n c s)) × (sameName (resultIn n c s .name) (c .name) ≡ true)
       go (Held k) e =
           let h = slot-held (n .slots) (c .name) emptyRecord k e in

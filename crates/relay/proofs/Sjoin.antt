@@ -25,7 +25,7 @@ use Rattle.table.specs.declared.Slot.{Slot}
 use Rattle.table.specs.declared.Slot.the-variants.{Held, Free, Full}
 use Rattle.table.specs.Network.{Network}
 use Rattle.table.specs.Table.{goodNetwork}
-use Rattle.table.specs.Slots.{heldIn, foundFor, placeOf, slotRules}
+use Rattle.table.specs.Slots.{slotIn, heldIn, foundFor, placeOf, slotRules}
 use Rattle.table.proofs.WellFormed.{slots-good}
 use Rattle.sjoin.specs.Join.{joinRules, channelIn}
 use Rattle.telling.specs.Telling.{joinMessage}
@@ -35,7 +35,7 @@ use Rattle.retelling.proofs.Retold.{retold-reads}
 use Rattle.relay.specs.declared.Command.the-variants.{Sjoin}
 use Rattle.relay.specs.declared.Change.{Change}
 use Rattle.relay.specs.Arrival.{Arrival, said, sourceIn}
-use Rattle.relay.specs.Joining.{slotOf, resulting, joinedRules, joined, outgoing, meaning}
+use Rattle.relay.specs.Joining.{resulting, joinedRules, joined, outgoing, meaning}
 use Rattle.relay.specs.Relay.{commandRules}
 use Rattle.relay.specs.Private.Work.{nowhere}
 use Rattle.relay.specs.Private.Joining.{toldOf, joins, joinsHeld, joinsFound}
@@ -74,7 +74,7 @@ module _ (n : Network) (a : Arrival) where
     -- ---- the judgement
     module _ (good : goodNetwork n ≡ true) (sixteen : length (n .slots) ≡ slotCount) (j : Change) where
       -- slot k is to hold what results
-      joins-it : (k : ℕ) (result : Record) → placeOf (n .slots) (slotOf n incoming) ≡ k → result ≡ encode (resulting n incoming) → firstOf (joinedRules n incoming) ≡ accepted
+      joins-it : (k : ℕ) (result : Record) → placeOf (n .slots) (slotIn n (incoming .name)) ≡ k → result ≡ encode (resulting n incoming) → firstOf (joinedRules n incoming) ≡ accepted
           → Does meaning n a (joins k result (encode incoming))
       unfolding joined
       joins-it k result e f none =
@@ -85,7 +85,7 @@ module _ (n : Network) (a : Arrival) where
       abbrev Sjoined : Type 0
       Sjoined = Judged meaning n a j
 
-      settled : (s : Slot) → slotOf n incoming ≡ s → j ≡ joinsFound s (heldIn (n .slots) s) (encode incoming) → Sjoined
+      settled : (s : Slot) → slotIn n (incoming .name) ≡ s → j ≡ joinsFound s (heldIn (n .slots) s) (encode incoming) → Sjoined
       unfolding joinsHeld
       settled (Held k) e f =
           let there = getD (n .slots) k emptyRecord in
@@ -130,7 +130,7 @@ lawful = record {
   ordered = ordered;
   asks = λ m c. refl;
   judged = λ n a good sixteen read own j e.
-      settled n a read own good sixteen j (slotOf n (channelIn (said a))) refl
+      settled n a read own good sixteen j (slotIn n (channelIn (said a) .name)) refl
       (e ∙ ap (λ (f : Found). joinsFound (f .slot) (f .«record») (encode (channelIn (said a)))) (found n a read own));
   leaves = λ n a. refl;
   keeps = keeps;

@@ -17,13 +17,13 @@ use Rattle.channel.specs.Record.{encode}
 use Rattle.table.specs.declared.Table.{Table}
 use Rattle.table.specs.Network.{Network, networkOf, withSlots}
 use Rattle.table.specs.Table.{goodNetwork, goodTable}
-use Rattle.table.specs.Slots.{placeOf}
+use Rattle.table.specs.Slots.{slotIn, placeOf}
 use Rattle.sjoin.specs.Join.{channelIn}
 use Rattle.sjoin.proofs.Wellformed.{read-proper}
 use Rattle.relay.specs.declared.Command.{Command}
 use Rattle.relay.specs.declared.Command.the-variants.{Sjoin, Unknown}
 use Rattle.relay.specs.Arrival.{Arrival, said}
-use Rattle.relay.specs.Joining.{slotOf, resulting, joined}
+use Rattle.relay.specs.Joining.{resulting, joined}
 use Rattle.relay.specs.Commands.{commands, meaningOf, commandIn}
 use Rattle.relay.specs.Relay.{meaningIn, commandRules, takenRules, networkBy, messageBy, relayed, entryRules, processRules, processAnswer, sent}
 use Rattle.relay.proofs.Lawful.{Passes, Reads}
@@ -76,7 +76,7 @@ unfolding networkBy
 network-joined n a is = ap (λ (k : Command). meaningOf k .after n a) is
 
 pub join-one : (n : Network) (a : Arrival) → goodNetwork n ≡ true → commandIn (a .line) ≡ Sjoin → firstOf (takenRules n a) ≡ accepted
-    → OneChanged n (networkBy n a) (channelIn (said a)) (placeOf (n .slots) (slotOf n (channelIn (said a)))) (encode (resulting n (channelIn (said a))))
+    → OneChanged n (networkBy n a) (channelIn (said a)) (placeOf (n .slots) (slotIn n (channelIn (said a) .name))) (encode (resulting n (channelIn (said a))))
 join-one n a good is none =
     let r = rules-none n a none in
     let j = join-none n a (rw is at (r .1)) in

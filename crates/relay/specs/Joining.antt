@@ -9,15 +9,11 @@ use Rattle.merging.specs.Merging.{merge, roomRules}
 use Rattle.table.specs.declared.Slot.{Slot}
 use Rattle.table.specs.declared.Slot.the-variants.{Held, Free, Full}
 use Rattle.table.specs.Network.{Network, withSlots}
-use Rattle.table.specs.Slots.{slotFor, heldIn, placeOf, slotRules}
+use Rattle.table.specs.Slots.{slotIn, heldIn, placeOf, slotRules}
 use Rattle.sjoin.specs.Join.{joinRules, channelIn}
 use Rattle.telling.specs.Telling.{sjoin, joinMessage}
 use Rattle.relay.specs.Arrival.{said, sourceIn}
 use Rattle.relay.specs.Meaning.{Meaning}
-
--- the slot that a channel's name uses
-abbrev pub slotOf : Network → Channel → Slot
-slotOf n c = slotFor (n .slots) (c .name)
 
 -- what an incoming channel comes to in its slot: merged into the one that is there, or itself where it is new
 abbrev pub resultIn : Network → Channel → Slot → Channel
@@ -26,14 +22,14 @@ resultIn n c (Free k) = c
 resultIn n c Full = c
 
 unfoldable pub resulting : Network → Channel → Channel
-resulting n c = resultIn n c (slotOf n c)
+resulting n c = resultIn n c (slotIn n (c .name))
 
 -- the numbers 21 and 22
 unfoldable pub joinedRules : Network → Channel → List Rule
 joinedRules n c = slotRules (n .slots) (c .name) ++ roomRules (resulting n c)
 
 unfoldable pub joined : Network → Channel → Network
-joined n c = withSlots n (set (n .slots) (placeOf (n .slots) (slotOf n c)) (encode (resulting n c)))
+joined n c = withSlots n (set (n .slots) (placeOf (n .slots) (slotIn n (c .name))) (encode (resulting n c)))
 
 -- what goes out: resulting time, stored spelling; for a later incoming time no settings and bare ids, else the incoming settings and statuses
 unfoldable pub outgoing : Channel → Channel → Channel

@@ -11,9 +11,8 @@ use Rattle.message.specs.Content.{Content, prefixIs}
 use Rattle.writer.specs.Form.{inCapitals}
 use Rattle.channel.specs.Record.{decode}
 use Rattle.channel.specs.Members.{hasMember, without}
-use Rattle.table.specs.declared.Slot.{Slot}
 use Rattle.table.specs.Network.{Network, withSlots}
-use Rattle.table.specs.Slots.{slotFor, heldIn, isHeld, placeOf}
+use Rattle.table.specs.Slots.{slotIn, heldIn, isHeld, placeOf}
 use Rattle.relay.specs.Arrival.{said, sourceIn}
 use Rattle.relay.specs.Meaning.{Meaning}
 
@@ -28,20 +27,16 @@ partRules c =
     ∷ badName when not (isChannel (partedIn c))
     ∷ []
 
--- the slot that holds it
-abbrev pub slotOf : Network → Content → Slot
-slotOf n c = slotFor (n .slots) (partedIn c)
-
 -- the numbers 19 and 20
 unfoldable pub partedRules : Network → Content → List Rule
 partedRules n c =
-    noSuchChannel when not (isHeld (slotOf n c))
-    ∷ notOnChannel when not (hasMember (sourceIn c) (decode (heldIn (n .slots) (slotOf n c)) .members))
+    noSuchChannel when not (isHeld (slotIn n (partedIn c)))
+    ∷ notOnChannel when not (hasMember (sourceIn c) (decode (heldIn (n .slots) (slotIn n (partedIn c))) .members))
     ∷ []
 
 -- the member goes, and an emptied slot is zeroed
 unfoldable pub parted : Network → Content → Network
-parted n c = withSlots n (set (n .slots) (placeOf (n .slots) (slotOf n c)) (without (sourceIn c) (heldIn (n .slots) (slotOf n c))))
+parted n c = withSlots n (set (n .slots) (placeOf (n .slots) (slotIn n (partedIn c))) (without (sourceIn c) (heldIn (n .slots) (slotIn n (partedIn c)))))
 
 -- the line goes out with its parameters as read
 abbrev pub meaning : Meaning

@@ -12,6 +12,7 @@ use Rattle.channel.specs.Record.{emptyRecord}
 use Rattle.table.specs.declared.Found.{Found}
 use Rattle.table.specs.declared.Slot.{Slot}
 use Rattle.table.specs.declared.Slot.the-variants.{Held, Free, Full}
+use Rattle.table.specs.Network.{Network}
 use Rattle.table.specs.Table.{isFree, holds}
 
 -- the place of the first that passes the test, or how many there are
@@ -26,6 +27,10 @@ freeSlot slots = cond (ltb (firstAt isFree slots) (length slots)) (Free (firstAt
 -- the slot that holds the name, else the lowest free one
 unfoldable pub slotFor : List Record → List ℕ → Slot
 slotFor slots name = cond (ltb (firstAt (holds name) slots) (length slots)) (Held (firstAt (holds name) slots)) (freeSlot slots)
+
+-- the same of a network
+abbrev pub slotIn : Network → List ℕ → Slot
+slotIn n name = slotFor (n .slots) name
 
 -- ---- the answer, by cases
 -- the record in the slot that has the name; the empty one where no slot has it

@@ -26,14 +26,14 @@ use Rattle.relay.specs.Private.Parting as parting
 use Rattle.relay.specs.Private.Quitting as quitting
 
 -- an unknown command's own rule applies, so that it asks for nothing
-abbrev pub unknown : Work
-unknown = record { asks = λ m c. nothing accepted; settles = λ q incoming f. unchanged unknownCommand }
+abbrev pub idle : Work
+idle = record { asks = λ m c. nothing accepted; settles = λ q incoming f. unchanged unknownCommand }
 
 abbrev pub workOf : Command → Work
 workOf Sjoin = joining.work
 workOf Part = parting.work
 workOf Quit = quitting.work
-workOf Unknown = unknown
+workOf Unknown = idle
 
 -- ---- what a message asks for, or the number of its first own rule that applies
 unfoldable pub askedBy : Command → Message → Content → Asked
