@@ -28,7 +28,7 @@ use Rattle.sjoin.specs.Entries.{goodEntries, named}
 use Rattle.sjoin.specs.Join.{listIn, argumentsIn, goodCount, isTime, joinRules, channelIn}
 use Rattle.telling.specs.Telling.{modesText, listText, paramsOf}
 use Rattle.retelling.proofs.Entered.{members-back, list-good}
-use Rattle.sjoin.proofs.Judged.{sourced, settled, listed}
+use Rattle.sjoin.proofs.Judged.{sourced, led, listed}
 use Rattle.retelling.proofs.Lettered.{modes-back}
 
 -- ---- key and limit, each there or not
@@ -131,6 +131,6 @@ rules-back c p sid command h =
     sym
     (listed d (sym (sourced d (sh .0) h))
     (sym
-    (settled d (time-back c p .0) (λ e. omega (arith, time-back c p .1, e, p .from)) (p .name)
+    (led d (time-back c p .0) (λ e. omega (arith, time-back c p .1, e, p .from)) (p .name)
     (rw (sh .1, mb .0, mb .2) (fits a b (s .key) (digitsOf (s .limit)) (key-good s (p .settings)) (limit-good s (p .settings))))))
     (ap goodEntries (sh .2) ∙ list-good (c .members) (nil-length (c .members) ∙ ne-eqb (length (c .members)) 0 (λ e. omega (arith, p .some, e))) (p .listed)))

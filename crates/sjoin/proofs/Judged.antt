@@ -25,7 +25,7 @@ use Rattle.message.specs.Parts.{contentBy}
 use Rattle.message.specs.Reading.{bodyRules, lineRules}
 use Rattle.sjoin.specs.Modes.{lettersOf, goodLetters, parametered, goodArguments, isModes}
 use Rattle.sjoin.specs.Entries.{goodEntries}
-use Rattle.sjoin.specs.Join.{timeIn, nameIn, modesIn, listIn, argumentsIn, fewest, most, goodCount, isTime, sourceRules, settingRules, tellingRules, joinRules, spanRules, lineJoinRules}
+use Rattle.sjoin.specs.Join.{timeIn, nameIn, modesIn, listIn, argumentsIn, fewest, most, goodCount, isTime, sourceRules, leadRules, tellingRules, joinRules, spanRules, lineJoinRules}
 
 -- The rules stand in the order of their numbers: the first in it that applies is given.
 pub rules-ascend : (c : Content) → ascend (joinRules c) ≡ true
@@ -104,26 +104,26 @@ module _ (c : Content) where
 
 -- ---- those of time, name and modes
 module _ (c : Content) where
-  pub untimed : isTime (timeIn c) ≡ false → badTime ≡ firstOf (settingRules c)
+  pub untimed : isTime (timeIn c) ≡ false → badTime ≡ firstOf (leadRules c)
   untimed e = sym (stop _ _ (ap not e))
 
   module _ (t : isTime (timeIn c) ≡ true) where
-    pub zero-time : valueOf (timeIn c) ≡ 0 → zeroTime ≡ firstOf (settingRules c)
+    pub zero-time : valueOf (timeIn c) ≡ 0 → zeroTime ≡ firstOf (leadRules c)
     zero-time e = sym (skip _ _ (ap not t) ∙ stop _ _ (time-zero (timeIn c) t ∙ eq-eqb (valueOf (timeIn c)) 0 e))
 
     module _ (z : valueOf (timeIn c) ≡ 0 → ⊥) where
       later : same (timeIn c) (zeroDigit ∷ []) ≡ false
       later = time-zero (timeIn c) t ∙ ne-eqb (valueOf (timeIn c)) 0 z
 
-      pub unnamed : isChannel (nameIn c) ≡ false → badName ≡ firstOf (settingRules c)
+      pub unnamed : isChannel (nameIn c) ≡ false → badName ≡ firstOf (leadRules c)
       unnamed e = sym (skip _ _ (ap not t) ∙ skip _ _ later ∙ stop _ _ (ap not e))
 
       module _ (m : isChannel (nameIn c) ≡ true) where
-        pub unfit : isModes (modesIn c) (argumentsIn c) ≡ false → badModes ≡ firstOf (settingRules c)
+        pub unfit : isModes (modesIn c) (argumentsIn c) ≡ false → badModes ≡ firstOf (leadRules c)
         unfit e = sym (skip _ _ (ap not t) ∙ skip _ _ later ∙ skip _ _ (ap not m) ∙ stop _ _ (ap not e))
 
-        pub settled : isModes (modesIn c) (argumentsIn c) ≡ true → accepted ≡ firstOf (settingRules c)
-        settled e = sym (skip _ _ (ap not t) ∙ skip _ _ later ∙ skip _ _ (ap not m) ∙ skip _ _ (ap not e) ∙ first-nil)
+        pub led : isModes (modesIn c) (argumentsIn c) ≡ true → accepted ≡ firstOf (leadRules c)
+        led e = sym (skip _ _ (ap not t) ∙ skip _ _ later ∙ skip _ _ (ap not m) ∙ skip _ _ (ap not e) ∙ first-nil)
 
 -- ---- and all of them, one after the other
 module _ (c : Content) where
@@ -136,15 +136,15 @@ module _ (c : Content) where
     unfolding joinRules
     telling-decides = append-none (tellingRules c) (sourceRules c) refl s
 
-    pub setting-decides : (firstOf (settingRules c) ≡ accepted → ⊥) → firstOf (joinRules c) ≡ firstOf (settingRules c)
-    setting-decides ne = telling-decides ∙ append-some _ (settingRules c) ne
+    pub lead-decides : (firstOf (leadRules c) ≡ accepted → ⊥) → firstOf (joinRules c) ≡ firstOf (leadRules c)
+    lead-decides ne = telling-decides ∙ append-some _ (leadRules c) ne
 
-    module _ (t : firstOf (settingRules c) ≡ accepted) where
+    module _ (t : firstOf (leadRules c) ≡ accepted) where
       pub unlisted : goodEntries (listIn c) ≡ false → firstOf (joinRules c) ≡ badMembers
-      unlisted e = telling-decides ∙ append-none _ (settingRules c) refl t ∙ stop _ _ (ap not e)
+      unlisted e = telling-decides ∙ append-none _ (leadRules c) refl t ∙ stop _ _ (ap not e)
 
       pub listed : goodEntries (listIn c) ≡ true → firstOf (joinRules c) ≡ accepted
-      listed e = telling-decides ∙ append-none _ (settingRules c) refl t ∙ skip _ _ (ap not e) ∙ first-nil
+      listed e = telling-decides ∙ append-none _ (leadRules c) refl t ∙ skip _ _ (ap not e) ∙ first-nil
 
 -- ---- of spans
 module _ (text : List ℕ) (m : Message) where

@@ -62,9 +62,9 @@ sourceRules c =
     ∷ badSource when not (prefixIs isServerId (c .prefix))
     ∷ []
 
--- of time, name and modes: 14 to 17
-abbrev pub settingRules : Content → List Rule
-settingRules c =
+-- of what leads the list, which is time, name and modes with their parameters: 14 to 17
+abbrev pub leadRules : Content → List Rule
+leadRules c =
     badTime when not (isTime (timeIn c))
     ∷ zeroTime when same (timeIn c) (zeroDigit ∷ [])
     ∷ badName when not (isChannel (nameIn c))
@@ -73,7 +73,7 @@ settingRules c =
 
 -- of all that is told: 14 to 18
 abbrev pub tellingRules : Content → List Rule
-tellingRules c = settingRules c ++ (badMembers when not (goodEntries (listIn c)) ∷ [])
+tellingRules c = leadRules c ++ (badMembers when not (goodEntries (listIn c)) ∷ [])
 
 unfoldable pub joinRules : Content → List Rule
 joinRules c = sourceRules c ++ tellingRules c

@@ -15,7 +15,7 @@ ghost use Rattle.names.specs.Names.{nameLimit};
 ghost use Rattle.channel.specs.Limits.{keyLimit};
 ghost use Rattle.channel.specs.Record.{encode};
 ghost use Rattle.message.specs.Parts.{contentBy};
-ghost use Rattle.sjoin.specs.Join.{timeIn, isTime, sourceRules, settingRules, channelIn, toldIn, toldBy};
+ghost use Rattle.sjoin.specs.Join.{timeIn, isTime, sourceRules, leadRules, channelIn, toldIn, toldBy};
 ghost use Rattle.sjoin.specs.Private.Scanning.{Parted, Tells, refusedBy};
 use arguments::MODES_AT;
 use arguments::argument;
@@ -83,9 +83,9 @@ fn source_number(text: &[u8], m: Message) -> u8
 }
 
 // The first of the numbers 14 to 17 that applies, or ACCEPTED. The list is at `last`.
-fn setting_number(text: &[u8], m: Message, last: usize) -> u8
+fn lead_number(text: &[u8], m: Message, last: usize) -> u8
     requires { ⌜ Parted (contentBy (now text) m) last ⌝ }
-    ensures { λ r. ⌜ r ≡ firstOf (settingRules (contentBy (now (text .entry)) m)) ⌝ }
+    ensures { λ r. ⌜ r ≡ firstOf (leadRules (contentBy (now (text .entry)) m)) ⌝ }
 {
     let Decimal::Value(time) = decimal(param_in(text, m, TIME_AT), Record::TIME) else {
         return BAD_TIME;
@@ -186,9 +186,9 @@ pub fn read_message(text: &[u8], m: Message) -> Told
         return refused(source);
     }
     let last = m.count - 1;
-    let setting = setting_number(text, m, last);
-    if setting != ACCEPTED {
-        return refused(setting);
+    let lead = lead_number(text, m, last);
+    if lead != ACCEPTED {
+        return refused(lead);
     }
     let list = entries_of(param_in(text, m, last));
     if !list.good {

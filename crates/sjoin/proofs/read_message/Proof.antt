@@ -16,9 +16,9 @@ use Rattle.message.specs.Content.{Content}
 use Rattle.message.specs.Parts.{contentBy}
 use Rattle.message.proofs.SpanContents.{params-count}
 use Rattle.sjoin.specs.Entries.{goodEntries, named}
-use Rattle.sjoin.specs.Join.{listIn, goodCount, sourceRules, settingRules, joinRules, spanRules}
+use Rattle.sjoin.specs.Join.{listIn, goodCount, sourceRules, leadRules, joinRules, spanRules}
 use Rattle.sjoin.specs.Private.Scanning.{Parted}
-use Rattle.sjoin.proofs.Judged.{source-counts, source-decides, setting-decides, unlisted, listed, span-long, span-rules}
+use Rattle.sjoin.proofs.Judged.{source-counts, source-decides, lead-decides, unlisted, listed, span-long, span-rules}
 use Rattle.sjoin.proofs.Listed.{list-room}
 use Rattle.sjoin.proofs.Answers.{bounds, list-at, parted, list-small, in-refused, in-record}
 use Rattle.sjoin.proofs.read_message.Statement.{statement}
@@ -34,11 +34,11 @@ begin c = c .before .before .before .before
 abbrev sourced : tie.Else2 → Content
 sourced c = content (begin c)
 
-abbrev settled : tie.After-param-in → Content
-settled c = sourced (c .before .before .before .before)
+abbrev led : tie.After-param-in → Content
+led c = sourced (c .before .before .before .before)
 
 abbrev judged : tie.After-entries-of → Content
-judged c = settled (c .before)
+judged c = led (c .before)
 
 abbrev taken : tie.Else4 → Content
 taken c = judged (c .before .before)
@@ -89,8 +89,8 @@ behind c = parted (sourced c) _ (good c) (count c .1)
 sub-last : tie.Need-sub-last
 sub-last c = count (c .before) .0
 
-setting-number-requires : tie.Need-setting-number-requires
-setting-number-requires c κs = behind (c .before)
+lead-number-requires : tie.Need-lead-number-requires
+lead-number-requires c κs = behind (c .before)
 
 refused-requires-3 : tie.Need-refused-requires-3
 refused-requires-3 c κs = search needs
@@ -101,17 +101,17 @@ returns-3 c =
     let two = test .before .before .before in
     let short = two .before .before in
     let a = short .before .before .args in
-    let e = test .before .setting-number .ensures in
-    c .refused3 .ensures ∙ in-refused (a .text .now) (a .m) _ (e ∙ sym (rules short ∙ setting-decides (sourced two) (source two) (λ z. test .if3 .taken (e ∙ z)))) (test .if3 .taken)
+    let e = test .before .lead-number .ensures in
+    c .refused3 .ensures ∙ in-refused (a .text .now) (a .m) _ (e ∙ sym (rules short ∙ lead-decides (sourced two) (source two) (λ z. test .if3 .taken (e ∙ z)))) (test .if3 .taken)
 
 -- ---- time, name and modes are good
 param-in-requires : tie.Need-param-in-requires
 param-in-requires c κs = search needs
 
-list : (c : tie.After-param-in) → c .param-in .result .now ≡ listIn (settled c)
-list c = c .param-in .ensures .0 ∙ list-at (settled c) _ (behind (c .before .before .before .before))
+list : (c : tie.After-param-in) → c .param-in .result .now ≡ listIn (led c)
+list c = c .param-in .ensures .0 ∙ list-at (led c) _ (behind (c .before .before .before .before))
 
-small : (c : tie.After-param-in) → length (listIn (settled c)) ≤ lineLimit
+small : (c : tie.After-param-in) → length (listIn (led c)) ≤ lineLimit
 small c =
     let short = c .before .before .before .before .before .before in
     let a = short .before .before .args in
@@ -123,8 +123,8 @@ entries-of-requires c κs = omega (arith, small c, ap (λ (l : List ℕ). length
 refused-requires-4 : tie.Need-refused-requires-4
 refused-requires-4 c κs = search needs
 
-setting : (c : tie.After-param-in) → firstOf (settingRules (settled c)) ≡ accepted
-setting c = sym (c .before .before .setting-number .ensures) ∙ c .before .if3 .left
+lead : (c : tie.After-param-in) → firstOf (leadRules (led c)) ≡ accepted
+lead c = sym (c .before .before .lead-number .ensures) ∙ c .before .if3 .left
 
 entries : (c : tie.After-entries-of) (t : Bool) → c .entries-of .result .good ≡ t → goodEntries (listIn (judged c)) ≡ t
 entries c t e = sym (ap goodEntries (list (c .before))) ∙ sym (c .entries-of .ensures .0) ∙ e
@@ -137,7 +137,7 @@ returns-4 c =
     let short = two .before .before in
     let a = short .before .before .args in
     c .refused4 .ensures
-    ∙ in-refused (a .text .now) (a .m) _ (sym (rules short ∙ unlisted (judged read) (source two) (setting three) (entries read false (not-true _ (c .before .if4 .taken))))) (λ e. omega arith)
+    ∙ in-refused (a .text .now) (a .m) _ (sym (rules short ∙ unlisted (judged read) (source two) (lead three) (entries read false (not-true _ (c .before .if4 .taken))))) (λ e. omega arith)
 
 -- ---- and so is the list
 good-list : (c : tie.Else4) → goodEntries (listIn (taken c)) ≡ true
@@ -146,7 +146,7 @@ good-list c = entries (c .before .before) true (not-false _ (c .if4 .left))
 none : (c : tie.Else4) → firstOf (joinRules (taken c)) ≡ accepted
 none c =
     let three = c .before .before .before in
-    listed (taken c) (source (three .before .before .before .before)) (setting three) (good-list c)
+    listed (taken c) (source (three .before .before .before .before)) (lead three) (good-list c)
 
 record-of-requires : tie.Need-record-of-requires
 record-of-requires c κs =
@@ -175,7 +175,7 @@ read-message-spec =
     refused-requires-2
     returns-2
     sub-last
-    setting-number-requires
+    lead-number-requires
     refused-requires-3
     returns-3
     param-in-requires

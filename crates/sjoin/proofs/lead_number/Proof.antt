@@ -1,4 +1,4 @@
--- `setting_number` meets its contract: each return is the first rule of time, name and modes that applies, after the tests that led there. Assumes nothing.
+-- `lead_number` meets its contract: each return is the first rule of time, name and modes that applies, after the tests that led there. Assumes nothing.
 use mathlib.Core.Path.{_≡_, sym, ap, _∙_}
 use mathlib.Core.Bool.{true, false}
 use mathlib.Core.List.{List}
@@ -13,9 +13,9 @@ use Rattle.message.specs.Content.{Content}
 use Rattle.message.specs.Parts.{contentBy}
 use Rattle.sjoin.specs.Modes.{lettersOf, goodLetters, parametered, goodArguments}
 use Rattle.sjoin.specs.Join.{timeIn, nameIn, modesIn, argumentsIn, isTime}
-use Rattle.sjoin.proofs.Judged.{time-value, time-none, modes-parts, modes-letters, untimed, zero-time, unnamed, unfit, settled}
-use Rattle.sjoin.proofs.setting_number.Statement.{statement}
-use Rattle.sjoin.proofs.setting_number.Tie as tie
+use Rattle.sjoin.proofs.Judged.{time-value, time-none, modes-parts, modes-letters, untimed, zero-time, unnamed, unfit, led}
+use Rattle.sjoin.proofs.lead_number.Statement.{statement}
+use Rattle.sjoin.proofs.lead_number.Tie as tie
 
 -- ---- what is read of the spans, at each moment: the time was read and is not 0, the name and the letters are good, the arguments were judged
 abbrev content : tie.After-param-in → Content
@@ -123,10 +123,10 @@ returns-6 c =
     let two = three .before .before .before in
     let one = two .before .before .before in
     let d = lettered three in
-    settled d (timely (one .before)) (after one) (name two) (modes-parts d true true (letters three) (sym (arguments judged) ∙ not-false _ (c .if4 .left)))
+    led d (timely (one .before)) (after one) (name two) (modes-parts d true true (letters three) (sym (arguments judged) ∙ not-false _ (c .if4 .left)))
 
-pub setting-number-spec : {M : Type 1} → statement M
-setting-number-spec =
+pub lead-number-spec : {M : Type 1} → statement M
+lead-number-spec =
     tie.close
     (tie.spec
     param-in-requires
