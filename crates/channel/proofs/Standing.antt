@@ -18,7 +18,7 @@ use Rattle.channel.specs.Settings.{noSettings}
 use Rattle.channel.specs.Channel.{Channel, member, byId}
 use Rattle.channel.specs.WellFormed.{goodMember}
 use Rattle.channel.specs.Members.{statusIn}
-use Rattle.channel.specs.Standing.{counts, settingsAt, bare, standing}
+use Rattle.channel.specs.Standing.{counts, settingsAt, bare, standing, channelAt}
 use Rattle.channel.proofs.Statuses.{keyed-byId, lawful-byId, named}
 use Rattle.channel.proofs.Proper.{ProperSettings, Proper, proper-none, member-says, member-passes}
 
@@ -93,13 +93,9 @@ module _ (time : ℕ) (c : Channel) (p : Proper c) where
   unfolding settingsAt
   proper-settings = elim (counts time c) as (λ t. ProperSettings (cond t (c .settings) noSettings)) [ true ↦ p .settings | false ↦ proper-none ]
 
--- what it gives at a time, under a name
-abbrev pub sided : List ℕ → ℕ → Channel → Channel
-sided name time c = record { name = name; time = time; settings = settingsAt time c; members = standing time c }
-
 -- which is a proper channel too
-pub proper-sided : (name : List ℕ) (time : ℕ) (c : Channel) → isChannel name ≡ true → 1 ≤ time → time ≤ timeLimit → Proper c → Proper (sided name time c)
-proper-sided name time c n h k p = record {
+pub proper-at : (name : List ℕ) (time : ℕ) (c : Channel) → isChannel name ≡ true → 1 ≤ time → time ≤ timeLimit → Proper c → Proper (channelAt name time c)
+proper-at name time c n h k p = record {
   name = n;
   from = h;
   until = k;

@@ -22,3 +22,7 @@ bare l = map (λ m. member (m .id) 0) l
 -- its members, without status unless it counts
 unfoldable pub standing : ℕ → Channel → List Member
 standing time c = cond (counts time c) (c .members) (bare (c .members))
+
+-- the channel as it stands at a time, under a name
+abbrev pub channelAt : List ℕ → ℕ → Channel → Channel
+channelAt name time c = record { name = name; time = time; settings = settingsAt time c; members = standing time c }

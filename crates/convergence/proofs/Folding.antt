@@ -35,7 +35,7 @@ use Rattle.table.proofs.Alone.{free-good, free-slot, alone-good, held-first, en
 use Rattle.telling.specs.Telling.{sjoin}
 use Rattle.relay.specs.declared.Taken.{Taken}
 use Rattle.relay.specs.Arrival.{said}
-use Rattle.relay.specs.Joining.{joined}
+use Rattle.relay.specs.Sjoin.{joined}
 use Rattle.relay.specs.Relay.{networkBy}
 use Rattle.relay.proofs.Results.{free-rules}
 use Rattle.relay.proofs.Taking.{network-joined}

@@ -10,10 +10,10 @@ use Rattle.channel.specs.Limits.{memberLimit}
 use Rattle.channel.specs.Channel.{Channel, byId}
 use Rattle.channel.specs.Record.{encode, decode}
 use Rattle.channel.specs.WellFormed.{goodMember, wellFormed}
-use Rattle.channel.specs.Standing.{settingsAt, standing}
+use Rattle.channel.specs.Standing.{settingsAt, standing, channelAt}
 use Rattle.channel.proofs.Proper.{Proper, both-statuses, well-says, encode-well}
 use Rattle.channel.proofs.Statuses.{stays-byId}
-use Rattle.channel.proofs.Standing.{ascending-standing, sided, proper-sided}
+use Rattle.channel.proofs.Standing.{ascending-standing, proper-at}
 use Rattle.merging.specs.Merging.{merge}
 use Rattle.merging.proofs.Settings.{proper-join}
 
@@ -30,8 +30,8 @@ pub proper-merge : (a b : Channel) → Proper a → Proper b → length (merge a
 unfolding merge
 proper-merge a b p q h =
     let m : ℕ = min (a .time) (b .time) in
-    let x : Proper (sided (a .name) m a) = proper-sided (a .name) m a (p .name) (omega (arith, p .from, q .from)) (omega (arith, p .until)) p in
-    let y : Proper (sided (a .name) m b) = proper-sided (a .name) m b (p .name) (omega (arith, p .from, q .from)) (omega (arith, p .until)) q in
+    let x : Proper (channelAt (a .name) m a) = proper-at (a .name) m a (p .name) (omega (arith, p .from, q .from)) (omega (arith, p .until)) p in
+    let y : Proper (channelAt (a .name) m b) = proper-at (a .name) m b (p .name) (omega (arith, p .from, q .from)) (omega (arith, p .until)) q in
     record {
       name = p .name;
       from = x .from;

@@ -2,7 +2,7 @@
 use Prim.Native.Nat.{ℕ}
 use mathlib.Core.Bool.{Bool, false, cond}
 use mathlib.Core.List.{List, [], map}
-use mathlib.Core.Option.{Option, some, none}
+use mathlib.Core.Option.{Option, some, none, Option·getD}
 use Rattle.message.specs.Grammar as grammar
 
 pub record Content : Type 0 where
@@ -14,6 +14,10 @@ pub record Content : Type 0 where
 unfoldable pub prefixIs : (List ℕ → Bool) → Option (List ℕ) → Bool
 prefixIs test none = false
 prefixIs test (some p) = test p
+
+-- the source of a message: its prefix, or no bytes
+abbrev pub sourceIn : Content → List ℕ
+sourceIn c = Option·getD (c .prefix) []
 
 -- the bytes of each part
 abbrev pub bytesOf : List grammar.Part → List (List ℕ)

@@ -4,7 +4,7 @@ use Prim.Native.Nat.{ℕ, suc, _≤_, _<_}
 use mathlib.Core.Path.{_≡_, refl, sym, ap, _∙_}
 use mathlib.Core.Bool.{Bool, true, false, true≢false, not, _&&_}
 use mathlib.Core.Logic.{_⊎_, inl, inr}
-use mathlib.Core.List.{List, [], _∷_, _++_, map, List·Memᴰ, List·Memᴰ·cases-cons, List·Memᴰ·not-nil, List·Memᴰ·head, List·Memᴰ·tail}
+use mathlib.Core.List.{List, [], _∷_, _++_, List·Memᴰ, List·Memᴰ·cases-cons, List·Memᴰ·not-nil, List·Memᴰ·head, List·Memᴰ·tail}
 use native.Mathlib.Omega.{arith}
 use lib.ListN.{length}
 use lib.Dec.{eqb, leb, ltb}
@@ -35,17 +35,6 @@ first-none r rs ne e = go (r .applies) refl
     go : (t : Bool) → r .applies ≡ t → (r .applies ≡ false) × (firstOf rs ≡ accepted)
     go true h = absurd (ne (sym (stop r rs h) ∙ e))
     go false h = (h, sym (skip r rs h) ∙ e)
-
--- ---- the numbers of some rules
--- one that is given is one of them
-pub first-among : (rs : List Rule) → (firstOf rs ≡ accepted) ⊎ List·Memᴰ (firstOf rs) (map (λ r. r .number) rs)
-first-among [] = inl first-nil
-first-among (r ∷ rs) = go (r .applies) refl (first-among rs)
-  where
-    go : (t : Bool) → r .applies ≡ t → (firstOf rs ≡ accepted) ⊎ List·Memᴰ (firstOf rs) (map (λ r. r .number) rs) → (firstOf (r ∷ rs) ≡ accepted) ⊎ List·Memᴰ (firstOf (r ∷ rs)) (map (λ r. r .number) (r ∷ rs))
-    go true e ih = inr (rw (stop r rs e) (List·Memᴰ·head refl))
-    go false e (inl z) = inl (skip r rs e ∙ z)
-    go false e (inr m) = inr (rw (skip r rs e) (List·Memᴰ·tail m))
 
 -- ---- a number that no rule has
 abbrev pub lacksNumber : ℕ → List Rule → Bool

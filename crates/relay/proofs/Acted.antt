@@ -7,7 +7,7 @@ use lib.ListN.{length}
 use borrow.Author.Tests.{le-ltb}
 use Rattle.refusal.proofs.Rules.{skip, first-nil, emitted-all}
 use Rattle.message.specs.Grammar.{lineLimit}
-use Rattle.message.specs.Content.{Content}
+use Rattle.message.specs.Content.{Content, sourceIn}
 use Rattle.message.specs.Reading.{isRead, contentOf, messageOf}
 use Rattle.message.proofs.SpanContents.{message-holds}
 use Rattle.writer.specs.Form.{written}
@@ -19,7 +19,6 @@ use Rattle.telling.specs.Telling.{joinMessage, tellRules}
 use Rattle.relay.specs.declared.Change.{Change}
 use Rattle.relay.specs.declared.Sending.{Sending}
 use Rattle.relay.specs.declared.Sending.the-variants.{Silent, AsRead, Anew}
-use Rattle.relay.specs.Arrival.{sourceIn}
 use Rattle.relay.specs.Private.Acting.{passedOn, toldAnew, writtenBy}
 use Rattle.relay.proofs.Judgements.{Sends}
 

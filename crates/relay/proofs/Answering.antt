@@ -30,10 +30,12 @@ use Rattle.relay.proofs.Acted.{sends-it}
 module _ (t : Table) (a : Arrival) (n : ℕ) where
   -- ---- a rule refuses it
   module _ (k : ℕ) (e : firstOf (processRules t a n) ≡ k) (ne : k ≡ accepted → ⊥) where
+    -- the answer is that refusal
     pub answer-refused : refused t k ≡ processAnswer t a n
     unfolding processAnswer
     answer-refused = rw (e, ne-eqb k accepted ne)
 
+    -- and nothing is sent
     pub sent-nothing : sent t a n ≡ []
     unfolding sent
     sent-nothing = emitted-none (processRules t a n) _ k e ne
@@ -56,16 +58,19 @@ module _ (t : Table) (a : Arrival) (n : ℕ) where
     pub accepted-line : (isLink (a .link) ≡ true) × (length (a .line) ≤ lineLimit)
     accepted-line = (and-left (isLink (a .link)) (hasBit (t .links .set) (a .link)) (tests .2), read-small (a .line) (rules-none (networkOf t) a (tests .3) .0))
 
+    -- the answer is that the line is taken
     pub answer-accepted : processAnswer t a n ≡ taken t a
     unfolding processAnswer
     answer-accepted = rw none
 
+    -- and the line that goes out is sent
     pub sent-line : sent t a n ≡ relayed (networkOf t) a
     unfolding sent
     sent-line = emitted-all (processRules t a n) _ none
 
     -- ---- the change is made
     module _ (j : Change) (d : Does (meaningIn a) (networkOf t) a j) where
+      -- the answer with the change made is the one to give
       pub answer-taken : (number set count len : ℕ) (table : Table) → number ≡ accepted → table ≡ withNetwork t (doneBy (j .deed) j (networkOf t)) → set ≡ relaySet (t .links) (a .link)
           → count ≡ length (linksIn set) → len ≡ length (relayed (networkOf t) a)
           → _≡_ {A = Taken} (record { number = number; table = table; set = set; count = count; len = len }) (processAnswer t a n)

@@ -9,6 +9,7 @@ use Rattle.writer.specs.Writing.{forwarded}
 use Rattle.writer.proofs.Rounds.{forwarded-reads}
 use Rattle.relay.proofs.Lawful.{Reads}
 
+-- The written form of a line that was read, its command in capitals, can be read.
 pub as-read : (line : List ℕ) → isRead line ≡ true → Reads line (inCapitals (contentOf line))
 unfolding forwarded
 as-read line read = let r = forwarded-reads line read in record { read = r .0; message = r .1; short = r .2 }

@@ -10,7 +10,6 @@ use lib.Dec.{eqb}
 use borrow.Author.Tests.{ne-eqb, eqb-true}
 use Rattle.refusal.specs.Numbers.{accepted}
 use Rattle.refusal.specs.Rules.{firstOf}
-use Rattle.refusal.proofs.Rules.{append-some}
 use Rattle.octets.specs.Room.{part}
 use Rattle.octets.proofs.Room.{part-next}
 use Rattle.names.specs.Names.{isChannel}
@@ -29,7 +28,7 @@ use Rattle.table.specs.Slots.{foundFor}
 use Rattle.relay.specs.declared.Command.{Command}
 use Rattle.relay.specs.declared.Asked.{Asked}
 use Rattle.relay.specs.Arrival.{Arrival, said}
-use Rattle.relay.specs.Commands.{meaningOf, commandOf, commandIn}
+use Rattle.relay.specs.Commands.{commandOf, commandIn}
 use Rattle.relay.specs.Relay.{takenRules}
 use Rattle.relay.specs.Private.Work.{nowhere, nothing}
 use Rattle.relay.specs.Private.Commands.{workOf, askedBy, askedOf, lookedUp}
@@ -39,21 +38,21 @@ use Rattle.relay.proofs.Entering.{reader-refuses, command-decides}
 -- ---- a message
 module _ (k : Command) (m : Message) (c : Content) where
   -- its own rules refuse it
-  pub asked-refused : (number : ℕ) → firstOf (meaningOf k .own c) ≡ number → (number ≡ accepted → ⊥) → nothing number ≡ askedBy k m c
+  pub asked-refused : (number : ℕ) → firstOf (workOf k .own c) ≡ number → (number ≡ accepted → ⊥) → nothing number ≡ askedBy k m c
   unfolding askedBy
   asked-refused number e ne = rw (e, ne-eqb number accepted ne)
 
   -- or none does
-  pub asked-passes : firstOf (meaningOf k .own c) ≡ accepted → workOf k .asks m c ≡ askedBy k m c
+  pub asked-passes : firstOf (workOf k .own c) ≡ accepted → workOf k .asks m c ≡ askedBy k m c
   unfolding askedBy
   asked-passes e = rw e
 
-  asked-number : Lawful k → askedBy k m c .request .number ≡ firstOf (meaningOf k .own c)
+  asked-number : Lawful k → askedBy k m c .request .number ≡ firstOf (workOf k .own c)
   unfolding askedBy
-  asked-number law = go (eqb (firstOf (meaningOf k .own c)) accepted) refl
+  asked-number law = go (eqb (firstOf (workOf k .own c)) accepted) refl
     where
-      go : (t : Bool) → eqb (firstOf (meaningOf k .own c)) accepted ≡ t → askedBy k m c .request .number ≡ firstOf (meaningOf k .own c)
-      go true h = rw h (law .asks m c ∙ sym (eqb-true (firstOf (meaningOf k .own c)) accepted h))
+      go : (t : Bool) → eqb (firstOf (workOf k .own c)) accepted ≡ t → askedBy k m c .request .number ≡ firstOf (workOf k .own c)
+      go true h = rw h (law .asks m c ∙ sym (eqb-true (firstOf (workOf k .own c)) accepted h))
       go false h = rw h
 
 -- ---- a line
@@ -92,7 +91,7 @@ module _ (a : Arrival) (law : Lawful (commandIn (a .line))) where
   command = commandIn (a .line)
 
   abbrev own : ℕ
-  own = firstOf (meaningOf command .own (said a))
+  own = firstOf (workOf command .own (said a))
 
   -- a number that it gets is that of its first rule
   pub request-refuses : (q : Asked) → q ≡ askedOf (a .line) → (q .request .number ≡ accepted → ⊥) → (n : Network) → firstOf (takenRules n a) ≡ q .request .number
@@ -101,7 +100,7 @@ module _ (a : Arrival) (law : Lawful (commandIn (a .line))) where
       go : (t : Bool) → isRead (a .line) ≡ t → firstOf (takenRules n a) ≡ q .request .number
       go true h =
           let is : own ≡ q .request .number = sym (asked-number command (messageOf (a .line)) (said a) law) ∙ ap (λ (x : Asked). x .request .number) (asked-read (a .line) h ∙ sym e) in
-          command-decides a h n ∙ append-some (meaningOf command .met n a) (meaningOf command .own (said a)) (λ z. ne (sym is ∙ z)) ∙ is
+          command-decides a h n ∙ law .first n a (λ z. ne (sym is ∙ z)) ∙ is
       go false h = reader-refuses a h n ∙ ap (λ (x : Asked). x .request .number) (asked-unread (a .line) h ∙ sym e)
 
   -- where it gets none, it is read, and none of its own rules applies

@@ -5,8 +5,8 @@ use mathlib.Core.Logic.{_⊎_, inl, inr}
 use mathlib.Core.List.{List, [], _∷_}
 use Prim.Native.Nat.{ℕ}
 use native.Mathlib.Omega.{arith}
-use Rattle.refusal.specs.Numbers.{accepted}
-use Rattle.refusal.specs.Rules.{firstOf, ascendFrom, placeIn}
+use Rattle.refusal.specs.Numbers.{accepted, unknownCommand}
+use Rattle.refusal.specs.Rules.{_when_, firstOf, ascendFrom, placeIn}
 use Rattle.refusal.proofs.Rules.{stop}
 use Rattle.laws.specs.Lists.{same}
 use Rattle.octets.proofs.Bytes.{same-true}
@@ -15,8 +15,7 @@ use Rattle.table.specs.Network.{Network}
 use Rattle.relay.specs.declared.Command.{Command}
 use Rattle.relay.specs.declared.Command.the-variants.{Sjoin, Part, Quit, Unknown}
 use Rattle.relay.specs.Arrival.{Arrival, said}
-use Rattle.relay.specs.Commands.{unknown, meaningOf, commandAmong}
-use Rattle.relay.specs.Relay.{commandRules}
+use Rattle.relay.specs.Commands.{meaningOf, commandAmong}
 use Rattle.relay.proofs.Lawful.{Lawful}
 use Rattle.relay.proofs.Sjoin as joining
 use Rattle.relay.proofs.Part as parting
@@ -24,26 +23,23 @@ use Rattle.relay.proofs.Quit as quitting
 
 -- ---- any other
 -- it is refused, whatever it says
-pub unknown-refused : (c : Content) → firstOf (unknown .own c) ≡ accepted → ⊥
-unknown-refused c e = let z = sym (stop _ _ refl) ∙ e in omega (arith, z)
-
-pub unknown-met : (n : Network) (a : Arrival) → firstOf (commandRules unknown n a) ≡ accepted → ⊥
-unknown-met n a e = let z = sym (stop _ _ refl) ∙ e in omega (arith, z)
+pub unknown-refused : firstOf (unknownCommand when true ∷ []) ≡ accepted → ⊥
+unknown-refused e = let z = sym (stop _ _ refl) ∙ e in omega (arith, z)
 
 -- so that nothing need hold of what it comes to
 strange : Lawful Unknown
 unfolding ascendFrom placeIn
 strange = record {
-  numbers = λ c. refl;
   ordered = λ n a. refl;
+  first = λ n a ne. refl;
   asks = λ m c. refl;
-  judged = λ n a good sixteen read own j e. absurd (unknown-refused (said a) own);
-  leaves = λ n a. refl;
-  keeps = λ n a p. absurd (unknown-met n a (p .none));
-  reads = λ n a p. absurd (unknown-met n a (p .none));
+  judged = λ n a good sixteen read own j e. absurd (unknown-refused own);
+  keeps = λ n a p. absurd (unknown-refused (p .none));
+  reads = λ n a p. absurd (unknown-refused (p .none));
 }
 
 -- ---- all of them
+-- Every command is lawful.
 pub lawful : (k : Command) → Lawful k
 lawful Sjoin = joining.lawful
 lawful Part = parting.lawful

@@ -18,50 +18,60 @@ use Rattle.table.specs.declared.Table.{Table}
 use Rattle.table.specs.Network.{Network, networkOf}
 use Rattle.table.specs.Table.{goodTable}
 use Rattle.relay.specs.Arrival.{Arrival}
-use Rattle.relay.specs.Relay.{meaningIn, commandRules, takenRules, entryRules, processRules}
+use Rattle.relay.specs.Relay.{meaningIn, takenRules, entryRules, processRules}
+use Rattle.relay.specs.Private.Commands.{enteredBy}
 
 -- ---- table, output and link
 module _ (good : Bool) (set link n : ℕ) where
-  pub entry-ill-formed : good ≡ false → firstOf (entryRules good n set link) ≡ notWellFormed
+  -- the table isn't well formed
+  pub entry-ill-formed : good ≡ false → firstOf (enteredBy good n set link) ≡ notWellFormed
   entry-ill-formed g = stop _ _ (ap not g)
 
   module _ (g : good ≡ true) where
-    pub entry-short : n < lineLimit → firstOf (entryRules good n set link) ≡ outputTooShort
+    -- the output is too short
+    pub entry-short : n < lineLimit → firstOf (enteredBy good n set link) ≡ outputTooShort
     entry-short h = skip _ _ (ap not g) ∙ stop _ _ (lt-ltb n lineLimit h)
 
     module _ (h : lineLimit ≤ n) (s : set < 2 ^ linkCount) where
       -- the link is left
-      entry-link : firstOf (entryRules good n set link) ≡ firstOf (badLink when not (hasBit set link) ∷ [])
+      entry-link : firstOf (enteredBy good n set link) ≡ firstOf (badLink when not (hasBit set link) ∷ [])
       entry-link = skip _ _ (ap not g) ∙ skip _ _ (le-ltb n lineLimit h) ∙ ap (λ (t : Bool). firstOf (badLink when not t ∷ [])) (linked set link s)
 
-      pub entry-unlinked : hasBit set link ≡ false → firstOf (entryRules good n set link) ≡ badLink
+      -- the link isn't registered
+      pub entry-unlinked : hasBit set link ≡ false → firstOf (enteredBy good n set link) ≡ badLink
       entry-unlinked l = entry-link ∙ stop _ _ (ap not l)
 
-      pub entry-passes : hasBit set link ≡ true → firstOf (entryRules good n set link) ≡ accepted
+      -- nothing to refuse
+      pub entry-passes : hasBit set link ≡ true → firstOf (enteredBy good n set link) ≡ accepted
       entry-passes l = entry-link ∙ skip _ _ (ap not l) ∙ first-nil
 
-  pub entry-good : firstOf (entryRules good n set link) ≡ accepted → good ≡ true
+  -- where none applies, the table is well formed
+  pub entry-good : firstOf (enteredBy good n set link) ≡ accepted → good ≡ true
   entry-good e = not-false _ (first-none _ _ (λ z. omega arith) e .0)
 
 -- those numbers come first
 module _ (t : Table) (a : Arrival) (n : ℕ) where
   abbrev pub entry : ℕ
-  entry = firstOf (entryRules (goodTable t) n (t .links .set) (a .link))
+  entry = firstOf (entryRules t a n)
 
+  -- one of them decides
   pub entry-refuses : (entry ≡ accepted → ⊥) → firstOf (processRules t a n) ≡ entry
   unfolding processRules
-  entry-refuses ne = append-some (takenRules (networkOf t) a) (entryRules (goodTable t) n (t .links .set) (a .link)) ne
+  entry-refuses ne = append-some (takenRules (networkOf t) a) (entryRules t a n) ne
 
+  -- none applies: the line's own decide
   pub enters : entry ≡ accepted → firstOf (processRules t a n) ≡ firstOf (takenRules (networkOf t) a)
   unfolding processRules
-  enters e = append-none (takenRules (networkOf t) a) (entryRules (goodTable t) n (t .links .set) (a .link)) refl e
+  enters e = append-none (takenRules (networkOf t) a) (entryRules t a n) refl e
 
 -- ---- the reader's numbers
 module _ (a : Arrival) where
+  -- one of them decides
   pub reader-refuses : isRead (a .line) ≡ false → (n : Network) → firstOf (takenRules n a) ≡ numberFor (a .line)
   unfolding takenRules numberFor
-  reader-refuses r n = append-some (commandRules (meaningIn a) n a) (lineRules (a .line)) (refused-number (a .line) r)
+  reader-refuses r n = append-some (meaningIn a .rules n a) (lineRules (a .line)) (refused-number (a .line) r)
 
-  pub command-decides : isRead (a .line) ≡ true → (n : Network) → firstOf (takenRules n a) ≡ firstOf (commandRules (meaningIn a) n a)
+  -- none applies: the command's decide
+  pub command-decides : isRead (a .line) ≡ true → (n : Network) → firstOf (takenRules n a) ≡ firstOf (meaningIn a .rules n a)
   unfolding takenRules numberFor
-  command-decides r n = append-none (commandRules (meaningIn a) n a) (lineRules (a .line)) (rules-numbered (a .line)) (number-none (a .line) r)
+  command-decides r n = append-none (meaningIn a .rules n a) (lineRules (a .line)) (rules-numbered (a .line)) (number-none (a .line) r)

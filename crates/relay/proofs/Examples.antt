@@ -1,14 +1,15 @@
 -- Document 01's whole case: an SJOIN with a later time for `#Race`, from link 3 of 0, 3 and 5; and a PART and a QUIT of its member. What each comes to as computed
 -- from the definitions, and so witnesses for the premises of the theorems about taking a line, and what these say. Assumes nothing.
 use Prim.Native.Nat.{ℕ, _-_}
-use mathlib.Core.Path.{_≡_, refl, ap}
-use mathlib.Core.Bool.{true, false, _&&_}
+use mathlib.Core.Path.{_≡_, refl, ap, _∙_}
+use mathlib.Core.Bool.{true, false, not, _&&_}
 use mathlib.Core.List.{List, [], _∷_, List·Memᴰ·head, List·Memᴰ·tail, List·Memᴰ·not-nil}
 use native.Mathlib.Omega.{arith}
 use lib.ListN.{length, replicate}
 use lib.Dec.{ltb}
 use Rattle.refusal.specs.Numbers.{accepted}
 use Rattle.refusal.specs.Rules.{firstOf}
+use Rattle.refusal.proofs.Rules.{skip, first-nil}
 use Rattle.octets.specs.Bytes.{within, isPlain, isLetter, isDigit, isIdByte, isNameByte, isKeyByte, capital}
 use Rattle.laws.specs.Lists.{all, sameBy, padded, startsWith, separated, prefixed}
 use Rattle.octets.specs.Order.{compare}
@@ -47,14 +48,14 @@ use Rattle.telling.specs.Telling.{lettersFrom, entryOf, paramsOf}
 use Rattle.relay.specs.declared.Taken.{Taken}
 use Rattle.relay.specs.declared.Command.the-variants.{Sjoin}
 use Rattle.relay.specs.Arrival.{Arrival, arrival}
-use Rattle.relay.specs.Joining.{resulting, joinedRules, joined, outgoing}
-use Rattle.relay.specs.Parting.{partRules, partedRules, parted}
-use Rattle.relay.specs.Quitting.{quitRules, quitted}
+use Rattle.relay.specs.Sjoin.{resulting, joinedRules, joined, outgoing}
+use Rattle.relay.specs.Part.{partRules, partedRules, parted}
+use Rattle.relay.specs.Quit.{quitRules, quitted}
 use Rattle.relay.specs.Commands.{commandAmong, commandIn}
-use Rattle.relay.specs.Relay.{takenRules, networkBy, messageBy, relayed, processRules, processAnswer}
+use Rattle.relay.specs.Relay.{takenRules, entryRules, networkBy, messageBy, relayed, processRules, processAnswer}
 use Rattle.relay.proofs.Lawful.{Reads}
 use Rattle.relay.proofs.Results.{OneChanged}
-use Rattle.relay.proofs.Taking.{taken-good, relayed-reads, join-one, Later, after-alone}
+use Rattle.relay.proofs.Taking.{taken-good, relayed-reads, join-one, after-alone}
 
 -- the first slot holds the record
 race : Record → List Record
@@ -151,15 +152,11 @@ shore-good : goodTable shore ≡ true
 unfolding shore
 shore-good = water-good
 
-none-before : (number : ℕ) → number ≡ accepted → Later number
-none-before number e (List·Memᴰ·head f) = omega (arith, e, f)
-none-before number e (List·Memᴰ·tail (List·Memᴰ·head f)) = omega (arith, e, f)
-none-before number e (List·Memᴰ·tail (List·Memᴰ·tail (List·Memᴰ·head f))) = omega (arith, e, f)
-none-before number e (List·Memᴰ·tail (List·Memᴰ·tail (List·Memᴰ·tail m))) = List·Memᴰ·not-nil m
+-- table, output and link pass on either
+enters : (firstOf (entryRules water (from3 joining) lineLimit) ≡ accepted) × (firstOf (entryRules shore (from3 joining) lineLimit) ≡ accepted)
+unfolding water shore hasBit
+enters = (skip _ _ (ap not water-good) ∙ skip _ _ refl ∙ skip _ _ refl ∙ first-nil, skip _ _ (ap not shore-good) ∙ skip _ _ refl ∙ skip _ _ refl ∙ first-nil)
 
 whichever-links : networkOf (processAnswer water (from3 joining) lineLimit .table) ≡ networkOf (processAnswer shore (from3 joining) lineLimit .table)
-unfolding shore hasBit
-whichever-links =
-    let a : processAnswer water (from3 joining) lineLimit .number ≡ accepted = ap (λ (x : Taken). x .number) answers in
-    let b : processAnswer shore (from3 joining) lineLimit .number ≡ accepted = ap (λ (x : Taken). x .number) (answer-of shore (from3 joining) lineLimit _ _ shore-good refl refl (accepts .0) refl refl) in
-    after-alone water shore (from3 joining) lineLimit lineLimit refl (none-before _ a) (none-before _ b) .1
+unfolding shore
+whichever-links = after-alone water shore (from3 joining) lineLimit lineLimit refl (enters .0) (enters .1) .1

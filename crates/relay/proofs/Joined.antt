@@ -34,9 +34,9 @@ use Rattle.sjoin.proofs.Wellformed.{read-proper}
 use Rattle.table.specs.Slots.{slotIn}
 use Rattle.relay.specs.declared.Command.the-variants.{Sjoin}
 use Rattle.relay.specs.Arrival.{Arrival, said}
-use Rattle.relay.specs.Joining.{resulting, joinedRules, joined}
+use Rattle.relay.specs.Sjoin.{resulting, joinedRules, joined}
 use Rattle.relay.specs.Commands.{commandAmong, commandIn}
-use Rattle.relay.specs.Relay.{meaningIn, commandRules, takenRules, processRules}
+use Rattle.relay.specs.Relay.{meaningIn, takenRules, processRules}
 use Rattle.relay.proofs.Results.{slot-told, room-left}
 
 -- ---- the rules
@@ -103,7 +103,7 @@ module _ (a : Arrival) (is : IsJoin (a .line)) where
         slotted : List Rule
         slotted = joinedRules (networkOf t) (channelIn (said a))
 
-        go : IsJoin (a .line) → firstOf (reader ++ commandRules (meaningIn a) (networkOf t) a) ≡ firstOf ((reader ++ own) ++ slotted)
+        go : IsJoin (a .line) → firstOf (reader ++ meaningIn a .rules (networkOf t) a) ≡ firstOf ((reader ++ own) ++ slotted)
         go (inl s) = rw (command-join (a .line) s) (ap firstOf (sym (append-assoc reader own slotted)))
         go (inr u) =
             let ne : firstOf reader ≡ accepted → ⊥ = λ z. refused-number (a .line) u (reader-none (t .links) a n z) in
@@ -126,6 +126,7 @@ module _ (n : Network) (c : Channel) (k : ℕ) where
 
   -- the channel is there
   module _ (e : slotIn n (c .name) ≡ Held k) where
+    -- what is told is merged into it
     pub merged : joined n c ≡ withSlots n (set (n .slots) k (encode (merge (decode (getD (n .slots) k emptyRecord)) c)))
     unfolding joined resulting
     merged = rw e

@@ -8,7 +8,7 @@ use lib.Dec.{eqb}
 use borrow.Author.Tests.{eqb-true, eqb-false}
 use Rattle.refusal.specs.Numbers.{accepted}
 use Rattle.refusal.specs.Rules.{firstOf}
-use Rattle.message.specs.Content.{Content}
+use Rattle.message.specs.Content.{Content, sourceIn}
 use Rattle.writer.specs.Form.{inCapitals}
 use Rattle.channel.specs.Limits.{slotCount}
 use Rattle.channel.specs.Record.{decode}
@@ -17,9 +17,8 @@ use Rattle.telling.specs.Telling.{joinMessage}
 use Rattle.relay.specs.declared.Change.{Change}
 use Rattle.relay.specs.declared.Sending.{Sending}
 use Rattle.relay.specs.declared.Sending.the-variants.{Silent, AsRead, Anew}
-use Rattle.relay.specs.Arrival.{Arrival, said, sourceIn}
+use Rattle.relay.specs.Arrival.{Arrival, said}
 use Rattle.relay.specs.Meaning.{Meaning}
-use Rattle.relay.specs.Relay.{commandRules}
 use Rattle.relay.specs.Private.Work.{unchanged}
 use Rattle.relay.specs.Private.Acting.{doneBy}
 
@@ -34,13 +33,15 @@ pub record Does (m : Meaning) (n : Network) (a : Arrival) (j : Change) : Type 0 
   pub network : doneBy (j .deed) j n ≡ m .after n a
   pub sends : Sends (j .sending) j (said a) (m .out n a)
 
+-- The number is that of the first rule that applies, and where none does, the change does what the command means.
 pub record Judged (m : Meaning) (n : Network) (a : Arrival) (j : Change) : Type 0 where
-  pub number : j .number ≡ firstOf (commandRules m n a)
+  pub number : j .number ≡ firstOf (m .rules n a)
   pub inside : j .slot < slotCount
-  pub does : firstOf (commandRules m n a) ≡ accepted → Does m n a j
+  pub does : firstOf (m .rules n a) ≡ accepted → Does m n a j
 
-module _ (m : Meaning) (n : Network) (a : Arrival) (k : ℕ) (first : firstOf (commandRules m n a) ≡ k) (j : Change) where
+module _ (m : Meaning) (n : Network) (a : Arrival) (k : ℕ) (first : firstOf (m .rules n a) ≡ k) (j : Change) where
   -- ---- a refusal
+  -- it is judged so where its number is the first
   pub refused-judged : (k ≡ accepted → ⊥) → j ≡ unchanged k → Judged m n a j
   refused-judged ne e = record {
     number = ap (λ (x : Change). x .number) e ∙ sym first;
@@ -49,6 +50,7 @@ module _ (m : Meaning) (n : Network) (a : Arrival) (k : ℕ) (first : firstOf (c
   }
 
   -- ---- a change, unless its number refuses it
+  -- it is judged so where the number is the first, and where there is none it does what the command means
   pub settles : (x : Change) → x .number ≡ accepted → x .slot < slotCount → (k ≡ accepted → Does m n a x) → j ≡ cond (eqb k accepted) x (unchanged k) → Judged m n a j
   settles x number inside does e = go (eqb k accepted) refl
     where

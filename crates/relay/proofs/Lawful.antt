@@ -6,31 +6,29 @@ use mathlib.Core.List.{List, map}
 use Prim.Native.Nat.{ℕ, suc, _≤_}
 use lib.ListN.{length}
 use Rattle.refusal.specs.Numbers.{accepted, tooManyParams}
-use Rattle.refusal.specs.Rules.{firstOf, ascendFrom, rank}
-use Rattle.refusal.proofs.Rules.{numbered}
+use Rattle.refusal.specs.Rules.{Rule, firstOf, ascendFrom, rank}
 use Rattle.octets.specs.Bytes.{capital}
 use Rattle.message.specs.declared.Message.{Message}
 use Rattle.message.specs.Content.{Content}
 use Rattle.message.specs.Reading.{isRead, contentOf, messageOf}
 use Rattle.writer.specs.Form.{written}
 use Rattle.channel.specs.Limits.{slotCount}
-use Rattle.table.specs.Network.{Network, withSlots}
+use Rattle.table.specs.Network.{Network}
 use Rattle.table.specs.Table.{goodNetwork}
 use Rattle.relay.specs.declared.Command.{Command}
 use Rattle.relay.specs.declared.Change.{Change}
 use Rattle.relay.specs.Arrival.{Arrival, said}
 use Rattle.relay.specs.Meaning.{Meaning}
 use Rattle.relay.specs.Commands.{meaningOf}
-use Rattle.relay.specs.Relay.{commandRules}
 use Rattle.relay.specs.Private.Commands.{workOf, settledIn}
 use Rattle.relay.proofs.Judgements.{Judged}
 
 -- A line of the command that is read and that no rule refuses, in a well-formed network.
-pub record Passes (m : Meaning) (n : Network) (a : Arrival) : Type 0 where
+pub record Unrefused (m : Meaning) (n : Network) (a : Arrival) : Type 0 where
   pub good : goodNetwork n ≡ true
   pub read : isRead (a .line) ≡ true
   pub word : map capital (said a .command) ≡ m .word
-  pub none : firstOf (commandRules m n a) ≡ accepted
+  pub none : firstOf (m .rules n a) ≡ accepted
 
 -- A message's written form reads as it, and is no longer than the line.
 pub record Reads (line : List ℕ) (d : Content) : Type 0 where
@@ -38,19 +36,21 @@ pub record Reads (line : List ℕ) (d : Content) : Type 0 where
   pub message : contentOf (written d) ≡ d
   pub short : length (written d) ≤ length line
 
+-- The rules stand in the order of their numbers, behind the reader's.
+abbrev pub BehindReader : List Rule → Type 0
+BehindReader rules = ascendFrom (suc (rank tooManyParams)) rules ≡ true
+
+-- What holds of a lawful command.
 pub record Lawful (k : Command) : Type 0 where
-  -- a rule of the message by itself has a number
-  pub numbers : (c : Content) → numbered (meaningOf k .own c) ≡ true
-  -- the rules stand in the order of their numbers, behind the reader's
-  pub ordered : (n : Network) (a : Arrival) → ascendFrom (suc (rank tooManyParams)) (commandRules (meaningOf k) n a) ≡ true
-  -- a request that none of them refuses has no number
+  pub ordered : (n : Network) (a : Arrival) → BehindReader (meaningOf k .rules n a)
+  -- a number that its message gets by itself is the first
+  pub first : (n : Network) (a : Arrival) → (firstOf (workOf k .own (said a)) ≡ accepted → ⊥) → firstOf (meaningOf k .rules n a) ≡ firstOf (workOf k .own (said a))
+  -- where it gets none, its request has none
   pub asks : (m : Message) (c : Content) → workOf k .asks m c .request .number ≡ accepted
-  -- and what it is settled to is its judgement
-  pub judged : (n : Network) (a : Arrival) → goodNetwork n ≡ true → length (n .slots) ≡ slotCount → isRead (a .line) ≡ true → firstOf (meaningOf k .own (said a)) ≡ accepted
+  -- and what that is settled to is the judgement
+  pub judged : (n : Network) (a : Arrival) → goodNetwork n ≡ true → length (n .slots) ≡ slotCount → isRead (a .line) ≡ true → firstOf (workOf k .own (said a)) ≡ accepted
       → (j : Change) → j ≡ settledIn (n .slots) (a .line) (workOf k .asks (messageOf (a .line)) (said a)) → Judged (meaningOf k) n a j
-  -- it changes the slots, and all else of the network stays
-  pub leaves : (n : Network) (a : Arrival) → meaningOf k .after n a ≡ withSlots n (meaningOf k .after n a .slots)
   -- a line that no rule refuses keeps the network well formed
-  pub keeps : (n : Network) (a : Arrival) → Passes (meaningOf k) n a → goodNetwork (meaningOf k .after n a) ≡ true
+  pub keeps : (n : Network) (a : Arrival) → Unrefused (meaningOf k) n a → goodNetwork (meaningOf k .after n a) ≡ true
   -- and the message that goes out can be read
-  pub reads : (n : Network) (a : Arrival) → Passes (meaningOf k) n a → Reads (a .line) (meaningOf k .out n a)
+  pub reads : (n : Network) (a : Arrival) → Unrefused (meaningOf k) n a → Reads (a .line) (meaningOf k .out n a)

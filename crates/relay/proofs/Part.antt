@@ -8,11 +8,11 @@ use lib.ListN.{length, getD, set}
 use borrow.Author.Tests.{le-leb, lt-leb, not-false}
 use Rattle.refusal.specs.Numbers.{accepted, tooManyParams, wrongParamCount, badSource, badName, noSuchChannel, notOnChannel}
 use Rattle.refusal.specs.Rules.{_when_, firstOf, ascendFrom, placeIn, rank}
-use Rattle.refusal.proofs.Rules.{skip, stop, first-nil, first-none, numbered, append-none, both-none}
+use Rattle.refusal.proofs.Rules.{skip, stop, first-nil, first-none, numbered, append-some, append-none, both-none}
 use Rattle.laws.proofs.Bools.{and-intro}
 use Rattle.laws.proofs.Replaced.{all-set}
 use Rattle.names.specs.Names.{isChannel, isUserId}
-use Rattle.message.specs.Content.{Content, prefixIs}
+use Rattle.message.specs.Content.{Content, prefixIs, sourceIn}
 use Rattle.channel.specs.declared.Record.{Record}
 use Rattle.channel.specs.Limits.{slotCount}
 use Rattle.channel.specs.Members.{hasMember, without}
@@ -20,20 +20,19 @@ use Rattle.channel.specs.Record.{decode, emptyRecord}
 use Rattle.table.specs.declared.Found.{Found}
 use Rattle.table.specs.declared.Slot.{Slot}
 use Rattle.table.specs.declared.Slot.the-variants.{Held, Free, Full}
-use Rattle.table.specs.Network.{Network}
+use Rattle.table.specs.Network.{Network, withSlots}
 use Rattle.table.specs.Table.{goodSlot, goodNetwork}
 use Rattle.table.specs.Slots.{slotIn, heldIn, isHeld, placeOf}
 use Rattle.table.proofs.Searching.{slot-held}
-use Rattle.table.proofs.WellFormed.{slots-good, slots-distinct}
+use Rattle.table.proofs.WellFormed.{slots-good, slots-distinct, slots-change}
 use Rattle.table.proofs.Changing.{good-at, without-good, without-keeps, kept-set, distinct-kept}
 use Rattle.relay.specs.declared.Command.the-variants.{Part}
 use Rattle.relay.specs.declared.Change.{Change}
-use Rattle.relay.specs.Arrival.{Arrival, said, sourceIn}
-use Rattle.relay.specs.Parting.{partedIn, partRules, partedRules, parted, meaning}
-use Rattle.relay.specs.Relay.{commandRules}
-use Rattle.relay.specs.Private.Parting.{parts, partsHeld, partsFound}
+use Rattle.relay.specs.Arrival.{Arrival, said}
+use Rattle.relay.specs.Part.{partedIn, partRules, partedRules, parted, meaning}
+use Rattle.relay.specs.Private.Part.{parts, partsHeld, partsFound}
 use Rattle.relay.proofs.Judgements.{Judged, refused-judged, settles}
-use Rattle.relay.proofs.Lawful.{Lawful}
+use Rattle.relay.proofs.Lawful.{BehindReader, Lawful}
 use Rattle.relay.proofs.AsRead.{as-read}
 use Rattle.relay.proofs.Asking.{name-found}
 
@@ -43,11 +42,13 @@ module _ (c : Content) where
   unfolding partRules
   own-numbered = refl
 
+  -- too few parameters
   pub part-few : length (c .params) < 1 → firstOf (partRules c) ≡ wrongParamCount
   unfolding partRules
   part-few h = stop _ _ (rw (lt-leb 1 (length (c .params)) h))
 
   module _ (h : 1 ≤ length (c .params)) where
+    -- too many
     pub part-many : 2 < length (c .params) → firstOf (partRules c) ≡ wrongParamCount
     unfolding partRules
     part-many k = stop _ _ (rw (le-leb 1 (length (c .params)) h, lt-leb (length (c .params)) 2 k))
@@ -57,13 +58,16 @@ module _ (c : Content) where
       unfolding partRules
       part-counted = skip _ _ (rw (le-leb 1 (length (c .params)) h, le-leb (length (c .params)) 2 l))
 
+      -- no user
       pub part-unsourced : prefixIs isUserId (c .prefix) ≡ false → firstOf (partRules c) ≡ badSource
       part-unsourced u = part-counted ∙ stop _ _ (ap not u)
 
       module _ (u : prefixIs isUserId (c .prefix) ≡ true) where
+        -- no channel's name
         pub part-unnamed : isChannel (partedIn c) ≡ false → firstOf (partRules c) ≡ badName
         part-unnamed m = part-counted ∙ skip _ _ (ap not u) ∙ stop _ _ (ap not m)
 
+        -- nothing to refuse
         pub part-passes : isChannel (partedIn c) ≡ true → firstOf (partRules c) ≡ accepted
         part-passes m = part-counted ∙ skip _ _ (ap not u) ∙ skip _ _ (ap not m) ∙ first-nil
 
@@ -77,16 +81,16 @@ module _ (c : Content) where
 
 -- ---- in its slot
 module _ (n : Network) (a : Arrival) where
-  ordered : ascendFrom (suc (rank tooManyParams)) (commandRules meaning n a) ≡ true
+  ordered : BehindReader (meaning .rules n a)
   unfolding ascendFrom placeIn partRules partedRules
   ordered = refl
 
   module _ (own : firstOf (partRules (said a)) ≡ accepted) where
     -- the rules of its slot are left
-    rest : firstOf (commandRules meaning n a) ≡ firstOf (partedRules n (said a))
+    rest : firstOf (meaning .rules n a) ≡ firstOf (partedRules n (said a))
     rest = append-none (partedRules n (said a)) (partRules (said a)) (own-numbered (said a)) own
 
-    absent : isHeld (slotIn n (partedIn (said a))) ≡ false → firstOf (commandRules meaning n a) ≡ noSuchChannel
+    absent : isHeld (slotIn n (partedIn (said a))) ≡ false → firstOf (meaning .rules n a) ≡ noSuchChannel
     unfolding partedRules
     absent e = rest ∙ stop _ _ (ap not e)
 
@@ -94,18 +98,18 @@ module _ (n : Network) (a : Arrival) where
       abbrev held : Record
       held = getD (n .slots) k emptyRecord
 
-      abbrev there : Bool
-      there = hasMember (sourceIn (said a)) (decode held .members)
+      abbrev present : Bool
+      present = hasMember (sourceIn (said a)) (decode held .members)
 
-      user-decides : firstOf (commandRules meaning n a) ≡ firstOf (notOnChannel when not there ∷ [])
+      user-decides : firstOf (meaning .rules n a) ≡ firstOf (notOnChannel when not present ∷ [])
       unfolding partedRules
       user-decides = rest ∙ rw e (skip _ _ refl)
 
       judged-held : k < slotCount → (j : Change) → j ≡ partsHeld k held (sourceIn (said a)) → Judged meaning n a j
       unfolding partsHeld parted
-      judged-held i j f = go there refl
+      judged-held i j f = go present refl
         where
-          go : (t : Bool) → there ≡ t → Judged meaning n a j
+          go : (t : Bool) → present ≡ t → Judged meaning n a j
           go true h =
               settles meaning n a accepted (user-decides ∙ skip _ _ (ap not h) ∙ first-nil) j (parts k (without (sourceIn (said a)) held)) refl i (λ _. record { network = rw e; sends = refl }) (f ∙ rw h)
           go false h = refused-judged meaning n a notOnChannel (user-decides ∙ stop _ _ (ap not h)) j (λ z. omega (arith, z)) (f ∙ rw h)
@@ -117,12 +121,12 @@ module _ (n : Network) (a : Arrival) where
 
   -- ---- where no rule refuses it
   -- it names a channel that is there
-  names-held : firstOf (commandRules meaning n a) ≡ accepted → isHeld (slotIn n (partedIn (said a))) ≡ true
+  names-held : firstOf (meaning .rules n a) ≡ accepted → isHeld (slotIn n (partedIn (said a))) ≡ true
   unfolding partedRules
   names-held none = not-false _ (first-none _ _ (λ z. omega arith) (both-none (partedRules n (said a)) (partRules (said a)) (own-numbered (said a)) none .1) .0)
 
   keeps : goodNetwork n ≡ true → isHeld (slotIn n (partedIn (said a))) ≡ true → goodNetwork (parted n (said a)) ≡ true
-  unfolding goodNetwork parted
+  unfolding parted
   keeps good = go (slotIn n (partedIn (said a)))
     where
       slots : List Record
@@ -131,26 +135,29 @@ module _ (n : Network) (a : Arrival) where
       id : List ℕ
       id = sourceIn (said a)
 
-      left : Slot → List Record
-      left s = set slots (placeOf slots s) (without id (heldIn slots s))
-
-      go : (s : Slot) → isHeld s ≡ true → goodNetwork (record { slots = left s }) ≡ true
+      go : (s : Slot) → isHeld s ≡ true → goodNetwork (withSlots n (set slots (placeOf slots s) (without id (heldIn slots s)))) ≡ true
       go (Held k) h =
           let r = getD slots k emptyRecord in
-          and-intro _ _ (all-set goodSlot slots k (without id r) (slots-good n good) (without-good id r (good-at slots k (slots-good n good))))
+          slots-change n good (set slots k (without id r))
+          (all-set goodSlot slots k (without id r) (slots-good n good) (without-good id r (good-at slots k (slots-good n good))))
           (distinct-kept slots (set slots k (without id r)) (kept-set slots k (without id r) (without-keeps id r)) (slots-distinct n good))
       go (Free k) h = absurd (false≢true h)
       go Full h = absurd (false≢true h)
 
+  -- It changes the slots, and all else of the network stays.
+  pub leaves : parted n (said a) ≡ withSlots n (parted n (said a) .slots)
+  unfolding parted
+  leaves = refl
+
+-- PART is lawful.
 pub lawful : Lawful Part
 lawful = record {
-  numbers = own-numbered;
   ordered = ordered;
+  first = λ n a ne. append-some (partedRules n (said a)) (partRules (said a)) ne;
   asks = λ m c. refl;
   judged = λ n a good sixteen read own j e.
       let found = name-found (a .line) (n .slots) 0 (omega arith) (names-channel (said a) own) in
       settled n a own sixteen j (slotIn n (partedIn (said a))) refl (e ∙ ap (λ (f : Found). partsFound (f .slot) (f .«record») (sourceIn (said a))) found);
-  leaves = λ n a. refl;
   keeps = λ n a p. keeps n a (p .good) (names-held n a (p .none));
   reads = λ n a p. as-read (a .line) (p .read);
 }

@@ -12,29 +12,25 @@ use Rattle.refusal.proofs.Rules.{skip, stop, first-nil, numbered}
 use Rattle.laws.proofs.Bools.{and-intro}
 use Rattle.laws.proofs.Lists.{all-map}
 use Rattle.names.specs.Names.{isUserId}
-use Rattle.message.specs.Content.{Content, prefixIs}
+use Rattle.message.specs.Content.{Content, prefixIs, sourceIn}
 use Rattle.channel.specs.Members.{without}
-use Rattle.table.specs.Network.{Network}
+use Rattle.table.specs.Network.{Network, withSlots}
 use Rattle.table.specs.Table.{goodSlot, goodNetwork}
-use Rattle.table.proofs.WellFormed.{slots-good, slots-distinct}
+use Rattle.table.proofs.WellFormed.{slots-good, slots-distinct, slots-change}
 use Rattle.table.proofs.Changing.{without-good, without-keeps, kept-map, distinct-kept}
 use Rattle.relay.specs.declared.Command.the-variants.{Quit}
 use Rattle.relay.specs.declared.Change.{Change}
 use Rattle.relay.specs.declared.Sending.the-variants.{AsRead}
-use Rattle.relay.specs.Arrival.{Arrival, said, sourceIn}
-use Rattle.relay.specs.Quitting.{quitRules, quitted, meaning}
-use Rattle.relay.specs.Relay.{commandRules}
+use Rattle.relay.specs.Arrival.{Arrival, said}
+use Rattle.relay.specs.Quit.{quitRules, quitted, meaning}
 use Rattle.relay.specs.Private.Work.{drops}
 use Rattle.relay.proofs.Judgements.{Judged, settles}
-use Rattle.relay.proofs.Lawful.{Lawful}
+use Rattle.relay.proofs.Lawful.{BehindReader, Lawful}
 use Rattle.relay.proofs.AsRead.{as-read}
 
 -- ---- its rules
 module _ (c : Content) where
-  own-numbered : numbered (quitRules c) ≡ true
-  unfolding quitRules
-  own-numbered = refl
-
+  -- too many parameters
   pub quit-many : 1 < length (c .params) → firstOf (quitRules c) ≡ wrongParamCount
   unfolding quitRules
   quit-many h = stop _ _ (ap not (lt-leb (length (c .params)) 1 h))
@@ -44,38 +40,43 @@ module _ (c : Content) where
     unfolding quitRules
     quit-counted = skip _ _ (ap not (le-leb (length (c .params)) 1 h))
 
+    -- no user
     pub quit-unsourced : prefixIs isUserId (c .prefix) ≡ false → firstOf (quitRules c) ≡ badSource
     quit-unsourced u = quit-counted ∙ stop _ _ (ap not u)
 
+    -- nothing to refuse
     pub quit-passes : prefixIs isUserId (c .prefix) ≡ true → firstOf (quitRules c) ≡ accepted
     quit-passes u = quit-counted ∙ skip _ _ (ap not u) ∙ first-nil
 
 -- ---- what it comes to
 module _ (n : Network) (a : Arrival) where
-  ordered : ascendFrom (suc (rank tooManyParams)) (commandRules meaning n a) ≡ true
+  ordered : BehindReader (meaning .rules n a)
   unfolding ascendFrom placeIn quitRules
   ordered = refl
 
   judged : firstOf (quitRules (said a)) ≡ accepted → (j : Change) → j ≡ drops (sourceIn (said a)) AsRead → Judged meaning n a j
   unfolding quitted
-  judged own j e =
-      let all = ap firstOf (append-nil (quitRules (said a))) ∙ own in
-      settles meaning n a accepted all j (drops (sourceIn (said a)) AsRead) refl (omega arith) (λ _. record { network = refl; sends = refl }) e
+  judged own j e = settles meaning n a accepted own j (drops (sourceIn (said a)) AsRead) refl (omega arith) (λ _. record { network = refl; sends = refl }) e
 
   keeps : goodNetwork n ≡ true → goodNetwork (quitted n (said a)) ≡ true
-  unfolding goodNetwork quitted
+  unfolding quitted
   keeps good =
       let gone = without (sourceIn (said a)) in
-      and-intro _ _ (all-map goodSlot gone (without-good (sourceIn (said a))) (n .slots) (slots-good n good))
+      slots-change n good (map gone (n .slots)) (all-map goodSlot gone (without-good (sourceIn (said a))) (n .slots) (slots-good n good))
       (distinct-kept (n .slots) (map gone (n .slots)) (kept-map gone (without-keeps (sourceIn (said a))) (n .slots)) (slots-distinct n good))
 
+  -- It changes the slots, and all else of the network stays.
+  pub leaves : quitted n (said a) ≡ withSlots n (quitted n (said a) .slots)
+  unfolding quitted
+  leaves = refl
+
+-- QUIT is lawful.
 pub lawful : Lawful Quit
 lawful = record {
-  numbers = own-numbered;
   ordered = ordered;
+  first = λ n a ne. refl;
   asks = λ m c. refl;
   judged = λ n a good sixteen read own j e. judged n a own j e;
-  leaves = λ n a. refl;
   keeps = λ n a p. keeps n a (p .good);
   reads = λ n a p. as-read (a .line) (p .read);
 }

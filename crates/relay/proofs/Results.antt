@@ -13,7 +13,6 @@ use Rattle.refusal.specs.Numbers.{accepted, noFreeSlot}
 use Rattle.refusal.specs.Rules.{firstOf}
 use Rattle.refusal.proofs.Rules.{skip, first-nil, first-none, append-some, append-none, both-none}
 use Rattle.laws.specs.Lists.{all}
-use Rattle.laws.proofs.Bools.{and-intro}
 use Rattle.laws.proofs.Lists.{at-all}
 use Rattle.laws.proofs.Replaced.{all-set}
 use Rattle.names.specs.Fold.{sameName}
@@ -37,17 +36,17 @@ use Rattle.table.specs.Table.{isFree, goodSlot, holds, distinct, goodNetwork}
 use Rattle.table.specs.Slots.{slotIn, slotNumber, placeOf, slotRules}
 use Rattle.table.proofs.First.{IsFirst}
 use Rattle.table.proofs.Searching.{slot-held, slot-free, number-is}
-use Rattle.table.proofs.WellFormed.{holding-used, holding-name, slots-good, slots-distinct}
+use Rattle.table.proofs.WellFormed.{holding-used, holding-name, slots-good, slots-distinct, slots-change}
 use Rattle.table.proofs.Using.{held-well}
 use Rattle.table.proofs.Changing.{well-used, well-good, kept-set, distinct-kept, distinct-new}
-use Rattle.relay.specs.Joining.{resultIn, resulting, joinedRules, joined}
+use Rattle.relay.specs.Sjoin.{resultIn, resulting, joinedRules, joined}
 
 -- ---- its rules
 -- number 21, by the slot that its name uses
 pub slot-told : (n : Network) (c : Channel) (s : Slot) → slotIn n (c .name) ≡ s → firstOf (slotRules (n .slots) (c .name)) ≡ slotNumber s
 slot-told n c s e = sym (number-is (n .slots) (c .name)) ∙ ap slotNumber e
 
--- where there is one, number 22 is left
+-- where held is one, number 22 is left
 pub room-left : (n : Network) (c : Channel) → firstOf (slotRules (n .slots) (c .name)) ≡ accepted → firstOf (joinedRules n c) ≡ firstOf (roomRules (resulting n c))
 unfolding joinedRules slotRules
 room-left n c e = append-none (roomRules (resulting n c)) (slotRules (n .slots) (c .name)) refl e
@@ -65,47 +64,52 @@ module _ (n : Network) (c : Channel) (p : Proper c) where
 
   -- slot k holds the name
   module _ (k : ℕ) (e : slotIn n (c .name) ≡ Held k) where
-    abbrev there : Record
-    there = getD (n .slots) k emptyRecord
+    abbrev held : Record
+    held = getD (n .slots) k emptyRecord
 
     first : IsFirst (holds (c .name)) (n .slots) emptyRecord k
     first = slot-held (n .slots) (c .name) emptyRecord k e
 
-    held-result : resulting n c ≡ merge (decode there) c
+    held-result : resulting n c ≡ merge (decode held) c
     unfolding resulting
     held-result = rw e
 
+    -- it is one of the slots
     pub held-inside : k < length (n .slots)
     held-inside = first .inside
 
     module _ (good : all goodSlot (n .slots) ≡ true) where
-      well : wellFormed there ≡ true
+      well : wellFormed held ≡ true
       well = held-well (n .slots) good (c .name) k e
 
-      same : sameName (decode there .name) (decode (encode c) .name) ≡ true
-      same = rw back (holding-name (c .name) there (first .passes))
+      same : sameName (decode held .name) (decode (encode c) .name) ≡ true
+      same = rw back (holding-name (c .name) held (first .passes))
 
       -- both records are well formed and of one channel, so nothing need be tested again
-      held-merges : combined there (encode c) ≡ mergeAnswer there (encode c)
-      held-merges = combined-merge there (encode c) well (encode-well c p) same
+      held-merges : combined held (encode c) ≡ mergeAnswer held (encode c)
+      held-merges = combined-merge held (encode c) well (encode-well c p) same
 
-      held-rules : firstOf (mergeRules there (encode c)) ≡ firstOf (joinedRules n c)
+      held-rules : firstOf (mergeRules held (encode c)) ≡ firstOf (joinedRules n c)
       unfolding mergeRules
       held-rules = skip _ _ (rw (well, encode-well c p)) ∙ skip _ _ (ap not same) ∙ rw (back, sym held-result) (sym (room-left n c (slot-told n c (Held k) e)))
 
-      pub held-number : combined there (encode c) .number ≡ firstOf (joinedRules n c)
+      -- the number is the merging's
+      pub held-number : combined held (encode c) .number ≡ firstOf (joinedRules n c)
       unfolding mergeAnswer
       held-number = ap (λ (m : Merged). m .number) held-merges ∙ held-rules
 
-      pub held-answer : firstOf (joinedRules n c) ≡ accepted → combined there (encode c) .result ≡ encode (resulting n c)
+      -- and so is what results
+      pub held-answer : firstOf (joinedRules n c) ≡ accepted → combined held (encode c) .result ≡ encode (resulting n c)
       unfolding mergeAnswer
       held-answer z = ap (λ (m : Merged). m .result) held-merges ∙ rw (held-rules, z, back, held-result)
 
   -- no slot holds it, and slot k is free
   module _ (k : ℕ) (e : slotIn n (c .name) ≡ Free k) where
+    -- it is one of the slots
     pub free-inside : k < length (n .slots)
     free-inside = slot-free (n .slots) (c .name) emptyRecord k e .1 .inside
 
+    -- the channel itself results
     pub free-result : resulting n c ≡ c
     unfolding resulting
     free-result = rw e
@@ -195,9 +199,10 @@ module _ (n : Network) (good : goodNetwork n ≡ true) (c : Channel) (p : Proper
           distinct-new (c .name) (encode c) m slots k (at-all (λ r. not (holds (c .name) r)) slots emptyRecord (λ j h. ap not (slot-free slots (c .name) emptyRecord k e .0 j h))) (slots-distinct n good)
       go Full e m = absurd (not-full e)
 
+  -- The network stays well formed.
   pub joined-good : goodNetwork (joined n c) ≡ true
-  unfolding goodNetwork joined
-  joined-good = and-intro _ _ (all-set goodSlot (n .slots) place result (slots-good n good) (well-good result result-well)) joined-distinct
+  unfolding joined
+  joined-good = slots-change n good (set (n .slots) place result) (all-set goodSlot (n .slots) place result (slots-good n good) (well-good result result-well)) joined-distinct
 
   place-used : (place < length (n .slots)) × MergesOrOpens (getD (n .slots) place emptyRecord) c result × (sameName (resulting n c .name) (c .name) ≡ true)
   unfolding resulting merge

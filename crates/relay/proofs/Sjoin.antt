@@ -2,14 +2,15 @@
 -- as the line's, at a time that is no later. Assumes nothing.
 use mathlib.Core.Path.{_≡_, refl, sym, ap, ap₂, _∙_}
 use mathlib.Core.Bool.{Bool, true, false}
-use Prim.Native.Nat.{ℕ, suc}
+use Prim.Native.Nat.{ℕ}
 use native.Mathlib.Omega.{arith}
 use lib.ListN.{length, getD}
 use lib.Dec.{eqb}
-use Rattle.refusal.specs.Numbers.{accepted, tooManyParams, noFreeSlot}
-use Rattle.refusal.specs.Rules.{firstOf, ascendFrom, placeIn, rank}
-use Rattle.refusal.proofs.Rules.{append-none, both-none}
+use Rattle.refusal.specs.Numbers.{accepted, noFreeSlot}
+use Rattle.refusal.specs.Rules.{firstOf, ascendFrom, placeIn}
+use Rattle.refusal.proofs.Rules.{append-some, append-none, both-none}
 use Rattle.laws.proofs.Lists.{take-map}
+use Rattle.message.specs.Content.{sourceIn}
 use Rattle.message.specs.Reading.{isRead, messageOf}
 use Rattle.channel.specs.declared.Record.{Record}
 use Rattle.channel.specs.Limits.{slotCount}
@@ -34,14 +35,13 @@ use Rattle.sjoin.proofs.Wellformed.{read-proper}
 use Rattle.retelling.proofs.Retold.{retold-reads}
 use Rattle.relay.specs.declared.Command.the-variants.{Sjoin}
 use Rattle.relay.specs.declared.Change.{Change}
-use Rattle.relay.specs.Arrival.{Arrival, said, sourceIn}
-use Rattle.relay.specs.Joining.{resulting, joinedRules, joined, outgoing, meaning}
-use Rattle.relay.specs.Relay.{commandRules}
+use Rattle.relay.specs.Arrival.{Arrival, said}
+use Rattle.relay.specs.Sjoin.{resulting, joinedRules, joined, outgoing, meaning}
 use Rattle.relay.specs.Private.Work.{nowhere}
-use Rattle.relay.specs.Private.Joining.{toldOf, joins, joinsHeld, joinsFound}
+use Rattle.relay.specs.Private.Sjoin.{toldOf, joins, joinsHeld, joinsFound}
 use Rattle.relay.specs.Private.Commands.{lookedUp}
 use Rattle.relay.proofs.Judgements.{Does, Judged, refused-judged, settles}
-use Rattle.relay.proofs.Lawful.{Passes, Reads, Lawful}
+use Rattle.relay.proofs.Lawful.{Unrefused, Reads, BehindReader, Lawful}
 use Rattle.relay.proofs.Asking.{name-found}
 use Rattle.relay.proofs.Results.{back, held-inside, held-number, held-answer, free-inside, free-result, free-rules, full-rules, result-heads, result-proper, joined-good}
 
@@ -60,7 +60,7 @@ module _ (n : Network) (a : Arrival) where
   incoming = channelIn (said a)
 
   -- none of its rules applies: neither those of the line nor those of its slot
-  pub join-none : firstOf (commandRules meaning n a) ≡ accepted → (firstOf (joinRules (said a)) ≡ accepted) × (firstOf (joinedRules n incoming) ≡ accepted)
+  pub join-none : firstOf (meaning .rules n a) ≡ accepted → (firstOf (joinRules (said a)) ≡ accepted) × (firstOf (joinedRules n incoming) ≡ accepted)
   join-none e = both-none (joinedRules n incoming) (joinRules (said a)) (rules-numbered (said a)) e
 
   module _ (read : isRead (a .line) ≡ true) (own : firstOf (joinRules (said a)) ≡ accepted) where
@@ -68,7 +68,7 @@ module _ (n : Network) (a : Arrival) where
     proper = read-proper (a .line) read own
 
     -- those of its slot are left
-    rest : firstOf (commandRules meaning n a) ≡ firstOf (joinedRules n incoming)
+    rest : firstOf (meaning .rules n a) ≡ firstOf (joinedRules n incoming)
     rest = append-none (joinedRules n incoming) (joinRules (said a)) (rules-numbered (said a)) own
 
     -- ---- the judgement
@@ -100,7 +100,7 @@ module _ (n : Network) (a : Arrival) where
       settled Full e f = refused-judged meaning n a noFreeSlot (rest ∙ full-rules n incoming e) j (λ z. omega (arith, z)) f
 
   -- ---- where no rule refuses it
-  module _ (p : Passes meaning n a) where
+  module _ (p : Unrefused meaning n a) where
     own-none : firstOf (joinRules (said a)) ≡ accepted
     own-none = join-none (p .none) .0
 
@@ -120,19 +120,19 @@ found : (n : Network) (a : Arrival) → isRead (a .line) ≡ true → firstOf (j
 unfolding channelIn
 found n a read own = name-found (a .line) (n .slots) 1 (omega arith) (proper n a read own .name)
 
-ordered : (n : Network) (a : Arrival) → ascendFrom (suc (rank tooManyParams)) (commandRules meaning n a) ≡ true
+ordered : (n : Network) (a : Arrival) → BehindReader (meaning .rules n a)
 unfolding ascendFrom placeIn joinRules joinedRules slotRules
 ordered n a = refl
 
+-- SJOIN is lawful.
 pub lawful : Lawful Sjoin
 lawful = record {
-  numbers = rules-numbered;
   ordered = ordered;
+  first = λ n a ne. append-some (joinedRules n (channelIn (said a))) (joinRules (said a)) ne;
   asks = λ m c. refl;
   judged = λ n a good sixteen read own j e.
       settled n a read own good sixteen j (slotIn n (channelIn (said a) .name)) refl
       (e ∙ ap (λ (f : Found). joinsFound (f .slot) (f .«record») (encode (channelIn (said a)))) (found n a read own));
-  leaves = λ n a. refl;
   keeps = keeps;
   reads = reads;
 }

@@ -9,7 +9,7 @@ use lib.Dec.{eqb}
 use borrow.Author.Tests.{eq-eqb, eqb-true, eqb-false}
 use Rattle.refusal.specs.Numbers.{accepted, notWellFormed, outputTooShort, badLink}
 use Rattle.refusal.specs.Rules.{firstOf, emitted, ascend, ascendFrom, placeIn}
-use Rattle.refusal.proofs.Rules.{first-among, both-none}
+use Rattle.refusal.proofs.Rules.{both-none}
 use Rattle.octets.specs.Bytes.{capital}
 use Rattle.message.specs.Reading.{bodyRules, lineRules, numberFor, isRead}
 use Rattle.message.proofs.Readings.{rules-numbered}
@@ -23,22 +23,22 @@ use Rattle.sjoin.proofs.Wellformed.{read-proper}
 use Rattle.relay.specs.declared.Command.{Command}
 use Rattle.relay.specs.declared.Command.the-variants.{Sjoin, Unknown}
 use Rattle.relay.specs.Arrival.{Arrival, said}
-use Rattle.relay.specs.Joining.{resulting, joined}
+use Rattle.relay.specs.Sjoin.{resulting, joined}
 use Rattle.relay.specs.Commands.{commands, meaningOf, commandIn}
-use Rattle.relay.specs.Relay.{meaningIn, commandRules, takenRules, networkBy, messageBy, relayed, entryRules, processRules, processAnswer, sent}
-use Rattle.relay.proofs.Lawful.{Passes, Reads}
-use Rattle.relay.proofs.Commands.{unknown-met, lawful, word-of}
-use Rattle.relay.proofs.Entering.{entry, entry-refuses, enters}
+use Rattle.relay.specs.Relay.{meaningIn, takenRules, networkBy, messageBy, relayed, entryRules, processRules, processAnswer, sent}
+use Rattle.relay.proofs.Lawful.{Unrefused, Reads}
+use Rattle.relay.proofs.Commands.{unknown-refused, lawful, word-of}
+use Rattle.relay.proofs.Entering.{enters}
 use Rattle.relay.proofs.Sjoin.{join-none}
 use Rattle.relay.proofs.Results.{OneChanged, joined-one}
 
 -- ---- a line that no rule refuses
 module _ (n : Network) (a : Arrival) (none : firstOf (takenRules n a) ≡ accepted) where
   -- it is read, and none of its command's rules applies
-  pub rules-none : (isRead (a .line) ≡ true) × (firstOf (commandRules (meaningIn a) n a) ≡ accepted)
+  pub rules-none : (isRead (a .line) ≡ true) × (firstOf (meaningIn a .rules n a) ≡ accepted)
   unfolding takenRules isRead numberFor
   rules-none =
-      let b = both-none (commandRules (meaningIn a) n a) (lineRules (a .line)) (rules-numbered (a .line)) none in
+      let b = both-none (meaningIn a .rules n a) (lineRules (a .line)) (rules-numbered (a .line)) none in
       (eq-eqb (firstOf (lineRules (a .line))) accepted (b .0), b .1)
 
   -- its command is a known one, and has its word
@@ -46,11 +46,12 @@ module _ (n : Network) (a : Arrival) (none : firstOf (takenRules n a) ≡ accept
   has-word = go (word-of commands (map capital (said a .command)))
     where
       go : (commandIn (a .line) ≡ Unknown) ⊎ (map capital (said a .command) ≡ meaningIn a .word) → map capital (said a .command) ≡ meaningIn a .word
-      go (inl e) = absurd (unknown-met n a (ap (λ (k : Command). firstOf (commandRules (meaningOf k) n a)) (sym e) ∙ rules-none .1))
+      go (inl e) = absurd (unknown-refused (ap (λ (k : Command). firstOf (meaningOf k .rules n a)) (sym e) ∙ rules-none .1))
       go (inr e) = e
 
   module _ (good : goodNetwork n ≡ true) where
-    pub passes : Passes (meaningIn a) n a
+    -- so it is what the laws of commands ask for
+    pub passes : Unrefused (meaningIn a) n a
     passes = record { good = good; read = rules-none .0; word = has-word; none = rules-none .1 }
 
     -- The network stays well formed.
@@ -63,18 +64,13 @@ module _ (n : Network) (a : Arrival) (none : firstOf (takenRules n a) ≡ accept
     unfolding messageBy
     relayed-reads = lawful (commandIn (a .line)) .reads n a passes
 
--- ---- what a line leaves alone
--- Whatever its command, it changes the slots, and all else of the network stays.
-pub slots-alone : (n : Network) (a : Arrival) → networkBy n a ≡ withSlots n (networkBy n a .slots)
-unfolding networkBy
-slots-alone n a = lawful (commandIn (a .line)) .leaves n a
-
 -- ---- an SJOIN changes one slot
 -- its channel is what comes into the network
 pub network-joined : (n : Network) (a : Arrival) → commandIn (a .line) ≡ Sjoin → networkBy n a ≡ joined n (channelIn (said a))
 unfolding networkBy
 network-joined n a is = ap (λ (k : Command). meaningOf k .after n a) is
 
+-- An SJOIN that no rule refuses changes the slot that its channel's name uses, and nothing else of the network.
 pub join-one : (n : Network) (a : Arrival) → goodNetwork n ≡ true → commandIn (a .line) ≡ Sjoin → firstOf (takenRules n a) ≡ accepted
     → OneChanged n (networkBy n a) (channelIn (said a)) (placeOf (n .slots) (slotIn n (channelIn (said a) .name))) (encode (resulting n (channelIn (said a))))
 join-one n a good is none =
@@ -83,10 +79,6 @@ join-one n a good is none =
     rw (network-joined n a is) (joined-one n good (channelIn (said a)) (read-proper (a .line) (r .0) (j .0)) (j .1))
 
 -- ---- from rule 4 on
--- none of the numbers that come before: those of table, output and link
-abbrev pub Later : ℕ → Type 0
-Later number = List·Memᴰ number (notWellFormed ∷ outputTooShort ∷ badLink ∷ []) → ⊥
-
 -- the network after, accepted or refused
 abbrev pub networkThen : Network → Arrival → Network
 networkThen n a = cond (eqb (firstOf (takenRules n a)) accepted) (networkBy n a) n
@@ -110,27 +102,18 @@ module _ (t : Table) (a : Arrival) (n : ℕ) where
       go true e = rw e
       go false e = rw e
 
-  rules-later : Later (firstOf (processRules t a n)) → firstOf (processRules t a n) ≡ firstOf (takenRules (networkOf t) a)
-  rules-later h = go (eqb (entry t a n) accepted) refl (first-among (entryRules (goodTable t) n (t .links .set) (a .link)))
-    where
-      go : (b : Bool) → eqb (entry t a n) accepted ≡ b → (entry t a n ≡ accepted) ⊎ List·Memᴰ (entry t a n) (notWellFormed ∷ outputTooShort ∷ badLink ∷ [])
-          → firstOf (processRules t a n) ≡ firstOf (takenRules (networkOf t) a)
-      go true e m = enters t a n (eqb-true (entry t a n) accepted e)
-      go false e (inl z) = enters t a n z
-      go false e (inr m) = absurd (h (rw (entry-refuses t a n (eqb-false (entry t a n) accepted e)) m))
-
-  -- Past those numbers, the answer is that of the network and the arrival.
-  pub from-four : Later (processAnswer t a n .number)
+  -- Where none of the rules of table, output and link applies, the answer is that of the network and the arrival.
+  pub from-four : firstOf (entryRules t a n) ≡ accepted
       → (processAnswer t a n .number ≡ firstOf (takenRules (networkOf t) a))
       × (networkOf (processAnswer t a n .table) ≡ networkThen (networkOf t) a)
       × (sent t a n ≡ emitted (takenRules (networkOf t) a) (relayed (networkOf t) a))
   unfolding sent emitted
   from-four h =
-      let e = rules-later (rw answer-number at h) in
+      let e = enters t a n h in
       (answer-number ∙ e, answer-network ∙ rw e, rw e)
 
 -- So two tables that hold the same network answer an arrival alike, whatever their links are.
-pub after-alone : (t u : Table) (a : Arrival) (n m : ℕ) → networkOf t ≡ networkOf u → Later (processAnswer t a n .number) → Later (processAnswer u a m .number)
+pub after-alone : (t u : Table) (a : Arrival) (n m : ℕ) → networkOf t ≡ networkOf u → firstOf (entryRules t a n) ≡ accepted → firstOf (entryRules u a m) ≡ accepted
     → (processAnswer t a n .number ≡ processAnswer u a m .number)
     × (networkOf (processAnswer t a n .table) ≡ networkOf (processAnswer u a m .table))
     × (sent t a n ≡ sent u a m)
@@ -143,6 +126,7 @@ after-alone t u a n m e h k =
     )
 
 -- ---- the rules stand in the order of their numbers: the first in it that applies is given
+-- All rules of a line stand so.
 pub rules-ascend : (t : Table) (a : Arrival) (n : ℕ) → ascend (processRules t a n) ≡ true
 unfolding ascendFrom processRules takenRules lineRules bodyRules placeIn
 rules-ascend t a n = lawful (commandIn (a .line)) .ordered (networkOf t) a

@@ -7,9 +7,8 @@ use Rattle.laws.specs.Lists.{padded}
 use Rattle.laws.proofs.Lists.{padded-whole}
 use Rattle.names.specs.Names.{userIdLength, isUserId}
 use Rattle.names.proofs.UserIds.{no-user-id, user-length}
-use Rattle.message.specs.Content.{Content, prefixIs}
+use Rattle.message.specs.Content.{Content, prefixIs, sourceIn}
 use Rattle.message.proofs.Prefixes.{prefix-told, prefix-there}
-use Rattle.relay.specs.Arrival.{sourceIn}
 
 module _ (c : Content) (bytes : List ℕ) (is : bytes ≡ sourceIn c) where
   -- what is told of the bytes holds of the prefix

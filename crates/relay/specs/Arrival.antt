@@ -1,7 +1,6 @@
 -- A line as it arrives.
 use Prim.Native.Nat.{ℕ}
-use mathlib.Core.List.{List, []}
-use mathlib.Core.Option.{Option·getD}
+use mathlib.Core.List.{List}
 use Rattle.message.specs.Content.{Content}
 use Rattle.message.specs.Reading.{contentOf}
 
@@ -16,7 +15,3 @@ arrival link line = record { link = link; line = line }
 -- what it says
 abbrev pub said : Arrival → Content
 said a = contentOf (a .line)
-
--- the source of a message: its prefix, or no bytes
-abbrev pub sourceIn : Content → List ℕ
-sourceIn c = Option·getD (c .prefix) []

@@ -12,9 +12,9 @@ use Rattle.relay.specs.declared.Command.{Command}
 use Rattle.relay.specs.declared.Command.the-variants.{Sjoin, Part, Quit, Unknown}
 use Rattle.relay.specs.Arrival.{said}
 use Rattle.relay.specs.Meaning.{Meaning}
-use Rattle.relay.specs.Joining as joining
-use Rattle.relay.specs.Parting as parting
-use Rattle.relay.specs.Quitting as quitting
+use Rattle.relay.specs.Sjoin as joining
+use Rattle.relay.specs.Part as parting
+use Rattle.relay.specs.Quit as quitting
 
 -- those that it knows
 abbrev pub commands : List Command
@@ -22,8 +22,9 @@ commands = Sjoin ∷ Part ∷ Quit ∷ []
 
 -- any other is refused, whatever it says
 abbrev pub unknown : Meaning
-unknown = record { word = []; own = λ c. unknownCommand when true ∷ []; met = λ n a. []; after = λ n a. n; out = λ n a. inCapitals (said a) }
+unknown = record { word = []; rules = λ n a. unknownCommand when true ∷ []; after = λ n a. n; out = λ n a. inCapitals (said a) }
 
+-- what each means
 abbrev pub meaningOf : Command → Meaning
 meaningOf Sjoin = joining.meaning
 meaningOf Part = parting.meaning

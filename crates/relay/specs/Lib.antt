@@ -1,8 +1,8 @@
 pub mod Arrival
 pub mod Meaning
-pub mod Joining
-pub mod Parting
-pub mod Quitting
+pub mod Sjoin
+pub mod Part
+pub mod Quit
 pub mod Commands
 pub mod Relay
 pub mod Private

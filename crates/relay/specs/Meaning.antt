@@ -10,10 +10,8 @@ use Rattle.relay.specs.Arrival.{Arrival}
 pub record Meaning : Type 0 where
   -- its word, in capitals
   pub word : List ℕ
-  -- the rules of a message by itself
-  pub own : Content → List Rule
-  -- those of what it meets in the network
-  pub met : Network → Arrival → List Rule
+  -- its rules, of the message by itself and of what it meets in the network
+  pub rules : Network → Arrival → List Rule
   -- the network after it
   pub after : Network → Arrival → Network
   -- the message that goes out

@@ -1,7 +1,7 @@
 -- What private functions promise. No public contract cites these files: nobody needs to believe them.
 pub mod Work
-pub mod Joining
-pub mod Parting
-pub mod Quitting
+pub mod Sjoin
+pub mod Part
+pub mod Quit
 pub mod Commands
 pub mod Acting

@@ -1,7 +1,7 @@
 -- Taking a line (document 01, 'SJOIN', 'What goes out' and 'The numbers a caller may get'): the rules in their order, the network after, the line that
 -- goes out, and the answer. From rule 4 on, all depends on the network and the arrival alone; the links enter rule 3 and the relay set.
 use Prim.Native.Nat.{ℕ}
-use mathlib.Core.Bool.{Bool, not, cond}
+use mathlib.Core.Bool.{not, cond}
 use mathlib.Core.List.{List, [], _∷_, _++_}
 use lib.ListN.{length}
 use lib.Dec.{eqb, ltb}
@@ -16,7 +16,7 @@ use Rattle.table.specs.declared.Table.{Table}
 use Rattle.table.specs.Network.{Network, networkOf, withNetwork}
 use Rattle.table.specs.Table.{goodTable}
 use Rattle.relay.specs.declared.Taken.{Taken}
-use Rattle.relay.specs.Arrival.{Arrival, said}
+use Rattle.relay.specs.Arrival.{Arrival}
 use Rattle.relay.specs.Meaning.{Meaning}
 use Rattle.relay.specs.Commands.{meaningOf, commandIn}
 
@@ -25,13 +25,9 @@ use Rattle.relay.specs.Commands.{meaningOf, commandIn}
 abbrev pub meaningIn : Arrival → Meaning
 meaningIn a = meaningOf (commandIn (a .line))
 
--- the rules of its command: of the message by itself, then of what it meets
-abbrev pub commandRules : Meaning → Network → Arrival → List Rule
-commandRules m n a = m .own (said a) ++ m .met n a
-
 -- the rules of a line: the reader's own, then those of its command
 unfoldable pub takenRules : Network → Arrival → List Rule
-takenRules n a = lineRules (a .line) ++ commandRules (meaningIn a) n a
+takenRules n a = lineRules (a .line) ++ meaningIn a .rules n a
 
 -- where none of them applies: the network after, the message that goes out, and its line
 unfoldable pub networkBy : Network → Arrival → Network
@@ -43,24 +39,25 @@ messageBy n a = meaningIn a .out n a
 abbrev pub relayed : Network → Arrival → List ℕ
 relayed n a = written (messageBy n a)
 
--- ---- the line on its way: the numbers 1 to 3
--- by whether the table is well formed, n bytes of lent output, and the link, of a set of registered ones
-abbrev pub entryRules : Bool → ℕ → ℕ → ℕ → List Rule
-entryRules good n set link =
-    notWellFormed when not good
+-- ---- the line on its way
+-- the numbers 1 to 3, with n bytes of lent output
+abbrev pub entryRules : Table → Arrival → ℕ → List Rule
+entryRules t a n =
+    notWellFormed when not (goodTable t)
     ∷ outputTooShort when ltb n lineLimit
-    ∷ badLink when not (hasLink set link)
+    ∷ badLink when not (hasLink (t .links .set) (a .link))
     ∷ []
 
 -- all rules
 unfoldable pub processRules : Table → Arrival → ℕ → List Rule
-processRules t a n = entryRules (goodTable t) n (t .links .set) (a .link) ++ takenRules (networkOf t) a
+processRules t a n = entryRules t a n ++ takenRules (networkOf t) a
 
 -- ---- the answer
+-- the table as given, and zeros
 abbrev pub refused : Table → ℕ → Taken
 refused t number = record { number = number; table = t; set = 0; count = 0; len = 0 }
 
--- the links that the line goes to, how many they are, and how many bytes were written
+-- the network after, with the links as they were; the links that the line goes to, how many they are, and how many bytes were written
 abbrev pub taken : Table → Arrival → Taken
 taken t a = record {
   number = accepted;

@@ -7,7 +7,7 @@ ghost use Rattle.message.specs.Grammar.{lineLimit};
 ghost use Rattle.message.specs.Parts.{contentBy};
 ghost use Rattle.relay.specs.declared.Command.the-variants.{Sjoin};
 ghost use Rattle.relay.specs.Private.Commands.{askedBy};
-ghost use Rattle.relay.specs.Private.Joining.{toldOf, joins as joinsOf, joinsHeld, joinsFound};
+ghost use Rattle.relay.specs.Private.Sjoin.{toldOf, joins as joinsOf, joinsHeld, joinsFound};
 use crate::Asked;
 use crate::Change;
 use crate::Command;

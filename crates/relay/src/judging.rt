@@ -2,9 +2,8 @@
 // written.
 ghost use mathlib.Core.Path.{_≡_};
 ghost use Rattle.refusal.specs.Rules.{firstOf};
-ghost use Rattle.relay.specs.Relay.{entryRules};
 ghost use Rattle.relay.specs.Private.Work.{unchanged};
-ghost use Rattle.relay.specs.Private.Commands.{workOf, lookedUp};
+ghost use Rattle.relay.specs.Private.Commands.{enteredBy, workOf, lookedUp};
 use crate::Change;
 use crate::Command;
 use crate::Deed;
@@ -33,7 +32,7 @@ use table::find;
 // The first of the numbers 1 to 3 that applies, or ACCEPTED: by whether the table is well formed, n bytes of lent output, the registered links and the
 // link that a line came by.
 pub(crate) fn entry_number(good: bool, n: usize, links: Links, link: u32) -> u8
-    ensures { λ r. ⌜ r ≡ firstOf (entryRules good n (links .set) link) ⌝ }
+    ensures { λ r. ⌜ r ≡ firstOf (enteredBy good n (links .set) link) ⌝ }
 {
     if !good {
         return NOT_WELL_FORMED;

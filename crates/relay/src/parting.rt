@@ -3,7 +3,7 @@ ghost use mathlib.Core.Path.{_≡_};
 ghost use Rattle.message.specs.Parts.{contentBy};
 ghost use Rattle.relay.specs.declared.Command.the-variants.{Part};
 ghost use Rattle.relay.specs.Private.Commands.{askedBy};
-ghost use Rattle.relay.specs.Private.Parting.{partsHeld, partsFound};
+ghost use Rattle.relay.specs.Private.Part.{partsHeld, partsFound};
 use crate::Asked;
 use crate::Change;
 use crate::Command;

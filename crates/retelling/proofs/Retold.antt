@@ -11,7 +11,8 @@ use Rattle.refusal.specs.Numbers.{accepted}
 use Rattle.refusal.specs.Rules.{firstOf}
 use Rattle.octets.specs.Bytes.{capital}
 use Rattle.names.specs.Names.{isChannel, isServerId}
-use Rattle.channel.proofs.Standing.{sided, proper-sided}
+use Rattle.channel.specs.Standing.{channelAt}
+use Rattle.channel.proofs.Standing.{proper-at}
 use Rattle.message.specs.Content.{Content}
 use Rattle.message.specs.Reading.{isRead, contentOf}
 use Rattle.message.proofs.Readings.{read-small}
@@ -31,7 +32,7 @@ module _ (line : List ℕ) (read : isRead line ≡ true) (none : firstOf (joinRu
 
   module _ (command : map capital (content .command) ≡ sjoin) (name : List ℕ) (time : ℕ) where
     abbrev message : Content
-    message = joinMessage (Option·getD (content .prefix) []) (sided name time (channelIn content))
+    message = joinMessage (Option·getD (content .prefix) []) (channelAt name time (channelIn content))
 
     module _ (named : isChannel name ≡ true) (same : length name ≡ length (nameIn content)) (from : 1 ≤ time) (until : time ≤ channelIn content .time) where
       retold-short : length (written message) ≤ length line
@@ -43,8 +44,8 @@ module _ (line : List ℕ) (read : isRead line ≡ true) (none : firstOf (joinRu
       -- What a line told, told again, is read as it is, and is no longer than the line.
       pub retold-reads : (isRead (written message) ≡ true) × (contentOf (written message) ≡ message) × (length (written message) ≤ length line)
       retold-reads =
-          let o = sided name time (channelIn content) in
+          let o = channelAt name time (channelIn content) in
           let s = prefix-there isServerId (content .prefix) (passes content none .source) in
-          let p = proper-sided name time (channelIn content) named from (omega (arith, read-proper line read none .until)) (read-proper line read none) in
+          let p = proper-at name time (channelIn content) named from (omega (arith, read-proper line read none .until)) (read-proper line read none) in
           let r = good-line message (told-good (Option·getD (content .prefix) []) o (s .1) p) (omega (arith, retold-short, read-small line read)) in
           (r .0, r .1, retold-short)

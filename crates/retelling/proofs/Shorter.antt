@@ -27,9 +27,9 @@ use Rattle.channel.specs.Modes.{letters, keyMode, limitMode, hasMode, withMode,
 use Rattle.channel.specs.Settings.{Settings, noSettings}
 use Rattle.channel.specs.Channel.{Channel, voicePlace, operatorPlace, voice, operator, byId, at}
 use Rattle.channel.specs.Members.{ordered}
-use Rattle.channel.specs.Standing.{counts, settingsAt, bare, standing}
+use Rattle.channel.specs.Standing.{counts, settingsAt, bare, standing, channelAt}
 use Rattle.channel.proofs.Letters.{has-no-mode}
-use Rattle.channel.proofs.Standing.{length-standing, sided, proper-sided}
+use Rattle.channel.proofs.Standing.{length-standing, proper-at}
 use Rattle.channel.proofs.Proper.{Proper}
 use Rattle.message.specs.Grammar.{isMiddle}
 use Rattle.message.specs.Content.{Content}
@@ -186,12 +186,12 @@ module _ (c : Content) (none : firstOf (joinRules c) ≡ accepted) (p : Proper (
   -- What a side tells at a time that is no later, under a name as long, is no longer than what was told of it.
   pub told-shorter : (sid name : List ℕ) (time : ℕ) → c .prefix ≡ some sid → length (c .command) ≡ length sjoin → isChannel name ≡ true → length name ≡ length (nameIn c)
       → 1 ≤ time → time ≤ channelIn c .time
-      → length (written (joinMessage sid (sided name time (channelIn c)))) ≤ length (written c)
+      → length (written (joinMessage sid (channelAt name time (channelIn c)))) ≤ length (written c)
   unfolding paramsOf argumentsIn channelIn settingsAt
   told-shorter sid name time source command named same from until =
       let ch = channelIn c in
-      let o = sided name time ch in
-      let q = proper-sided name time ch named from (omega (arith, p .until)) p in
+      let o = channelAt name time ch in
+      let q = proper-at name time ch named from (omega (arith, p .until)) p in
       let s = o .settings in
       let a = hasMode (s .modes) keyMode in
       let b = hasMode (s .modes) limitMode in

@@ -20,7 +20,7 @@ use Rattle.channel.specs.WellFormed.{isBlank, wellFormed}
 use Rattle.channel.proofs.Blank.{empty-free, empty-blank}
 use Rattle.channel.proofs.Decoded.{decoded-name}
 use Rattle.table.specs.declared.Table.{Table}
-use Rattle.table.specs.Network.{Network, networkOf}
+use Rattle.table.specs.Network.{Network, networkOf, withSlots}
 use Rattle.table.specs.Table.{isFree, goodSlot, holds, alike, distinct, goodNetwork, goodTable, emptyTable}
 
 -- ---- one slot
@@ -70,6 +70,11 @@ module _ (n : Network) (g : goodNetwork n ≡ true) where
   pub slots-distinct : distinct (n .slots) ≡ true
   unfolding goodNetwork
   slots-distinct = and-right (all goodSlot (n .slots)) (distinct (n .slots)) g
+
+-- Slots that are good and distinct leave the network well formed: no other test looks at them.
+pub slots-change : (n : Network) → goodNetwork n ≡ true → (slots : List Record) → all goodSlot slots ≡ true → distinct slots ≡ true → goodNetwork (withSlots n slots) ≡ true
+unfolding goodNetwork
+slots-change n g slots good apart = and-intro (all goodSlot slots) (distinct slots) good apart
 
 -- ---- at most one slot holds a name
 module _ (name : List ℕ) where

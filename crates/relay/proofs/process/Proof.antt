@@ -21,6 +21,7 @@ use Rattle.relay.specs.declared.Taken.{Taken}
 use Rattle.relay.specs.Arrival.{Arrival, arrival}
 use Rattle.relay.specs.Commands.{commandIn}
 use Rattle.relay.specs.Relay.{meaningIn, entryRules, processRules, refused, processAnswer, sent}
+use Rattle.relay.specs.Private.Commands.{enteredBy}
 use Rattle.relay.specs.Private.Acting.{writtenBy}
 use Rattle.relay.proofs.Judgements.{Judged}
 use Rattle.relay.proofs.Lawful.{Lawful}
@@ -54,10 +55,10 @@ number c = firstOf (processRules (table c) (came c) (length (lent c)))
 
 -- and those of table, output and link
 abbrev entry : Entered → ℕ
-entry c = firstOf (entryRules (goodTable (table c)) (length (lent c)) (table c .links .set) (came c .link))
+entry c = firstOf (entryRules (table c) (came c) (length (lent c)))
 
 entry-is : (c : Entered) → entry c ≡ c .entry-number .result
-entry-is c = ap (λ (g : Bool). firstOf (entryRules g (length (lent c)) (table c .links .set) (came c .link))) (sym (c .before .is-well-formed .ensures)) ∙ sym (c .entry-number .ensures)
+entry-is c = ap (λ (g : Bool). firstOf (enteredBy g (length (lent c)) (table c .links .set) (came c .link))) (sym (c .before .is-well-formed .ensures)) ∙ sym (c .entry-number .ensures)
 
 sixteen : (c : tie.Start) → length (c .args .t .slots) ≡ slotCount
 sixteen c = search (needs, unmapped)

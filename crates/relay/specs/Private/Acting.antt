@@ -3,6 +3,7 @@ use Prim.Native.Nat.{ℕ}
 use mathlib.Core.List.{List, [], map}
 use lib.ListN.{set}
 use Rattle.refusal.specs.Rules.{emitted}
+use Rattle.message.specs.Content.{sourceIn}
 use Rattle.message.specs.declared.Message.{Message}
 use Rattle.message.specs.Parts.{contentBy}
 use Rattle.writer.specs.Form.{written, inCapitals}
@@ -17,7 +18,6 @@ use Rattle.relay.specs.declared.Deed.{Deed}
 use Rattle.relay.specs.declared.Deed.the-variants.{Nothing, Set, Drop}
 use Rattle.relay.specs.declared.Sending.{Sending}
 use Rattle.relay.specs.declared.Sending.the-variants.{Silent, AsRead, Anew}
-use Rattle.relay.specs.Arrival.{sourceIn}
 
 -- ---- the network after
 abbrev pub doneBy : Deed → Change → Network → Network

@@ -1,12 +1,14 @@
--- The two steps of any command: what a line asks for, the slot that its name uses, and what the request comes to there.
+-- The steps of any command: what a line asks for, the slot that its name uses, and what the request comes to there; and what decides before them.
 use Prim.Native.Nat.{ℕ}
-use mathlib.Core.Bool.{cond}
-use mathlib.Core.List.{List}
-use lib.Dec.{eqb}
-use Rattle.refusal.specs.Numbers.{accepted, unknownCommand}
-use Rattle.refusal.specs.Rules.{firstOf}
+use mathlib.Core.Bool.{Bool, true, not, cond}
+use mathlib.Core.List.{List, [], _∷_}
+use lib.Dec.{eqb, ltb}
+use Rattle.refusal.specs.Numbers.{accepted, notWellFormed, outputTooShort, badLink, unknownCommand}
+use Rattle.refusal.specs.Rules.{Rule, _when_, firstOf}
+use Rattle.links.specs.Links.{hasLink}
 use Rattle.message.specs.declared.Message.{Message}
 use Rattle.message.specs.declared.Span.{Span}
+use Rattle.message.specs.Grammar.{lineLimit}
 use Rattle.message.specs.Content.{Content}
 use Rattle.message.specs.Parts.{bytesAt}
 use Rattle.message.specs.Reading.{numberFor, isRead, contentOf, messageOf}
@@ -19,25 +21,34 @@ use Rattle.relay.specs.declared.Command.{Command}
 use Rattle.relay.specs.declared.Command.the-variants.{Sjoin, Part, Quit, Unknown}
 use Rattle.relay.specs.declared.Asked.{Asked}
 use Rattle.relay.specs.declared.Change.{Change}
-use Rattle.relay.specs.Commands.{meaningOf, commandIn}
+use Rattle.relay.specs.Commands.{commandIn}
 use Rattle.relay.specs.Private.Work.{Work, nothing, unchanged}
-use Rattle.relay.specs.Private.Joining as joining
-use Rattle.relay.specs.Private.Parting as parting
-use Rattle.relay.specs.Private.Quitting as quitting
+use Rattle.relay.specs.Private.Sjoin as joining
+use Rattle.relay.specs.Private.Part as parting
+use Rattle.relay.specs.Private.Quit as quitting
 
 -- an unknown command's own rule applies, so that it asks for nothing
 abbrev pub idle : Work
-idle = record { asks = λ m c. nothing accepted; settles = λ q incoming f. unchanged unknownCommand }
+idle = record { own = λ c. unknownCommand when true ∷ []; asks = λ m c. nothing accepted; settles = λ q incoming f. unchanged unknownCommand }
 
+-- what the code makes of each
 abbrev pub workOf : Command → Work
 workOf Sjoin = joining.work
 workOf Part = parting.work
 workOf Quit = quitting.work
 workOf Unknown = idle
 
+-- ---- the numbers 1 to 3, by whether the table is well formed, n bytes of lent output, and the link, of a set of registered ones
+abbrev pub enteredBy : Bool → ℕ → ℕ → ℕ → List Rule
+enteredBy good n set link =
+    notWellFormed when not good
+    ∷ outputTooShort when ltb n lineLimit
+    ∷ badLink when not (hasLink set link)
+    ∷ []
+
 -- ---- what a message asks for, or the number of its first own rule that applies
 unfoldable pub askedBy : Command → Message → Content → Asked
-askedBy k m c = let number : ℕ = firstOf (meaningOf k .own c) in cond (eqb number accepted) (workOf k .asks m c) (nothing number)
+askedBy k m c = let number : ℕ = firstOf (workOf k .own c) in cond (eqb number accepted) (workOf k .asks m c) (nothing number)
 
 -- and a line, or the reader's number
 unfoldable pub askedOf : List ℕ → Asked

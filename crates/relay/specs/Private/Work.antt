@@ -3,6 +3,7 @@ use Prim.Native.Nat.{ℕ}
 use mathlib.Core.List.{List}
 use lib.ListN.{replicate}
 use Rattle.refusal.specs.Numbers.{accepted}
+use Rattle.refusal.specs.Rules.{Rule}
 use Rattle.names.specs.Names.{userIdLength}
 use Rattle.message.specs.declared.Span.{Span}
 use Rattle.message.specs.declared.Message.{Message}
@@ -20,15 +21,20 @@ use Rattle.relay.specs.declared.Deed.the-variants.{Nothing, Set, Drop}
 use Rattle.relay.specs.declared.Sending.{Sending}
 use Rattle.relay.specs.declared.Sending.the-variants.{Silent}
 
+-- What the code makes of a command.
 pub record Work : Type 0 where
+  -- the rules of a message by itself
+  pub own : Content → List Rule
   -- what a message asks for where none of its own rules applies
   pub asks : Message → Content → Asked
   -- what a request comes to, with the record that came with it, and the slot that its name uses
   pub settles : Request → Record → Found → Change
 
+-- the room of an id that isn't needed
 abbrev pub noUser : List ℕ
 noUser = replicate userIdLength 0
 
+-- the span of a name that isn't there
 abbrev pub nowhere : Span
 nowhere = span 0 0
 

@@ -3,7 +3,7 @@ use mathlib.Core.Path.{sym}
 use borrow.Author.Tests.{ne-eqb}
 use borrow.Author.Needs.{needs}
 use Rattle.refusal.specs.Numbers.{accepted}
-use Rattle.relay.specs.Private.Joining.{joinsHeld}
+use Rattle.relay.specs.Private.Sjoin.{joinsHeld}
 use Rattle.relay.proofs.joining.joins_held.Statement.{statement}
 use Rattle.relay.proofs.joining.joins_held.Tie as tie
 

@@ -2,7 +2,7 @@
 use mathlib.Core.Path.{refl}
 use borrow.Author.Tests.{eq-eqb, ne-eqb}
 use borrow.Author.Needs.{needs}
-use Rattle.relay.specs.Private.Joining.{toldOf}
+use Rattle.relay.specs.Private.Sjoin.{toldOf}
 use Rattle.relay.proofs.joining.outgoing.Statement.{statement}
 use Rattle.relay.proofs.joining.outgoing.Tie as tie
 

@@ -16,7 +16,7 @@ use Rattle.message.specs.Parts.{contentBy}
 use Rattle.message.proofs.SpanContents.{params-count}
 use Rattle.relay.specs.declared.Asked.{Asked}
 use Rattle.relay.specs.declared.Command.the-variants.{Part}
-use Rattle.relay.specs.Parting.{partedIn, partRules}
+use Rattle.relay.specs.Part.{partedIn, partRules}
 use Rattle.relay.specs.Private.Work.{nothing}
 use Rattle.relay.specs.Private.Commands.{askedBy}
 use Rattle.relay.proofs.Users.{user-told, user-held}

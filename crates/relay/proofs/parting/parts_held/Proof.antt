@@ -2,7 +2,7 @@
 use mathlib.Core.Path.{sym, _∙_}
 use borrow.Author.Tests.{not-true, not-false}
 use borrow.Author.Needs.{needs}
-use Rattle.relay.specs.Private.Parting.{partsHeld}
+use Rattle.relay.specs.Private.Part.{partsHeld}
 use Rattle.relay.proofs.parting.parts_held.Statement.{statement}
 use Rattle.relay.proofs.parting.parts_held.Tie as tie
 

@@ -58,20 +58,27 @@ asks c k e q f =
     asked-parts (line s) (read (c .before .before)) (message c) (ap (λ (x : Parsed). x .message) (s .pre)) k (ap commandOf (sym (c .command-in .ensures .0)) ∙ e) q f
 
 -- ---- which command it is
+-- the word, from where it isn't the first command's, and where it isn't the second's either
+abbrev after1 : tie.Else1 → Worded
+after1 c = c .before .before .before
+
+abbrev after2 : tie.Else2 → Worded
+after2 c = after1 (c .before .before .before)
+
 is-join : (c : tie.After-is-word) → isWord (word (c .before .before)) (meaningOf Sjoin .word) ≡ c .is-word .result
 is-join c = sym (c .is-word .ensures)
 
-is-part : (c : tie.After-is-word2) → isWord (word (c .before .before .before .before .before)) (meaningOf Part .word) ≡ c .is-word2 .result
+is-part : (c : tie.After-is-word2) → isWord (word (after1 (c .before .before))) (meaningOf Part .word) ≡ c .is-word2 .result
 is-part c = sym (c .is-word2 .ensures)
 
-is-quit : (c : tie.After-is-word3) → isWord (word (c .before .before .before .before .before .before .before .before)) (meaningOf Quit .word) ≡ c .is-word3 .result
+is-quit : (c : tie.After-is-word3) → isWord (word (after2 (c .before .before))) (meaningOf Quit .word) ≡ c .is-word3 .result
 is-quit c = sym (c .is-word3 .ensures)
 
-not-join : (c : tie.Else1) → let w = word (c .before .before .before) in commandOf w ≡ commandAmong (Part ∷ Quit ∷ []) (map capital w)
-not-join c = among-next Sjoin _ (word (c .before .before .before)) (is-join (c .before) ∙ c .if1 .left)
+not-join : (c : tie.Else1) → commandOf (word (after1 c)) ≡ commandAmong (Part ∷ Quit ∷ []) (map capital (word (after1 c)))
+not-join c = among-next Sjoin _ (word (after1 c)) (is-join (c .before) ∙ c .if1 .left)
 
-not-part : (c : tie.Else2) → let w = word (c .before .before .before .before .before .before) in commandOf w ≡ commandAmong (Quit ∷ []) (map capital w)
-not-part c = not-join (c .before .before .before) ∙ among-next Part _ (word (c .before .before .before .before .before .before)) (is-part (c .before) ∙ c .if2 .left)
+not-part : (c : tie.Else2) → commandOf (word (after2 c)) ≡ commandAmong (Quit ∷ []) (map capital (word (after2 c)))
+not-part c = not-join (c .before .before .before) ∙ among-next Part _ (word (after2 c)) (is-part (c .before) ∙ c .if2 .left)
 
 -- ---- the needs
 
@@ -123,7 +130,7 @@ part-request-requires c κs = search needs
 returns-3 : tie.Need-returns-3
 returns-3 c =
     let e = c .before .before .before .before in
-    let w = e .before .before .before in
+    let w = after1 e in
     asks w Part (not-join e ∙ among-here Part _ (word w) (is-part (c .before .before) ∙ c .before .if2 .taken)) (c .part-request .result) (c .part-request .ensures)
 
 slice-aggregate-is-word-3 : tie.Need-slice-aggregate-is-word-3
@@ -138,7 +145,7 @@ quit-request-requires c κs = search needs
 returns-4 : tie.Need-returns-4
 returns-4 c =
     let e = c .before .before .before .before in
-    let w = e .before .before .before .before .before .before in
+    let w = after2 e in
     asks w Quit (not-part e ∙ among-here Quit _ (word w) (is-quit (c .before .before) ∙ c .before .if3 .taken)) (c .quit-request .result) (c .quit-request .ensures)
 
 nothing-requires-2 : tie.Need-nothing-requires-2
@@ -148,7 +155,7 @@ returns-5 : tie.Need-returns-5
 returns-5 c =
     let q = c .before .before in
     let e = q .before .before in
-    let w = e .before .before .before .before .before .before in
+    let w = after2 e in
     let unknown = not-part e ∙ among-next Quit _ (word w) (is-quit q ∙ c .before .if3 .left) ∙ among-none (word w) in
     asks w Unknown unknown (c .nothing2 .result) (c .nothing2 .ensures ∙ asked-refused Unknown _ (content w) _ (stop _ _ refl) (λ z. omega (arith, z)))
 

@@ -12,7 +12,7 @@ use Rattle.merging.specs.declared.Merged.{Merged}
 use Rattle.merging.specs.Merging.{combined}
 use Rattle.table.specs.declared.Slot.{Slot}
 use Rattle.table.specs.declared.Slot.the-variants.{Held, Free, Full}
-use Rattle.sjoin.specs.Join.{channelIn}
+use Rattle.sjoin.specs.Join.{joinRules, channelIn}
 use Rattle.relay.specs.declared.Command.the-variants.{Sjoin}
 use Rattle.relay.specs.declared.Change.{Change}
 use Rattle.relay.specs.declared.Sending.the-variants.{Anew}
@@ -51,6 +51,7 @@ joinsFound Full held incoming = unchanged noFreeSlot
 -- the name is the second parameter
 abbrev pub work : Work
 work = record {
+  own = joinRules;
   asks = λ m c. asking (getD (m .params) 1 nowhere) noUser Sjoin accepted (encode (channelIn c));
   settles = λ q incoming f. joinsFound (f .slot) (f .«record») incoming;
 }

@@ -6,13 +6,14 @@ use lib.Dec.{leb}
 use Rattle.refusal.specs.Numbers.{wrongParamCount, badSource}
 use Rattle.refusal.specs.Rules.{Rule, _when_}
 use Rattle.names.specs.Names.{isUserId}
-use Rattle.message.specs.Content.{Content, prefixIs}
+use Rattle.message.specs.Content.{Content, prefixIs, sourceIn}
 use Rattle.writer.specs.Form.{inCapitals}
 use Rattle.channel.specs.Members.{without}
 use Rattle.table.specs.Network.{Network, withSlots}
-use Rattle.relay.specs.Arrival.{said, sourceIn}
+use Rattle.relay.specs.Arrival.{said}
 use Rattle.relay.specs.Meaning.{Meaning}
 
+-- the numbers 12 and 13
 unfoldable pub quitRules : Content → List Rule
 quitRules c =
     wrongParamCount when not (leb (length (c .params)) 1)
@@ -27,8 +28,7 @@ quitted n c = withSlots n (map (without (sourceIn c)) (n .slots))
 abbrev pub meaning : Meaning
 meaning = record {
   word = 81 ∷ 85 ∷ 73 ∷ 84 ∷ [];
-  own = quitRules;
-  met = λ n a. [];
+  rules = λ n a. quitRules (said a);
   after = λ n a. quitted n (said a);
   out = λ n a. inCapitals (said a);
 }

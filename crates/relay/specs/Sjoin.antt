@@ -4,7 +4,7 @@ use lib.ListN.{set}
 use Rattle.refusal.specs.Rules.{Rule}
 use Rattle.channel.specs.Channel.{Channel}
 use Rattle.channel.specs.Record.{encode, decode}
-use Rattle.channel.specs.Standing.{settingsAt, standing}
+use Rattle.channel.specs.Standing.{channelAt}
 use Rattle.merging.specs.Merging.{merge, roomRules}
 use Rattle.table.specs.declared.Slot.{Slot}
 use Rattle.table.specs.declared.Slot.the-variants.{Held, Free, Full}
@@ -12,7 +12,8 @@ use Rattle.table.specs.Network.{Network, withSlots}
 use Rattle.table.specs.Slots.{slotIn, heldIn, placeOf, slotRules}
 use Rattle.sjoin.specs.Join.{joinRules, channelIn}
 use Rattle.telling.specs.Telling.{sjoin, joinMessage}
-use Rattle.relay.specs.Arrival.{said, sourceIn}
+use Rattle.message.specs.Content.{sourceIn}
+use Rattle.relay.specs.Arrival.{said}
 use Rattle.relay.specs.Meaning.{Meaning}
 
 -- what an incoming channel comes to in its slot: merged into the one that is there, or itself where it is new
@@ -21,6 +22,7 @@ resultIn n c (Held k) = merge (decode (heldIn (n .slots) (Held k))) c
 resultIn n c (Free k) = c
 resultIn n c Full = c
 
+-- in the slot that its name uses
 unfoldable pub resulting : Network → Channel → Channel
 resulting n c = resultIn n c (slotIn n (c .name))
 
@@ -28,23 +30,18 @@ resulting n c = resultIn n c (slotIn n (c .name))
 unfoldable pub joinedRules : Network → Channel → List Rule
 joinedRules n c = slotRules (n .slots) (c .name) ++ roomRules (resulting n c)
 
+-- the slot holds what results, and all else of the network stays
 unfoldable pub joined : Network → Channel → Network
 joined n c = withSlots n (set (n .slots) (placeOf (n .slots) (slotIn n (c .name))) (encode (resulting n c)))
 
--- what goes out: resulting time, stored spelling; for a later incoming time no settings and bare ids, else the incoming settings and statuses
+-- what goes out is the incoming channel as it stands at the resulting time, under the stored spelling: for a later incoming time without modes, and bare ids
 unfoldable pub outgoing : Channel → Channel → Channel
-outgoing result c = record {
-  name = result .name;
-  time = result .time;
-  settings = settingsAt (result .time) c;
-  members = standing (result .time) c;
-}
+outgoing result c = channelAt (result .name) (result .time) c
 
 abbrev pub meaning : Meaning
 meaning = record {
   word = sjoin;
-  own = joinRules;
-  met = λ n a. joinedRules n (channelIn (said a));
+  rules = λ n a. joinRules (said a) ++ joinedRules n (channelIn (said a));
   after = λ n a. joined n (channelIn (said a));
   out = λ n a. let c : Channel = channelIn (said a) in joinMessage (sourceIn (said a)) (outgoing (resulting n c) c);
 }

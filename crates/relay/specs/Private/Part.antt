@@ -9,10 +9,11 @@ use Rattle.channel.specs.Record.{decode, emptyRecord}
 use Rattle.channel.specs.Members.{hasMember, without}
 use Rattle.table.specs.declared.Slot.{Slot}
 use Rattle.table.specs.declared.Slot.the-variants.{Held, Free, Full}
+use Rattle.message.specs.Content.{sourceIn}
 use Rattle.relay.specs.declared.Command.the-variants.{Part}
 use Rattle.relay.specs.declared.Change.{Change}
 use Rattle.relay.specs.declared.Sending.the-variants.{AsRead}
-use Rattle.relay.specs.Arrival.{sourceIn}
+use Rattle.relay.specs.Part.{partRules}
 use Rattle.relay.specs.Private.Work.{Work, nowhere, asking, unchanged, sets}
 
 -- slot k is to hold the record that is left
@@ -32,6 +33,7 @@ partsFound Full held user = unchanged noSuchChannel
 -- the name is the first parameter
 abbrev pub work : Work
 work = record {
+  own = partRules;
   asks = λ m c. asking (getD (m .params) 0 nowhere) (sourceIn c) Part accepted emptyRecord;
   settles = λ q incoming f. partsFound (f .slot) (f .«record») (q .user);
 }

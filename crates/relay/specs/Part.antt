@@ -1,25 +1,26 @@
 -- PART (document 01, 'SJOIN', its last paragraph): a member leaves a channel.
 use Prim.Native.Nat.{ℕ}
 use mathlib.Core.Bool.{not, _&&_}
-use mathlib.Core.List.{List, [], _∷_}
+use mathlib.Core.List.{List, [], _∷_, _++_}
 use lib.ListN.{length, getD, set}
 use lib.Dec.{leb}
 use Rattle.refusal.specs.Numbers.{wrongParamCount, badSource, badName, noSuchChannel, notOnChannel}
 use Rattle.refusal.specs.Rules.{Rule, _when_}
 use Rattle.names.specs.Names.{isChannel, isUserId}
-use Rattle.message.specs.Content.{Content, prefixIs}
+use Rattle.message.specs.Content.{Content, prefixIs, sourceIn}
 use Rattle.writer.specs.Form.{inCapitals}
 use Rattle.channel.specs.Record.{decode}
 use Rattle.channel.specs.Members.{hasMember, without}
 use Rattle.table.specs.Network.{Network, withSlots}
 use Rattle.table.specs.Slots.{slotIn, heldIn, isHeld, placeOf}
-use Rattle.relay.specs.Arrival.{said, sourceIn}
+use Rattle.relay.specs.Arrival.{said}
 use Rattle.relay.specs.Meaning.{Meaning}
 
--- the channel that it names
+-- the name of the channel
 abbrev pub partedIn : Content → List ℕ
 partedIn c = getD (c .params) 0 []
 
+-- the numbers 12, 13 and 16, of the message by itself
 unfoldable pub partRules : Content → List Rule
 partRules c =
     wrongParamCount when not (leb 1 (length (c .params)) && leb (length (c .params)) 2)
@@ -42,8 +43,7 @@ parted n c = withSlots n (set (n .slots) (placeOf (n .slots) (slotIn n (partedIn
 abbrev pub meaning : Meaning
 meaning = record {
   word = 80 ∷ 65 ∷ 82 ∷ 84 ∷ [];
-  own = partRules;
-  met = λ n a. partedRules n (said a);
+  rules = λ n a. partRules (said a) ++ partedRules n (said a);
   after = λ n a. parted n (said a);
   out = λ n a. inCapitals (said a);
 }
