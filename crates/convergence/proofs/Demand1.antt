@@ -27,5 +27,6 @@ module _ (t : Table) (a : Arrival) (out : List ℕ) (bad : ruled t a out ≡ acc
   listed : Listed (ours t a out .0 .number)
   listed = rw answered (first-listed (processRules t a (length out)) (rules-ascend t a (length out)) bad)
 
+-- Our taking meets demand 1.
 pub demand1 : Demand1 ours
 demand1 = record { one = λ t a out. (ours t a out, refl, λ b e. sym e); refuses = refuses; listed = listed }

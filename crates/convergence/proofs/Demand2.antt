@@ -35,5 +35,6 @@ accepts t a out good =
       message = ap contentOf e ∙ r .message;
     }
 
+-- Our taking meets demand 2.
 pub demand2 : Demand2 ours
 demand2 t a out good = rw (answer-accepted t a (length out) good, sent-line t a (length out) good) (accepts t a out good)

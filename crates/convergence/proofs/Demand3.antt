@@ -158,6 +158,7 @@ merged m n (l ∷ s) (j ∷ t) p q h i k e f =
     few : length (merge a b .members) ≤ memberLimit
     few = rw (is, length-plain (channelOf l) (map channelOf (s ++ j ∷ t))) (k .few)
 
+-- Our taking and our merging meet demand 3.
 pub demand3 : Demand3 ours ourMerging
 demand3 = record {
   numbers = λ start js empty kept. walked start empty js kept .0;

@@ -149,16 +149,19 @@ fails-3 : (taking : Taking) (js : List Join) → Fails3 taking js → (merging :
 fails-3 taking js f merging d = f .1 (d .leaves (start links) js refl (f .0))
 
 -- ---- refusing all
+-- `later` isn't taken as demand 2 says
 pub refusing-later : Fails2 refusing 3 later
 refusing-later =
     let n = later-number links 3 on-3 in
     (n, λ a. let e : notWellFormed ≡ accepted = rw n at (a .number) in absurd (omega (arith, e)))
 
+-- A relay that refuses all doesn't meet demand 2.
 pub refusing-fails : Demand2 refusing → ⊥
 refusing-fails = fails-2 refusing 3 later refusing-later
 
 -- ---- a constant answer: whatever it is, it is wrong for one of two lines
 module _ (answer : Taken) (after : List ℕ) where
+  -- `later` isn't taken as demand 2 says, or `earlier` isn't
   pub constant-line : Fails2 (constant answer after) 3 later ⊎ Fails2 (constant answer after) 0 earlier
   constant-line = go (eqb (firstTime (answer .table)) 1200) refl
     where
@@ -170,6 +173,7 @@ module _ (answer : Taken) (after : List ℕ) where
           )
       go false e = inl (later-number links 3 on-3, λ a. eqb-false (firstTime (answer .table)) 1200 e (ap firstTime (a .table) ∙ taken-time 3 later later-command ∙ later-time))
 
+  -- a join of `later` leaves another table than demand 3 says, or one of `earlier` does
   pub constant-joins : Fails3 (constant answer after) (laterFrom 3 ∷ []) ⊎ Fails3 (constant answer after) (earlierFrom 0 ∷ [])
   unfolding tableAfter
   constant-joins = go (eqb (firstTime (answer .table)) 1200) refl
@@ -178,9 +182,11 @@ module _ (answer : Taken) (after : List ℕ) where
       go true e = inr (rw earlier-good earlier-kept, λ a. omega (arith, eqb-true (firstTime (answer .table)) 1200 e, ap firstTime a, earlier-held))
       go false e = inl (rw later-good later-kept, λ a. eqb-false (firstTime (answer .table)) 1200 e (ap firstTime a ∙ later-held))
 
+  -- A relay with a constant answer doesn't meet demand 2.
   pub constant-fails-2 : Demand2 (constant answer after) → ⊥
   constant-fails-2 d = ⊎-elim (λ (f : Fails2 (constant answer after) 3 later). fails-2 _ 3 later f d) (λ (f : Fails2 (constant answer after) 0 earlier). fails-2 _ 0 earlier f d) constant-line
 
+  -- A relay with a constant answer doesn't meet demand 3, whatever the merging.
   pub constant-fails-3 : (merging : Merging) → Demand3 (constant answer after) merging → ⊥
   constant-fails-3 merging d =
       ⊎-elim
@@ -188,16 +194,20 @@ module _ (answer : Taken) (after : List ℕ) where
       (λ (f : Fails3 (constant answer after) (earlierFrom 0 ∷ [])). fails-3 _ (earlierFrom 0 ∷ []) f merging d) constant-joins
 
 -- ---- a table that never alters
+-- `later` isn't taken as demand 2 says
 pub unaltering-later : Fails2 unaltering 3 later
 unaltering-later = (later-number links 3 on-3, λ a. omega (arith, ap firstTime (a .table), taken-time 3 later later-command, later-time, start-time))
 
+-- a join of `later` leaves another table than demand 3 says
 pub unaltering-join : Fails3 unaltering (laterFrom 3 ∷ [])
 unfolding tableAfter
 unaltering-join = (rw later-good later-kept, λ a. omega (arith, ap firstTime a, later-held, start-time))
 
+-- A relay that never alters the table doesn't meet demand 2.
 pub unaltering-fails-2 : Demand2 unaltering → ⊥
 unaltering-fails-2 = fails-2 unaltering 3 later unaltering-later
 
+-- A relay that never alters the table doesn't meet demand 3, whatever the merging.
 pub unaltering-fails-3 : (merging : Merging) → Demand3 unaltering merging → ⊥
 unaltering-fails-3 = fails-3 unaltering (laterFrom 3 ∷ []) unaltering-join
 
@@ -221,6 +231,7 @@ first-takes =
 first-leaves : takeJoin firstOnly next (earlierFrom 0) .table ≡ next
 first-leaves = ap (λ (free : Bool). cond free (ours next (arrival 0 earlier) room) (unaltering next (arrival 0 earlier) room) .0 .table) next-used
 
+-- joins of `later` and then `earlier` leave another table than demand 3 says
 pub first-joins : Fails3 firstOnly (laterFrom 3 ∷ earlierFrom 0 ∷ [])
 unfolding tableAfter
 first-joins =
@@ -228,6 +239,7 @@ first-joins =
     ap firstTime (ap (λ (t : Table). takeJoin firstOnly t (earlierFrom 0) .table) first-takes ∙ first-leaves) ∙ taken-time 3 later later-command ∙ later-time in
     (rw both-good both-kept, λ a. omega (arith, e, ap firstTime a, both-held))
 
+-- A relay that folds the first join alone doesn't meet demand 3, whatever the merging.
 pub first-fails : (merging : Merging) → Demand3 firstOnly merging → ⊥
 first-fails = fails-3 firstOnly (laterFrom 3 ∷ earlierFrom 0 ∷ []) first-joins
 
@@ -252,16 +264,19 @@ module _ (n : ℕ) (d : Demand2 (countedAs n)) where
       ∙ d (start set) (arrival link later) room good .count
       ∙ ap (λ (a : Taken). length (linksIn (a .set))) (answer-accepted (start set) (arrival link later) (length room) good)
 
+-- A relay that answers the same count of links to every accepted line doesn't meet demand 2.
 pub counted-fails : (n : ℕ) → Demand2 (countedAs n) → ⊥
 counted-fails n d = omega (arith, counts n d links 3 on-3 ∙ two-others, counts n d 1 0 alone ∙ no-other)
 
 -- ---- a merging that answers its first record, whatever the taking
+-- for the records of `later` and of `earlier` it doesn't answer the record of both lines
 pub first-record : firstRecord (plainRecord (later ∷ [])) (plainRecord (earlier ∷ [])) ≡ record { number = accepted; result = plainRecord (later ∷ earlier ∷ []) } → ⊥
 unfolding earliest
 first-record e =
     let f : plainRecord (later ∷ []) .time ≡ plainRecord (later ∷ earlier ∷ []) .time = ap (λ (m : Merged). m .result .time) e in
     omega (arith, f, record-time later [], record-time later (earlier ∷ []), later-time, earlier-time)
 
+-- A merging that answers its first record doesn't meet demand 3, whatever the taking.
 pub first-record-fails : (taking : Taking) → Demand3 taking firstRecord → ⊥
 unfolding holding
 first-record-fails taking d =
@@ -273,6 +288,7 @@ first-record-fails taking d =
     answered r = record { number = accepted; result = r }
 
 -- ---- a merging that never refuses: it meets demand 3, so that more is to be asked of a merging
+-- With our taking, the merging that never refuses meets demand 3.
 pub never-refusing-meets : Demand3 ours neverRefusing
 never-refusing-meets = record {
   numbers = demand3 .numbers;
@@ -292,12 +308,15 @@ empty-ill = go (wellFormed emptyRecord) refl
     go true e = absurd (true≢false (sym (eq-eqb (emptyRecord .count) 0 empty-free) ∙ well-used emptyRecord e))
     go false e = refl
 
+-- the rules refuse two empty records as not well formed
 pub empty-number : ruledMerge emptyRecord emptyRecord ≡ notWellFormed
 unfolding mergeRules
 empty-number = stop _ _ (ap (λ (t : Bool). not (t && wellFormed emptyRecord)) empty-ill)
 
+-- and so don't accept them
 pub empty-refused : ruledMerge emptyRecord emptyRecord ≡ accepted → ⊥
 empty-refused e = omega (arith, e, empty-number)
 
+-- The merging that never refuses isn't as `Merges` asks.
 pub never-refusing-fails : Merges neverRefusing → ⊥
 never-refusing-fails m = empty-refused (sym (ap (λ (a : Merged). a .number) (m .refuses emptyRecord emptyRecord empty-refused)))

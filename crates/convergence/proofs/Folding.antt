@@ -187,5 +187,7 @@ module _ (start : Table) (empty : Empty start) where
           onward name j js q q (good start js) (good start js) (ap (λ (a : Taken). a .number) t ∙ same) (ap (λ (a : Taken). a .table) t) refl (ih q h f)
 
   -- ---- the whole list
+  -- Where the good lines keep to one channel and to 64 users, each join is answered its number at the start, and the table left holds the good lines, merged in
+  -- their order. What they come to is proper.
   pub walked : (js : List Join) → Kept (goodLines start js) → Walked (shared (good start js)) js [] (good start js)
   walked js k = walk (shared (good start js)) js [] tt (shares (goodLines start js) k, k .few)

@@ -1,10 +1,11 @@
--- The theorems: our taking and our merging meet the demands, none that answers otherwise does, useless ones don't, and joins that meet the premises.
+-- The theorems that this crate delivers, behind `pub mod`, though no crate cites them: our taking and our merging meet the demands, and none that answers
+-- otherwise does. Then what shows that the demands ask for something: useless relays fail them, and joins meet their premises.
 pub mod Demand1
 pub mod Demand2
 pub mod Demand3
 pub mod Merges
 pub mod Only
-pub mod Failures
-pub mod Witnesses
+mod Failures
+mod Witnesses
 mod Folding
 mod Lines

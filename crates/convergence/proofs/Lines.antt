@@ -80,6 +80,7 @@ unfolding unread isRead numberFor lineRules bodyRules firstOf endsLine sameBy bo
 not-read = refl
 
 -- ---- what they tell
+-- what `equal` tells: #RACE, time 1000, k with key cove, l with limit 20, members 1ABAAAAAA and 2CDAAAAAA, the second with voice
 unfoldable pub third : Channel
 third = record {
   name = 35 ∷ 82 ∷ 65 ∷ 67 ∷ 69 ∷ [];
@@ -92,12 +93,15 @@ told : map channelOf (earlier ∷ equal ∷ []) ≡ stored ∷ third ∷ []
 unfolding earlier equal stored third 1ab 2cd channelIn argumentsIn argumentOf parametered modesByte withMode placeAmong valueFrom memberOf idOf statusOf past wordsAt insert put unite compare contentOf contentIn isRead numberFor lineRules bodyRules firstOf endsLine sameBy bodyOf all isPlain startsWith prefix word prefixEnd commandStart spaces command isCommand isLetter within commandEnd rest params
 told = refl
 
+-- `earlier` tells of `stored`
 pub earlier-tells : channelOf earlier ≡ stored
 earlier-tells = ap (λ (l : List Channel). getD l 0 stored) told
 
+-- `later` tells of `incoming`
 pub later-tells : channelOf later ≡ incoming
 later-tells = line-tells
 
+-- `equal` tells of `third`
 pub equal-tells : channelOf equal ≡ third
 equal-tells = ap (λ (l : List Channel). getD l 1 stored) told
 
@@ -114,42 +118,55 @@ length-room = length-replicate {A = ℕ} lineLimit 0
 abbrev pub start : ℕ → Table
 start set = record { slots = replicate slotCount emptyRecord; links = links set }
 
+-- the join of a line by a link, with that output
 abbrev pub from : (l : List ℕ) → IsJoin l → ℕ → Join
 from l is link = record { arrival = arrival link l; output = room; reads = is }
 
+-- the command of `earlier` is SJOIN
 pub earlier-command : map capital (contentOf earlier .command) ≡ sjoin
 earlier-command = ap (λ (l : List (List ℕ)). getD l 0 []) commands
 
+-- the command of `later` is SJOIN
 pub later-command : map capital (contentOf later .command) ≡ sjoin
 later-command = ap (λ (l : List (List ℕ)). getD l 1 []) commands
 
+-- `earlier` may be a join: it reads as SJOIN
 pub earlier-is : IsJoin earlier
 earlier-is = inl earlier-command
 
+-- so may `later`
 pub later-is : IsJoin later
 later-is = inl later-command
 
+-- so may `equal`, with its command in small letters
 pub equal-is : IsJoin equal
 equal-is = inl (ap (λ (l : List (List ℕ)). getD l 2 []) commands)
 
+-- so may `untimed`
 pub untimed-is : IsJoin untimed
 untimed-is = inl (ap (λ (l : List (List ℕ)). getD l 3 []) commands)
 
+-- `unread` may be a join: it isn't read
 pub unread-is : IsJoin unread
 unread-is = inr not-read
 
+-- the join of `earlier` by a link
 abbrev pub earlierFrom : ℕ → Join
 earlierFrom = from earlier earlier-is
 
+-- the join of `later` by a link
 abbrev pub laterFrom : ℕ → Join
 laterFrom = from later later-is
 
+-- the join of `equal` by a link
 abbrev pub equalFrom : ℕ → Join
 equalFrom = from equal equal-is
 
+-- the join of `untimed` by a link
 abbrev pub untimedFrom : ℕ → Join
 untimedFrom = from untimed untimed-is
 
+-- the join of `unread` by a link
 abbrev pub unreadFrom : ℕ → Join
 unreadFrom = from unread unread-is
 
@@ -161,22 +178,28 @@ module _ (set link : ℕ) where
   on-link : (l : List ℕ) (is : IsJoin l) → hasLink set link ≡ true → numberAt (start set) (from l is link) ≡ judge l
   on-link l is h = start-number (start set) refl (from l is link) ∙ skip _ _ roomy ∙ skip _ _ (ap not h)
 
+  -- by a link that isn't registered, a join has the number of a bad link
   pub off-link : (l : List ℕ) (is : IsJoin l) → hasLink set link ≡ false → numberAt (start set) (from l is link) ≡ badLink
   off-link l is h = start-number (start set) refl (from l is link) ∙ skip _ _ roomy ∙ stop _ _ (ap not h)
 
   module _ (h : hasLink set link ≡ true) where
+    -- by a registered link, `earlier` is accepted
     pub earlier-number : numberAt (start set) (earlierFrom link) ≡ accepted
     earlier-number = on-link earlier earlier-is h ∙ ap (λ (l : List ℕ). getD l 0 0) judged
 
+    -- so is `later`
     pub later-number : numberAt (start set) (laterFrom link) ≡ accepted
     later-number = on-link later later-is h ∙ ap (λ (l : List ℕ). getD l 1 0) judged
 
+    -- so is `equal`
     pub equal-number : numberAt (start set) (equalFrom link) ≡ accepted
     equal-number = on-link equal equal-is h ∙ ap (λ (l : List ℕ). getD l 2 0) judged
 
+    -- `unread` is refused for its empty prefix
     pub unread-number : numberAt (start set) (unreadFrom link) ≡ emptyPrefix
     unread-number = on-link unread unread-is h ∙ ap (λ (l : List ℕ). getD l 3 0) judged
 
+    -- `untimed` is refused for its time 0
     pub untimed-number : numberAt (start set) (untimedFrom link) ≡ zeroTime
     untimed-number = on-link untimed untimed-is h ∙ ap (λ (l : List ℕ). getD l 4 0) judged
 
@@ -185,18 +208,22 @@ module _ (set link : ℕ) where
 abbrev pub race : List ℕ
 race = 35 ∷ 114 ∷ 97 ∷ 99 ∷ 101 ∷ []
 
+-- each of some channels has that folded name
 abbrev pub Races : List Channel → Type 0
 Races [] = Unit {0}
 Races (c ∷ s) = (map fold (c .name) ≡ race) × Races s
 
+-- `stored` has that folded name
 pub stored-race : map fold (stored .name) ≡ race
 unfolding stored fold within
 stored-race = refl
 
+-- `incoming` has that folded name
 pub incoming-race : map fold (incoming .name) ≡ race
 unfolding incoming fold within
 incoming-race = refl
 
+-- `third` has that folded name
 pub third-race : map fold (third .name) ≡ race
 unfolding third fold within
 third-race = refl
@@ -206,6 +233,7 @@ one-race [] h c m = absurd (List·Memᴰ·not-nil m)
 one-race (d ∷ cs) h c (List·Memᴰ·head e) = ap (λ (x : Channel). map fold (x .name)) e ∙ h .0
 one-race (d ∷ cs) h c (List·Memᴰ·tail m) = one-race cs (h .1) c m
 
+-- lines keep to one channel and to 64 users where the channels that they tell of have that folded name and no more users
 pub kept-by : (lines : List (List ℕ)) (cs : List Channel) → map channelOf lines ≡ cs → Races cs → length (everyone cs) ≤ memberLimit → Kept lines
 kept-by lines cs e h f = record { one = λ k l x y. name k x ∙ sym (name l y); few = rw e f }
   where

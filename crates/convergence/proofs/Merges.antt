@@ -24,5 +24,6 @@ module _ (a b : Record) where
     listed : Listed (ourMerging a b .number)
     listed = rw refuses (first-listed (mergeRules a b) (rules-ascend a b) bad)
 
+-- Our merging is as `Merges` asks.
 pub merges : Merges ourMerging
 merges = record { refuses = refuses; listed = listed; accepts = accepts }

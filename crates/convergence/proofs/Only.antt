@@ -41,12 +41,14 @@ module _ (t : Table) (a : Arrival) (out : List ℕ) where
       let output : v ≡ w = p .output ∙ sym (q .output) in
       λ i. (record { number = number i; table = table i; set = set i; count = count i; len = len i }, output i)
 
+  -- A taking that meets demands 1 and 2 answers as ours does on every input.
   pub only : (taking : Taking) → Demand1 taking → Demand2 taking → taking t a out ≡ ours t a out
   only taking one two =
       by-number (ruled t a out)
       (λ good. settled _ _ _ _ (two t a out good) (demand2 t a out good))
       (λ bad. one .refuses t a out bad ∙ sym (demand1 .refuses t a out bad))
 
+-- A merging that is as `Merges` asks answers as ours does for any two records.
 pub only-merging : (merging : Merging) → Merges merging → (a b : Record) → merging a b ≡ ourMerging a b
 only-merging merging m a b =
     by-number (ruledMerge a b) (λ good. m .accepts a b good ∙ sym (merges .accepts a b good)) (λ bad. m .refuses a b bad ∙ sym (merges .refuses a b bad))

@@ -1,4 +1,4 @@
--- The relay's own taking and merging: what `process` (crate relay) and `merge` (crate channel) answer, by the contracts of `taking` and `merging` (src/lib.rt).
+-- The relay's own taking and merging: what `process` (crate relay) and `merge` (crate merging) answer, by the contracts of `taking` and `merging` (src/lib.rt).
 use lib.ListN.{length}
 use Rattle.octets.specs.Room.{front}
 use Rattle.merging.specs.Merging.{mergeAnswer}

@@ -1,4 +1,4 @@
 -- Laws that the crates above cite, and examples.
 pub mod Sets
 mod Counted
-pub mod Examples
+mod Examples

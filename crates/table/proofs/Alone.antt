@@ -27,6 +27,7 @@ use Rattle.table.proofs.WellFormed.{unlike, free-distinct, empty-good}
 use Rattle.table.proofs.Changing.{well-used, well-good, empty-slot}
 
 -- ---- all free
+-- a table whose slots are all free is well formed
 pub free-good : (t : Table) → t .slots ≡ replicate slotCount emptyRecord → goodTable t ≡ true
 unfolding goodNetwork emptyTable
 free-good t e = rw e empty-good
@@ -40,6 +41,7 @@ first-free : (l : List Record) → firstAt isFree (emptyRecord ∷ l) ≡ 0
 unfolding firstAt
 first-free l = rw (eq-eqb (emptyRecord .count) 0 empty-free)
 
+-- where all slots are free, a name uses the first
 pub free-slot : (name : List ℕ) (n : ℕ) → slotFor (replicate (suc n) emptyRecord) name ≡ Free 0
 free-slot name n =
     let slots = replicate (suc n) emptyRecord in
@@ -53,10 +55,12 @@ module _ (r : Record) where
       let e : alike r emptyRecord ≡ false = rw (free-holds (decode r .name) emptyRecord empty-free) (and-false (not (isFree r))) in
       and-intro _ _ (all-replicate (unlike r) emptyRecord n (ap not e)) (free-distinct emptyRecord n empty-free)
 
+  -- a table whose first slot holds a well-formed record, the others free, is well formed
   pub alone-good : wellFormed r ≡ true → (t : Table) (n : ℕ) → t .slots ≡ r ∷ replicate n emptyRecord → goodTable t ≡ true
   unfolding goodNetwork
   alone-good h t n e = rw e (and-intro _ _ (all-cons goodSlot r (replicate n emptyRecord) (well-good r h) (all-replicate goodSlot emptyRecord n empty-slot)) (alone-distinct n))
 
+-- where the first slot holds the name, the name uses it
 pub held-first : (name : List ℕ) (r : Record) (l : List Record) → holds name r ≡ true → slotFor (r ∷ l) name ≡ Held 0
 unfolding firstAt
 held-first name r l e = sym (held-found (r ∷ l) name 0 (rw e) (omega arith))

@@ -30,9 +30,11 @@ pub well-used : (r : Record) → wellFormed r ≡ true → isFree r ≡ false
 unfolding decode
 well-used r h = ne-eqb (r .count) 0 (λ e. omega (arith, well-says r h .holds .some, length-take (r .count) (r .members)))
 
+-- a slot with a well-formed record is good
 pub well-good : (r : Record) → wellFormed r ≡ true → goodSlot r ≡ true
 well-good r h = good-used r (eqb-false (r .count) 0 (well-used r h)) ∙ h
 
+-- the empty slot is good
 pub empty-slot : goodSlot emptyRecord ≡ true
 empty-slot = good-free emptyRecord empty-free ∙ empty-blank
 
@@ -42,6 +44,7 @@ good-at [] k h = empty-slot
 good-at (r ∷ l) zero h = all-head goodSlot r l h
 good-at (r ∷ l) (suc k) h = good-at l k (all-tail goodSlot r l h)
 
+-- a good slot that a user is taken out of stays good
 pub without-good : (id : List ℕ) (r : Record) → goodSlot r ≡ true → goodSlot (without id r) ≡ true
 without-good id r h = go (isFree r) refl
   where
@@ -54,6 +57,7 @@ without-good id r h = go (isFree r) refl
     go false e = used (without-well id r (sym (good-used r (eqb-false (r .count) 0 e)) ∙ h))
 
 -- ---- a slot that is emptied, or keeps its name
+-- the second slot is free, or the first is used and the second has its name
 abbrev pub Keeps : Record → Record → Type 0
 Keeps r s = (isFree s ≡ true) ⊎ ((isFree r ≡ false) × (decode s .name ≡ decode r .name))
 
@@ -64,6 +68,7 @@ keeps-same r = go (isFree r) refl
     go true e = inl e
     go false e = inr (e, refl)
 
+-- a slot that a user is taken out of is emptied or keeps its name
 pub without-keeps : (id : List ℕ) (r : Record) → Keeps r (without id r)
 without-keeps id r = go (isFree r) refl
   where
@@ -87,6 +92,7 @@ unlike-keeps r s x y (inr e) (inr f) h =
     rw (f .1, e .1, n, and-false (not (isFree y)), and-false (not (isFree x)))
 
 -- ---- slots, each emptied or with its name
+-- there are as many slots after as before, and each is emptied or keeps the name of the one in its place
 abbrev pub Kept : List Record → List Record → Type 0
 Kept [] [] = Unit {0}
 Kept [] (s ∷ m) = ⊥
@@ -97,11 +103,13 @@ kept-same : (l : List Record) → Kept l l
 kept-same [] = tt
 kept-same (r ∷ l) = (keeps-same r, kept-same l)
 
+-- one slot replaced: each is emptied or keeps its name if that one does
 pub kept-set : (l : List Record) (k : ℕ) (x : Record) → Keeps (getD l k emptyRecord) x → Kept l (set l k x)
 kept-set [] k x h = tt
 kept-set (r ∷ l) zero x h = (h, kept-same l)
 kept-set (r ∷ l) (suc k) x h = (keeps-same r, kept-set l k x h)
 
+-- every slot changed in one way: each is emptied or keeps its name if that way does so to any slot
 pub kept-map : (f : Record → Record) → ((r : Record) → Keeps r (f r)) → (l : List Record) → Kept l (map f l)
 kept-map f h [] = tt
 kept-map f h (r ∷ l) = (h r, kept-map f h l)
@@ -115,6 +123,7 @@ unlike-kept r x k (s ∷ l) (t ∷ m) q h =
     all-cons (unlike x) t m (ap not (unlike-keeps r s x t k (q .0) (not-true (alike r s) (all-head (unlike r) s l h))))
     (unlike-kept r x k l m (q .1) (all-tail (unlike r) s l h))
 
+-- distinct slots, each emptied or with its name, stay distinct
 pub distinct-kept : (l m : List Record) → Kept l m → distinct l ≡ true → distinct m ≡ true
 unfolding distinct
 distinct-kept [] [] q h = refl
@@ -145,6 +154,7 @@ module _ (name : List ℕ) (x : Record) (is : decode x .name ≡ name) where
   abbrev lacks : Record → Bool
   lacks r = not (holds name r)
 
+  -- distinct slots stay distinct where one takes a name that none of them holds
   pub distinct-new : (l : List Record) (k : ℕ) → all lacks l ≡ true → distinct l ≡ true → distinct (set l k x) ≡ true
   unfolding distinct
   distinct-new [] k n h = refl

@@ -31,12 +31,15 @@ module _ {A : Type 0} (p : A → Bool) where
 
     -- ---- the same for a search that has passed over those before
     module _ (e : firstAt p l ≡ i + firstAt p (drop i l)) where
+      -- a place that passes is the first
       pub first-here : p (getD l i d) ≡ true → firstAt p l ≡ i
       first-here y = omega (arith, first-stop y)
 
+      -- a place that doesn't is passed over too
       pub first-next : p (getD l i d) ≡ false → firstAt p l ≡ i + 1 + firstAt p (drop (i + 1) l)
       first-next n = omega (arith, first-go n)
 
+  -- a search that has passed over all places has found none
   pub first-end : (l : List A) (i : ℕ) → length l ≤ i → firstAt p l ≡ i + firstAt p (drop i l) → length l ≤ firstAt p l
   first-end l i h e = omega arith
 
@@ -82,6 +85,7 @@ abbrev pub IsNone : {A : Type 0} → (A → Bool) → List A → A → Type 0
 IsNone p l d = (j : ℕ) → j < length l → p (getD l j d) ≡ false
 
 module _ {A : Type 0} (p : A → Bool) (l : List A) (d : A) where
+  -- the first place, where it is inside the list, passes, and none before it does
   pub first-is : (k : ℕ) → firstAt p l ≡ k → k < length l → IsFirst p l d k
   first-is k e h = record {
     inside = h;
@@ -89,5 +93,6 @@ module _ {A : Type 0} (p : A → Bool) (l : List A) (d : A) where
     before = λ j b. first-before p l d j (omega arith);
   }
 
+  -- where it isn't inside, no place passes
   pub first-none : length l ≤ firstAt p l → IsNone p l d
   first-none h j b = first-before p l d j (omega arith)

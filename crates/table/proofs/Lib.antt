@@ -1,10 +1,10 @@
--- Laws that the crates above cite, and examples.
-pub mod Registering
+-- Laws that the crates above cite; then laws for this crate alone, and examples.
 pub mod First
 pub mod Searching
 pub mod WellFormed
 pub mod Using
 pub mod Changing
 pub mod Alone
+mod Registering
 mod Pairs
-pub mod Examples
+mod Examples

@@ -22,6 +22,7 @@ free-row r e [] = refl
 free-row r e (s ∷ l) = rw (free-alike r s e) (free-row r e l)
 
 module _ (l : List Record) (i : ℕ) where
+  -- past the last slot there is no pair
   pub distinct-past : length l ≤ i → distinct (drop i l) ≡ true
   unfolding distinct
   distinct-past h = rw (drop-of-length-le l h)
@@ -44,8 +45,10 @@ module _ (l : List Record) (i : ℕ) where
     same-pair : alike (getD l i emptyRecord) (getD l j d) ≡ alike (getD l i d) (getD l j d)
     same-pair = ap (λ (r : Record). alike r (getD l j d)) (getD-any l i emptyRecord d h)
 
+    -- if the two are alike, what is left doesn't hold
     pub pair-alike : alike (getD l i d) (getD l j d) ≡ true → left l i j ≡ false
     pair-alike e = rw (all-stop (unlike (getD l i emptyRecord)) l j d k (ap not (same-pair ∙ e)))
 
+    -- if they aren't, the pairs after this one are left
     pub pair-unlike : alike (getD l i d) (getD l j d) ≡ false → left l i j ≡ left l i (j + 1)
     pair-unlike e = rw (all-go (unlike (getD l i emptyRecord)) l j d k (ap not (same-pair ∙ e)))

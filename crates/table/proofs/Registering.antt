@@ -27,6 +27,7 @@ module _ (t : Table) (link : ℕ) (l : Links) where
   unfolding relinked
   relinked-by k e = rw e
 
+  -- a table that isn't well formed is refused and stays as it is
   pub links-ill-formed : goodTable t ≡ false → relinked t link l ≡ record { number = notWellFormed; table = t }
   unfolding linkRules
   links-ill-formed e = relinked-by notWellFormed (stop _ _ (rw e))
@@ -37,9 +38,11 @@ module _ (t : Table) (link : ℕ) (l : Links) where
     unfolding linkRules
     then k e = skip _ _ (rw good) ∙ e
 
+    -- a number that is no link is refused, and the table stays as it is
     pub links-no-link : linkCount ≤ link → relinked t link l ≡ record { number = badLink; table = t }
     links-no-link h = relinked-by badLink (then badLink (stop _ _ (rw (le-ltb link linkCount h))))
 
+    -- a link is accepted where the table is well formed: the links change, and the network stays
     pub links-changed : link < linkCount → relinked t link l ≡ record { number = accepted; table = tableOf (networkOf t) l }
     links-changed h = relinked-by accepted (then accepted (skip _ _ (rw (lt-ltb link linkCount h)) ∙ first-nil))
 
@@ -58,10 +61,11 @@ module _ (t : Table) (link : ℕ) (l : Links) where
   pub relinked-good : goodTable (relinked t link l .table) ≡ goodTable t
   relinked-good = ap goodNetwork relinked-network
 
--- Dropping a link leaves the network as it is, and so does registering one.
+-- Dropping a link leaves the network as it is.
 pub unregister-network : (t : Table) (link : ℕ) → networkOf (unregisterAnswer t link .table) ≡ networkOf t
 unregister-network t link = relinked-network t link (withoutLink (t .links) link)
 
+-- Registering a link leaves the network as it is.
 pub register-network : (t : Table) (link : ℕ) → networkOf (registerAnswer t link .table) ≡ networkOf t
 register-network t link = relinked-network t link (withLink (t .links) link)
 
@@ -81,8 +85,10 @@ module _ (t : Table) (link : ℕ) (f : Links → Links) (twice : (l : Links) →
           let next : Table = tableOf (networkOf t) (f (t .links)) in
           again _ (links-changed t link (f (t .links)) e h) (rw (twice (t .links)) (links-changed next link (f (t .links)) e h))
 
+-- Registering a link again answers the same.
 pub register-twice : (t : Table) (link : ℕ) → registerAnswer (registerAnswer t link .table) link ≡ registerAnswer t link
 register-twice t link = relinked-twice t link (λ l. withLink l link) (λ l. with-twice l link)
 
+-- Dropping a link again answers the same.
 pub unregister-twice : (t : Table) (link : ℕ) → unregisterAnswer (unregisterAnswer t link .table) link ≡ unregisterAnswer t link
 unregister-twice t link = relinked-twice t link (λ l. withoutLink l link) (λ l. without-twice l link)

@@ -23,6 +23,7 @@ use Rattle.table.proofs.First.{IsFirst, IsNone, first-is, first-none, f
 
 -- ---- whether a slot holds the name
 module _ (name : List ℕ) (r : Record) where
+  -- a free slot holds no name
   pub free-holds : r .count ≡ 0 → holds name r ≡ false
   unfolding holds
   free-holds e = rw (eq-eqb (r .count) 0 e)
@@ -34,10 +35,12 @@ module _ (name : List ℕ) (r : Record) where
 
 -- ---- what the search answers
 module _ (slots : List Record) where
+  -- the answer is the first free slot, where there is one
   pub free-found : (k : ℕ) → firstAt isFree slots ≡ k → k < length slots → Free k ≡ freeSlot slots
   unfolding freeSlot
   free-found k e h = rw (e, lt-ltb k (length slots) h)
 
+  -- where there is none, the answer is that all are used
   pub free-full : length slots ≤ firstAt isFree slots → Full ≡ freeSlot slots
   unfolding freeSlot
   free-full h = rw (le-ltb (firstAt isFree slots) (length slots) h)
@@ -52,10 +55,12 @@ module _ (slots : List Record) where
       go false = refl
 
   module _ (name : List ℕ) where
+    -- a name uses the first slot that holds it, where there is one
     pub held-found : (k : ℕ) → firstAt (holds name) slots ≡ k → k < length slots → Held k ≡ slotFor slots name
     unfolding slotFor
     held-found k e h = rw (e, lt-ltb k (length slots) h)
 
+    -- where no slot holds the name, the answer is the lowest free one, or that all are used
     pub held-none : length slots ≤ firstAt (holds name) slots → slotFor slots name ≡ freeSlot slots
     unfolding slotFor
     held-none h = rw (le-ltb (firstAt (holds name) slots) (length slots) h)
@@ -116,5 +121,6 @@ module _ (slots : List Record) (name : List ℕ) where
       go false e false f = rw (e, f) (sym (stop _ _ refl))
 
   module _ (f : Found) (e : f .slot ≡ slotFor slots name) where
+    -- what has that slot, and the record that goes with it, is the answer, and its number is that of the rules
     pub answers : f .«record» ≡ heldIn slots (f .slot) → (f ≡ foundFor slots name) × (slotNumber (f .slot) ≡ firstOf (slotRules slots name))
     answers g = (rw (g, e), ap slotNumber e ∙ number-is)

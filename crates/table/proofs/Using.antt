@@ -16,6 +16,7 @@ use Rattle.table.specs.Slots.{slotFor}
 use Rattle.table.proofs.Searching.{slot-held}
 use Rattle.table.proofs.WellFormed.{good-used, holding-used}
 
+-- Where all slots are good, the slot that holds a name holds a well-formed record.
 pub held-well : (slots : List Record) → all goodSlot slots ≡ true → (name : List ℕ) (k : ℕ) → slotFor slots name ≡ Held k → wellFormed (getD slots k emptyRecord) ≡ true
 held-well slots good name k e =
     let r = getD slots k emptyRecord in

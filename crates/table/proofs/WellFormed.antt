@@ -25,10 +25,12 @@ use Rattle.table.specs.Table.{isFree, goodSlot, holds, alike, distinct, 
 
 -- ---- one slot
 module _ (r : Record) where
+  -- a free slot is good exactly if it is zero
   pub good-free : r .count ≡ 0 → goodSlot r ≡ isBlank r
   unfolding goodSlot
   good-free e = rw (eq-eqb (r .count) 0 e)
 
+  -- a used slot is good exactly if its record is well formed
   pub good-used : (r .count ≡ 0 → ⊥) → goodSlot r ≡ wellFormed r
   unfolding goodSlot
   good-used ne = rw (ne-eqb (r .count) 0 ne)
@@ -36,10 +38,12 @@ module _ (r : Record) where
 -- ---- two slots
 -- the part of the first one's room that its name takes up is sought in the second
 module _ (r s : Record) where
+  -- a free slot is like no slot
   pub free-alike : r .count ≡ 0 → alike r s ≡ false
   unfolding alike
   free-alike e = rw (eq-eqb (r .count) 0 e)
 
+  -- a used slot is like those that hold its name
   pub used-alike : (r .count ≡ 0 → ⊥) → (name : List ℕ) → name ≡ part (r .name) 0 (r .«name_len») → alike r s ≡ holds name s
   unfolding alike
   used-alike ne name e = rw (ne-eqb (r .count) 0 ne, e, decoded-name r)
@@ -50,11 +54,13 @@ unlike r s = not (alike r s)
 
 -- ---- the empty table
 module _ (r : Record) where
+  -- copies of a free slot are distinct
   pub free-distinct : (n : ℕ) → r .count ≡ 0 → distinct (replicate n r) ≡ true
   unfolding distinct
   free-distinct zero e = refl
   free-distinct (suc n) e = and-intro (all (unlike r) (replicate n r)) (distinct (replicate n r)) (all-replicate (unlike r) r n (ap not (free-alike r r e))) (free-distinct n e)
 
+-- The empty table is well formed.
 pub empty-good : goodTable emptyTable ≡ true
 unfolding goodNetwork emptyTable
 empty-good = and-intro _ _ (all-replicate goodSlot emptyRecord slotCount (good-free emptyRecord empty-free ∙ empty-blank)) (free-distinct emptyRecord slotCount empty-free)
@@ -78,10 +84,12 @@ slots-change n g slots good apart = and-intro (all goodSlot slots) (distinct slo
 
 -- ---- at most one slot holds a name
 module _ (name : List ℕ) where
+  -- a slot that holds the name is used
   pub holding-used : (r : Record) → holds name r ≡ true → isFree r ≡ false
   unfolding holds
   holding-used r e = not-true (isFree r) (and-left (not (isFree r)) (sameName (decode r .name) name) e)
 
+  -- and its own name equals that one
   pub holding-name : (r : Record) → holds name r ≡ true → sameName (decode r .name) name ≡ true
   unfolding holds
   holding-name r e = and-right (not (isFree r)) (sameName (decode r .name) name) e
@@ -100,6 +108,7 @@ module _ (name : List ℕ) where
   two-hold (r ∷ rs) d (suc i) zero = λ q b h e f. absurd (omega arith)
   two-hold (r ∷ rs) d (suc i) (suc j) = λ q b h e f. two-hold rs d i j (and-right (all (unlike r) rs) (distinct rs) q) (omega arith) (omega arith) e f
 
+  -- Two slots of a well-formed table that hold the name are the same slot.
   pub held-once : (t : Table) → goodTable t ≡ true → (d : Record) (i j : ℕ) → i < length (t .slots) → j < length (t .slots)
       → holds name (getD (t .slots) i d) ≡ true → holds name (getD (t .slots) j d) ≡ true → i ≡ j
   held-once t g d i j h k e f = go (ltb i j) refl (ltb j i) refl
