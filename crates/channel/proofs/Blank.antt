@@ -18,6 +18,7 @@ use Rattle.channel.specs.WellFormed.{isVacant, zeroTests, isBlank}
 use Rattle.channel.proofs.Judging.{passed}
 use Rattle.channel.proofs.Records.{Sized, zeros, vacant-nobody}
 
+-- A record is blank exactly if it passes the nine tests for zero.
 pub blank-tests : (r : Record) → isBlank r ≡ passed (zeroTests r)
 unfolding isBlank
 blank-tests r = refl
@@ -31,14 +32,17 @@ vacants (m ∷ l) w e =
     (vacants l (λ k h. w (suc k) (omega arith)) (all-tail isVacant m l e))
 
 -- ---- whole records
+-- the empty record has no members
 pub empty-free : emptyRecord .count ≡ 0
 unfolding emptyRecord encode
 empty-free = refl
 
+-- the empty record is blank
 pub empty-blank : isBlank emptyRecord ≡ true
 unfolding emptyRecord encode padded isBlank all
 empty-blank = refl
 
+-- A blank record whose arrays have their lengths is the empty one.
 pub blank-empty : (r : Record) → Sized r → isBlank r ≡ true → r ≡ emptyRecord
 unfolding emptyRecord encode padded
 blank-empty r s e =

@@ -8,6 +8,7 @@ use Rattle.channel.specs.Channel.{Channel, member}
 unfoldable pub 2cd : List ℕ
 2cd = 50 ∷ 67 ∷ 68 ∷ 65 ∷ 65 ∷ 65 ∷ 65 ∷ 65 ∷ 65 ∷ []
 
+-- an id of the server 1AB, by its last byte
 unfoldable pub 1ab : ℕ → List ℕ
 1ab last = 49 ∷ 65 ∷ 66 ∷ 65 ∷ 65 ∷ 65 ∷ 65 ∷ 65 ∷ last ∷ []
 

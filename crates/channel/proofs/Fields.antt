@@ -9,6 +9,7 @@ use Rattle.channel.specs.Channel.{Channel}
 pub settings-path : {s t : Settings} → s .modes ≡ t .modes → s .key ≡ t .key → s .limit ≡ t .limit → s ≡ t
 settings-path p q r = λ i. record { modes = p i; key = q i; limit = r i }
 
+-- and so are two channels
 pub channel-path : {c d : Channel} → c .name ≡ d .name → c .time ≡ d .time → c .settings ≡ d .settings → c .members ≡ d .members → c ≡ d
 channel-path p q r s = λ i. record { name = p i; time = q i; settings = r i; members = s i }
 

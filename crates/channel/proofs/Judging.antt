@@ -24,14 +24,17 @@ use Rattle.channel.proofs.Places.{places}
 abbrev pub passed : List Bool → Bool
 passed ts = all (λ t. t) ts
 
+-- behind a test that passes the others decide
 pub pass : {t : Bool} (ts : List Bool) → t ≡ true → passed (t ∷ ts) ≡ passed ts
 unfolding all
 pass ts e = rw e
 
+-- a test that fails decides
 pub fail : {t : Bool} (ts : List Bool) → t ≡ false → passed (t ∷ ts) ≡ false
 unfolding all
 fail ts e = rw e
 
+-- the last test decides alone
 pub last : (t : Bool) → passed (t ∷ []) ≡ t
 unfolding all
 last t = and-true t
@@ -72,6 +75,7 @@ reordered true false i n k c t q l m a = simp and-false
 reordered false v i n k c t q l m a = simp and-false
 
 module _ (r : Record) (m : length (r .members) ≡ memberLimit) (t : r .time ≤ timeLimit) (b : r .modes < 2 ^ modeCount) where
+  -- A record is well formed exactly if it passes the tests that are made.
   pub well-tests : wellFormed r ≡ passed (tests r)
   unfolding wellFormed clear channelTests decode goodTime goodSettings goodMembers all
   well-tests = simp (

@@ -34,6 +34,7 @@ pub record Inserted (entries : List Member) (i : ℕ) (list : List Member) (coun
   pub ascending : Ascending byId (ordered (take i entries))
   pub behind : (k : List ℕ) → Below (last .id) k → Under byId k (ordered (take i entries))
 
+-- at first no entry is in the list
 pub inserted-none : (entries list : List Member) (last : Member) → list ≡ padded memberLimit nobody [] → Inserted entries 0 list 0 last
 unfolding unite
 inserted-none entries list last e = record { few = omega arith; gathers = record { holds = e; counts = refl }; ascending = tt; behind = λ k h. tt }
@@ -42,6 +43,7 @@ module _ (entries : List Member) (i : ℕ) (list : List Member) (count : ℕ) (l
   abbrev so-far : List Member
   so-far = ordered (take i entries)
 
+  -- while there is room for one more entry, the list is sorted and has room for one more
   pub inserted-sorted : i < memberLimit → Sorted list count
   inserted-sorted h =
       let e : take count list ≡ so-far = gathers-take list count so-far (omega (arith, s .few)) (s .gathers) in
@@ -75,12 +77,14 @@ module _ (entries : List Member) (i : ℕ) (list : List Member) (count : ℕ) (l
       g : Gathers (r .list) (r .count) (put byId e so-far)
       g = roster-gathers r (put byId e so-far) placed
 
+      -- the list has a member then, and at most one more than there were entries before
       pub inserted-count : (1 ≤ r .count) × (r .count ≤ i + 1)
       inserted-count = (omega (arith, g .counts, put-some byId e so-far), omega (arith, g .counts, put-few byId e so-far, s .gathers .counts, s .few))
 
       last-one : (x : Member) → getD (r .list) (r .count - 1) x ≡ getD (put byId e so-far) (r .count - 1) nobody
       last-one x = ap (λ (m : List Member). getD m (r .count - 1) x) (g .holds) ∙ getD-padded nobody memberLimit (put byId e so-far) (r .count - 1) x (omega (arith, inserted-count))
 
+      -- with the entry in its place, one entry more is in the list, and its last member is the new `last`
       pub inserted-put : (x : Member) → Inserted entries (i + 1) (r .list) (r .count) (getD (r .list) (r .count - 1) x)
       inserted-put x =
           let asc : Ascending byId (put byId e so-far) = ascending-put byId stays-byId e so-far (s .ascending) in

@@ -17,6 +17,7 @@ use Rattle.channel.specs.Record.{decode, emptyRecord}
 use Rattle.channel.specs.Members.{roster, hasMember, others, withMembers, without}
 
 module _ (id : List ℕ) where
+  -- no more members stay than there were
   pub others-in : (l : List Member) → length (others id l) ≤ length l
   unfolding others
   others-in [] = omega arith
@@ -40,10 +41,12 @@ module _ (id : List ℕ) where
     next : others id (take (i + 1) l) ≡ others id (take i l) ++ others id (getD l i d ∷ [])
     next = rw (add-one i, take-suc l i d h) (others-append (take i l) (getD l i d ∷ []))
 
+    -- a member with the id adds nothing to those that stay
     pub others-gone : same id (getD l i d .id) ≡ true → others id (take (i + 1) l) ≡ others id (take i l)
     unfolding others
     others-gone e = next ∙ rw e (append-nil (others id (take i l)))
 
+    -- a member with another id is the next that stays
     pub others-stay : same id (getD l i d .id) ≡ false → others id (take (i + 1) l) ≡ others id (take i l) ++ (getD l i d ∷ [])
     unfolding others
     others-stay e = next ∙ rw e
@@ -51,14 +54,17 @@ module _ (id : List ℕ) where
 -- ---- whether one has the id, at a place
 module _ (id : List ℕ) (l : List Member) (i : ℕ) where
   module _ (d : Member) (h : i < length l) where
+    -- a member with the id decides
     pub has-stop : same id (getD l i d .id) ≡ true → hasMember id (drop i l) ≡ true
     unfolding hasMember
     has-stop e = rw (drop-step l i d h, e)
 
+    -- behind a member with another id the others decide
     pub has-go : same id (getD l i d .id) ≡ false → hasMember id (drop i l) ≡ hasMember id (drop (i + 1) l)
     unfolding hasMember
     has-go e = rw (drop-step l i d h, e)
 
+  -- past the end nobody has the id
   pub has-past : length l ≤ i → hasMember id (drop i l) ≡ false
   unfolding hasMember
   has-past h = rw (drop-of-length-le l h)
@@ -69,10 +75,12 @@ module _ (id : List ℕ) (r : Record) (s : Roster) (is : s ≡ roster (others id
   unfolding roster
   staying = ap (λ (x : Roster). x .count) is
 
+  -- where nobody stays, the empty record is left
   pub without-all : s .count ≡ 0 → without id r ≡ emptyRecord
   unfolding without
   without-all e = rw (nil-length (others id (decode r .members)) ∙ eq-eqb _ 0 (sym staying ∙ e))
 
+  -- where somebody stays, the record has those that stay as its members, and all else as it was
   pub without-some : (s .count ≡ 0 → ⊥) → without id r ≡ record {
     name = r .name;
     «name_len» = r .«name_len»;

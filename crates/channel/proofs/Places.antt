@@ -46,12 +46,15 @@ module _ (l : List Member) (n : ℕ) where
         (mixed (goodMember (getD l i d)) (isLess (compare (getD l i d .id) (getD l (i + 1) d .id))) _ _)
 
     module _ (h : i + 1 < n) where
+      -- one that is no member, or not smaller than the next, decides
       pub proper-stop : goodMember (getD l i d) && isLess (compare (getD l i d .id) (getD l (i + 1) d .id)) ≡ false → proper (drop i (take n l)) ≡ false
       proper-stop e = proper-step h ∙ rw e
 
+      -- behind a member that is smaller than the next the others decide
       pub proper-go : goodMember (getD l i d) && isLess (compare (getD l i d .id) (getD l (i + 1) d .id)) ≡ true → proper (drop i (take n l)) ≡ proper (drop (i + 1) (take n l))
       proper-go e = proper-step h ∙ rw e
 
+    -- the last one only has to be a member
     pub proper-last : i + 1 ≡ n → proper (drop i (take n l)) ≡ goodMember (getD l i d)
     proper-last h =
         rw (short (drop i (take n l)) (omega (arith, length-drop i (take n l), length-take n l)), and-true (all goodMember (drop i (take n l))))

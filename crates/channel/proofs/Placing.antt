@@ -28,6 +28,7 @@ pub record Shifted (l next : List Member) (p : ℕ) : Type 0 where
   pub holds : next ≡ padded memberLimit nobody (take p l ++ stale ∷ drop p l)
 
 module _ (l : List Member) (room : length l < memberLimit) where
+  -- in the padded list nothing is moved yet
   pub shifted-none : (list : List Member) → list ≡ padded memberLimit nobody l → Shifted l list (length l)
   shifted-none list e = record { stale = nobody; holds = e ∙ rw (take-length l, drop-length l) (sym (padded-more nobody memberLimit l room)) }
 
@@ -75,6 +76,7 @@ module _ (list : List Member) (count : ℕ) (e : Member) (s : Sorted list count)
   asc : Ascending byId l
   asc = ascends-says byId l (s .order)
 
+  -- at first nothing is moved, and none is left behind the place
   pub nothing-moved : Shifted l list count × Above byId (e .id) (drop count l)
   nothing-moved =
       let none : drop count l ≡ [] = drop-of-length-le l {i = count} (omega (arith, used)) in

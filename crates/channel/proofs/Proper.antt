@@ -89,6 +89,7 @@ unfolding goodSettings goodKey goodLimit
 settings-pass s p = simp (lt-ltb (s .modes) (2 ^ modeCount) (p .modes), p .keyed, beq-refl, p .key, p .limited, le-leb (s .limit) limitLimit (p .limit))
 
 -- ---- the tests say just this
+-- a channel that passes the tests is proper
 pub proper-says : (c : Channel) → all (λ t. t) (channelTests c) ≡ true → Proper c
 unfolding channelTests goodTime goodMembers
 proper-says c h =

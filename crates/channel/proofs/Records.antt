@@ -54,6 +54,7 @@ unfolding encode clear all
 encode-clear c = simp (all-padded 0 isZero refl nameLimit (c .name), all-padded 0 isZero refl keyLimit (c .settings .key), all-padded nobody isVacant refl memberLimit (c .members))
 
 -- ---- room that is zero
+-- bytes that are all zero are that many zeros
 pub zeros : (l : List ℕ) → all isZero l ≡ true → l ≡ replicate (length l) 0
 zeros [] h = refl
 zeros (x ∷ l) h = ap₂ _∷_ (eqb-true x 0 (all-head isZero x l h)) (zeros l (all-tail isZero x l h))

@@ -173,8 +173,10 @@ module _ (id : List ℕ) (r : Record) (h : wellFormed r ≡ true) where
 
   -- every other is there if it was, with the status that it had
   module _ (x : List ℕ) (ne : same x id ≡ false) where
+    -- it is there exactly if it was
     pub without-has : named x (decode (without id r)) ≡ named x (decode r)
     without-has = rw without-members (others-has id x ne (decode r .members))
 
+    -- it has the status that it had
     pub without-status : statusIn x (decode (without id r) .members) ≡ statusIn x (decode r .members)
     without-status = rw without-members (others-status id x ne (decode r .members))

@@ -38,16 +38,19 @@ pub settings-own : (c : Channel) → settingsAt (c .time) c ≡ c .settings
 unfolding settingsAt
 settings-own c = rw (counts-own c)
 
+-- and its members with their statuses
 pub standing-own : (c : Channel) → standing (c .time) c ≡ c .members
 unfolding standing
 standing-own c = rw (counts-own c)
 
 -- and at an earlier one only its users do
 module _ (time : ℕ) (c : Channel) (k : time < c .time) where
+  -- none of its settings stand
   pub settings-late : settingsAt time c ≡ noSettings
   unfolding settingsAt
   settings-late = rw (counts-late time c k)
 
+  -- its users stand without status
   pub standing-late : standing time c ≡ bare (c .members)
   unfolding standing
   standing-late = rw (counts-late time c k)

@@ -42,6 +42,7 @@ second = record {
 }
 
 -- ---- the premises: each is a proper channel
+-- the three
 abbrev pub lines : List Channel
 lines = stored ∷ incoming ∷ second ∷ []
 
@@ -76,6 +77,7 @@ unfolding stored
 only-key place = has-with 0 keyMode place (omega arith) ∙ ap (λ (t : Bool). t || eqb place keyMode) (has-no-mode place)
 
 -- ---- at the stored record's time the later line doesn't count
+-- the incoming line has the later time
 pub incoming-later : stored .time < incoming .time
 unfolding stored incoming
 incoming-later = omega arith

@@ -121,6 +121,7 @@ unfolding settingsAt counts decode givenIf
 side-settings time r = elim (eqb (r .time) time) as (λ t. cond t (decode r .settings) noSettings ≡ held (givenIf t (r .modes) (r .«key_len») (r .limit)) (r .key)) [ true ↦ refl | false ↦ refl ]
 
 -- ---- the record that is made of what the sides give
+-- its fields, one by one
 abbrev pub made : ℕ → Name → Given → Given → Key → ℕ → Roster → Record
 made time name x y key limit all = record {
   name = name .bytes;

@@ -71,6 +71,7 @@ joining-greater : Joining greater []
 joining-greater = record { assoc = greater-assoc; comm = greater-comm; idem = greater-self; unit = greater-unit }
 
 -- ---- settings: part by part
+-- Joining settings is associative, commutative and idempotent, and to have none changes nothing.
 pub joining-settings : Joining joinSettings noSettings
 unfolding joinSettings
 joining-settings = record {

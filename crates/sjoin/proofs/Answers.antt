@@ -38,6 +38,7 @@ use Rattle.sjoin.specs.Private.Scanning.{Parted, refusedBy}
 use Rattle.sjoin.proofs.Judged.{span-rules}
 
 -- ---- the count of parameters
+-- a good count is neither too few nor too many
 pub bounds : (c : Content) → goodCount c ≡ true → (fewest ≤ length (c .params)) × (length (c .params) ≤ most)
 unfolding goodCount
 bounds c h =
@@ -45,9 +46,11 @@ bounds c h =
     (leb-true fewest n (and-left (leb fewest n) (leb n most) h), leb-true n most (and-right (leb fewest n) (leb n most) h))
 
 -- ---- the list
+-- the list is the parameter at `last`
 pub list-at : (c : Content) (last : ℕ) → Parted c last → getD (c .params) last [] ≡ listIn c
 list-at c last p = ap (λ (n : ℕ). getD (c .params) n []) (omega (arith, p .count))
 
+-- with a good count the list stands behind time, name and modes
 pub parted : (c : Content) (last : ℕ) → goodCount c ≡ true → length (c .params) ≡ last + 1 → Parted c last
 parted c last good count = record { behind = omega (arith, bounds c good .0, count); count = count }
 
@@ -60,12 +63,14 @@ list-small text m =
     omega (arith, ap (λ (l : List ℕ). length l) (param-held text m k), length-take (s .end - s .start) (drop (s .start) text), length-drop (s .start) text)
 
 -- ---- its members in order
+-- The members of the gathered roster, put in order, are the list's in order.
 pub ordered-is : (s r : Roster) (list : List ℕ) → s ≡ roster (named list) → length (wordsOf list) ≤ memberLimit → r ≡ roster (ordered (take (s .count) (s .list))) → r ≡ roster (ordered (named list))
 unfolding roster
 ordered-is s r list e h f =
     f ∙ ap (λ (l : List Member). roster (ordered l)) (ap (λ (x : Roster). take (x .count) (x .list)) e ∙ take-padded nobody memberLimit (named list) (omega (arith, h, length-map (wordsOf list) memberOf)))
 
 -- ---- the parts put together
+-- A record whose fields are those that the parameters say is the record of the channel.
 pub made : (c : Content) (n held k kept : List ℕ) (time modes limit : ℕ) (r : Roster) → n ≡ nameIn c → held ≡ padded nameLimit 0 n → time ≡ valueOf (timeIn c) → modes ≡ modesByte (modesIn c)
     → k ≡ argumentOf keyLetter (modesIn c) (argumentsIn c) → kept ≡ padded keyLimit 0 k → limit ≡ valueOf (argumentOf limitLetter (modesIn c) (argumentsIn c)) → r ≡ roster (ordered (named (listIn c)))
     → _≡_ {A = Record} (record { name = held; «name_len» = length n; time = time; modes = modes; key = kept; «key_len» = length k; limit = limit; members = r .list; count = r .count }) (encode (channelIn c))
@@ -77,15 +82,18 @@ told-none : (k : ℕ) (c : Content) → (k ≡ accepted → ⊥) → refusedBy k
 told-none k c ne = rw (ne-eqb k accepted ne)
 
 module _ (text : List ℕ) (m : Message) where
+  -- the number of a rule that applies is the answer to spans, with the empty record
   pub in-refused : (k : ℕ) → k ≡ firstOf (spanRules text m) → (k ≡ accepted → ⊥) → refusedBy k ≡ toldIn text m
   unfolding toldIn
   in-refused k e ne = told-none k (contentBy text m) ne ∙ ap (λ (n : ℕ). told n (contentBy text m)) e
 
+  -- where none applies, the record of the channel is the answer to spans
   pub in-record : (r : Record) → firstOf (spanRules text m) ≡ accepted → r ≡ encode (channelIn (contentBy text m)) → _≡_ {A = Told} (record { number = accepted; «record» = r }) (toldIn text m)
   unfolding toldIn
   in-record r e f = rw (e, f)
 
 module _ (line : List ℕ) where
+  -- a line that isn't read is answered by the reader's number, with the empty record
   pub told-unread : (k : ℕ) → isRead line ≡ false → k ≡ numberFor line → refusedBy k ≡ toldBy line
   unfolding toldBy lineJoinRules numberFor
   told-unread k h e =
@@ -105,6 +113,7 @@ module _ (line : List ℕ) where
         let e : firstOf (spanRules line (messageOf line)) ≡ firstOf (joinRules (contentOf line)) = span-rules line (messageOf line) (read-small line h) ∙ ap (λ (c : Content). firstOf (joinRules c)) (message-holds line) in
         rw (e ∙ sym told-number, message-holds line)
 
+    -- the answer to a line that no rule refuses has the record of its channel
     pub told-says : toldBy line .number ≡ accepted → toldBy line .«record» ≡ encode (channelIn (contentOf line))
     unfolding toldBy
     told-says a = rw a

@@ -24,6 +24,7 @@ use Rattle.sjoin.specs.Entries.{goodEntries}
 use Rattle.sjoin.specs.Join.{timeIn, nameIn, modesIn, listIn, argumentsIn, goodCount, isTime, joinRules}
 
 -- ---- each test is passed
+-- What the rules test of a line, each passed.
 pub record Passes (c : Content) : Type 0 where
   pub count : goodCount c ≡ true
   pub source : prefixIs isServerId (c .prefix) ≡ true
@@ -33,6 +34,7 @@ pub record Passes (c : Content) : Type 0 where
   pub modes : isModes (modesIn c) (argumentsIn c) ≡ true
   pub list : goodEntries (listIn c) ≡ true
 
+-- A line that no rule refuses passes each test.
 pub passes : (c : Content) → firstOf (joinRules c) ≡ accepted → Passes c
 unfolding joinRules
 passes c e =
@@ -54,6 +56,7 @@ passes c e =
     }
 
 -- ---- a letter that is missing has no parameter, and one that is there a good one
+-- a letter that is missing, with no parameter, or one that is there, with a good one
 abbrev pub Given : ℕ → List ℕ → List ℕ → Type 0
 Given letter s a = ((lacks letter s ≡ true) × (a ≡ [])) ⊎ ((lacks letter s ≡ false) × (goodArgument letter a ≡ true))
 
@@ -85,15 +88,18 @@ module _ (letter : ℕ) (has : hasParameter letter ≡ true) where
       go true e (a ∷ args) g rec = let k = rw e at g in found a args (eqb x letter) refl e k (rec args (and-right (goodArgument x a) (goodArguments (parametered s) args) k))
       go false e args g rec = rw e (skip x s (argumentAmong letter s args) (other x e) (rec args (rw e at g)))
 
+-- Of good modes a letter's parameter fits it: there is none where the letter is missing, and a good one where it is there.
 pub argument-given : (modes : List ℕ) (args : List (List ℕ)) (letter : ℕ) → hasParameter letter ≡ true → isModes modes args ≡ true → Given letter (lettersOf modes) (argumentOf letter modes args)
 unfolding isModes argumentOf
 argument-given modes args letter has h = given letter has (lettersOf modes) args (and-right (goodLetters modes) (goodArguments (parametered (lettersOf modes)) args) h)
 
+-- the key keeps to its room
 pub key-short : (s k : List ℕ) → Given keyLetter s k → length k ≤ keyLimit
 unfolding goodArgument
 key-short s k (inl g) = rw (g .1) (omega arith)
 key-short s k (inr g) = key-length k (g .1)
 
+-- the limit is the value of its text
 pub limit-read : (s l : List ℕ) → Given limitLetter s l → limitIn l ≡ valueOf l
 unfolding goodArgument limitIn isLimit isDecimal valueFrom
 limit-read s l (inl g) = rw (g .1)

@@ -43,12 +43,14 @@ unfolding joinRules
 rules-numbered c = refl
 
 -- ---- the time
+-- a text that is read as a number is a time, and the number its value
 pub time-value : (s : List ℕ) (n : ℕ) → decimalUpTo timeLimit s ≡ Value n → (isTime s ≡ true) × (valueOf s ≡ n)
 unfolding isTime
 time-value s n e =
     let r = decimal-read timeLimit n s e in
     (rw (r .1, decimal-digits n, value-digits n, le-leb n timeLimit (r .0)), rw (r .1) (value-digits n))
 
+-- a text that isn't read is no time
 pub time-none : (s : List ℕ) → decimalUpTo timeLimit s ≡ Malformed → isTime s ≡ false
 unfolding decimalUpTo isTime
 time-none s e = go (isDecimal s) refl (leb (valueOf s) timeLimit) refl
@@ -70,44 +72,54 @@ time-zero s t =
     (λ e. rw (sym d ∙ ap digitsOf (eqb-true (valueOf s) 0 e) ∙ digits-one 0 (omega arith)) (same-refl (zeroDigit ∷ [])))
 
 -- ---- the modes
+-- modes are good exactly if their letters and their parameters are
 pub modes-parts : (c : Content) (t u : Bool) → goodLetters (modesIn c) ≡ t → goodArguments (parametered (lettersOf (modesIn c))) (argumentsIn c) ≡ u → isModes (modesIn c) (argumentsIn c) ≡ t && u
 unfolding isModes
 modes-parts c t u e f = rw (e, f)
 
+-- modes with bad letters are bad, whatever their parameters
 pub modes-letters : (c : Content) → goodLetters (modesIn c) ≡ false → isModes (modesIn c) (argumentsIn c) ≡ false
 unfolding isModes
 modes-letters c e = rw e
 
 -- ---- the numbers of count and source, in their order
 module _ (c : Content) where
+  -- too few parameters give the number of a wrong count
   pub few : length (c .params) < fewest → wrongParamCount ≡ firstOf (sourceRules c)
   unfolding goodCount
   few h = sym (stop _ _ (rw (lt-leb fewest (length (c .params)) h)))
 
+  -- too many parameters give it as well
   pub many : most < length (c .params) → wrongParamCount ≡ firstOf (sourceRules c)
   unfolding goodCount
   many h = sym (stop _ _ (rw (lt-leb (length (c .params)) most h, and-false (leb fewest (length (c .params))))))
 
+  -- neither too few nor too many is a good count
   pub counted : fewest ≤ length (c .params) → length (c .params) ≤ most → goodCount c ≡ true
   unfolding goodCount
   counted h k = rw (le-leb fewest (length (c .params)) h, le-leb (length (c .params)) most k)
 
   module _ (n : goodCount c ≡ true) where
+    -- with a good count, a source that is no server id gives its number
     pub unsourced : prefixIs isServerId (c .prefix) ≡ false → badSource ≡ firstOf (sourceRules c)
     unsourced e = sym (skip _ _ (ap not n) ∙ stop _ _ (ap not e))
 
+    -- with a good count and a server id as source neither rule applies
     pub sourced : prefixIs isServerId (c .prefix) ≡ true → accepted ≡ firstOf (sourceRules c)
     sourced e = sym (skip _ _ (ap not n) ∙ skip _ _ (ap not e) ∙ first-nil)
 
+  -- where neither rule applies, the count is good
   pub source-counts : firstOf (sourceRules c) ≡ accepted → goodCount c ≡ true
   source-counts e = not-false _ (first-none _ _ (λ z. omega arith) e .0)
 
 -- ---- those of time, name and modes
 module _ (c : Content) where
+  -- a bad time gives its number
   pub untimed : isTime (timeIn c) ≡ false → badTime ≡ firstOf (leadRules c)
   untimed e = sym (stop _ _ (ap not e))
 
   module _ (t : isTime (timeIn c) ≡ true) where
+    -- a time that is 0 gives its number
     pub zero-time : valueOf (timeIn c) ≡ 0 → zeroTime ≡ firstOf (leadRules c)
     zero-time e = sym (skip _ _ (ap not t) ∙ stop _ _ (time-zero (timeIn c) t ∙ eq-eqb (valueOf (timeIn c)) 0 e))
 
@@ -115,18 +127,22 @@ module _ (c : Content) where
       later : same (timeIn c) (zeroDigit ∷ []) ≡ false
       later = time-zero (timeIn c) t ∙ ne-eqb (valueOf (timeIn c)) 0 z
 
+      -- behind a good time a bad name gives its number
       pub unnamed : isChannel (nameIn c) ≡ false → badName ≡ firstOf (leadRules c)
       unnamed e = sym (skip _ _ (ap not t) ∙ skip _ _ later ∙ stop _ _ (ap not e))
 
       module _ (m : isChannel (nameIn c) ≡ true) where
+        -- behind a good time and a good name bad modes give their number
         pub unfit : isModes (modesIn c) (argumentsIn c) ≡ false → badModes ≡ firstOf (leadRules c)
         unfit e = sym (skip _ _ (ap not t) ∙ skip _ _ later ∙ skip _ _ (ap not m) ∙ stop _ _ (ap not e))
 
+        -- where time, name and modes are good, no rule of theirs applies
         pub led : isModes (modesIn c) (argumentsIn c) ≡ true → accepted ≡ firstOf (leadRules c)
         led e = sym (skip _ _ (ap not t) ∙ skip _ _ later ∙ skip _ _ (ap not m) ∙ skip _ _ (ap not e) ∙ first-nil)
 
 -- ---- and all of them, one after the other
 module _ (c : Content) where
+  -- a rule of count and source that applies decides
   pub source-decides : (firstOf (sourceRules c) ≡ accepted → ⊥) → firstOf (joinRules c) ≡ firstOf (sourceRules c)
   unfolding joinRules
   source-decides = append-some (tellingRules c) (sourceRules c)
@@ -136,26 +152,32 @@ module _ (c : Content) where
     unfolding joinRules
     telling-decides = append-none (tellingRules c) (sourceRules c) refl s
 
+    -- behind them a rule of time, name and modes that applies decides
     pub lead-decides : (firstOf (leadRules c) ≡ accepted → ⊥) → firstOf (joinRules c) ≡ firstOf (leadRules c)
     lead-decides ne = telling-decides ∙ append-some _ (leadRules c) ne
 
     module _ (t : firstOf (leadRules c) ≡ accepted) where
+      -- behind all of these a bad list gives its number
       pub unlisted : goodEntries (listIn c) ≡ false → firstOf (joinRules c) ≡ badMembers
       unlisted e = telling-decides ∙ append-none _ (leadRules c) refl t ∙ stop _ _ (ap not e)
 
+      -- where the list is good too, no rule refuses the message
       pub listed : goodEntries (listIn c) ≡ true → firstOf (joinRules c) ≡ accepted
       listed e = telling-decides ∙ append-none _ (leadRules c) refl t ∙ skip _ _ (ap not e) ∙ first-nil
 
 -- ---- of spans
 module _ (text : List ℕ) (m : Message) where
+  -- The rules of spans stand in the order of their numbers.
   pub span-rules-ascend : ascend (spanRules text m) ≡ true
   unfolding ascendFrom spanRules joinRules placeIn
   span-rules-ascend = refl
 
+  -- a text longer than a line gives the number of a long line
   pub span-long : lineLimit < length text → lineTooLong ≡ firstOf (spanRules text m)
   unfolding spanRules
   span-long h = sym (stop _ _ (lt-ltb lineLimit (length text) h))
 
+  -- of a text no longer than a line the rules of its content decide
   pub span-rules : length text ≤ lineLimit → firstOf (spanRules text m) ≡ firstOf (joinRules (contentBy text m))
   unfolding spanRules
   span-rules h = skip _ _ (le-ltb lineLimit (length text) h)

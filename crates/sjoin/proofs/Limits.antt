@@ -22,9 +22,11 @@ limit-digits n h = go (leb 1 n) refl
     go true e = rw (decimal-digits n, value-digits n, le-leb n limitLimit h, e)
     go false e = rw (decimal-digits n, value-digits n, le-leb n limitLimit h, e) (omega (arith, leb-false 1 n e))
 
+-- a text that is read as a number has it as its limit, 0 standing for none
 pub limit-value : (s : List ℕ) (n : ℕ) → decimalUpTo limitLimit s ≡ Value n → limitIn s ≡ n
 limit-value s n e = let r = decimal-read limitLimit n s e in rw (r .1) (limit-digits n (r .0))
 
+-- a text that isn't read has no limit
 pub limit-none : (s : List ℕ) → decimalUpTo limitLimit s ≡ Malformed → limitIn s ≡ 0
 unfolding decimalUpTo limitIn isLimit
 limit-none s e = go (isDecimal s) refl (leb (valueOf s) limitLimit) refl
@@ -41,6 +43,7 @@ pub limit-bounds : (s : List ℕ) → isLimit s ≡ true → (1 ≤ valueOf s) �
 unfolding isLimit
 limit-bounds s e = let t = and-three (isDecimal s) (leb 1 (valueOf s)) (leb (valueOf s) limitLimit) e in (leb-true 1 (valueOf s) (t .1), leb-true (valueOf s) limitLimit (t .2))
 
+-- the limit isn't 0 exactly if the text is one
 pub limit-is : (s : List ℕ) → not (eqb (limitIn s) 0) ≡ isLimit s
 unfolding limitIn
 limit-is s = go (isLimit s) refl

@@ -35,6 +35,7 @@ entry-long : (e : List ℕ) → isEntry e ≡ true → length (idOf e) ≡ userI
 unfolding isEntry
 entry-long e h = user-length (idOf e) h
 
+-- what has an id of another length is no entry
 pub entry-none : (e : List ℕ) → (length (idOf e) ≡ userIdLength → ⊥) → isEntry e ≡ false
 entry-none e ne = go (isEntry e) refl
   where
@@ -55,10 +56,12 @@ unfolding idOf
 entry-takes e h = le-leb userIdLength (length e) (omega (arith, entry-long e h, past-short plus (past at e), past-short at e))
 
 -- ---- the list
+-- every word of a good list is an entry
 pub list-entries : (list : List ℕ) → goodEntries list ≡ true → all isEntry (wordsOf list) ≡ true
 unfolding goodEntries
 list-entries list h = and-right (not (isNil (wordsOf list))) (all isEntry (wordsOf list)) h
 
+-- A good list that is no longer than a line names no more members than a record has room for.
 pub list-room : (list : List ℕ) → goodEntries list ≡ true → length list ≤ lineLimit → length (wordsOf list) ≤ memberLimit
 list-room list h k =
     let n = words-few userIdLength list (all-imp isEntry (long userIdLength) entry-takes (wordsOf list) (list-entries list h)) in
@@ -121,9 +124,11 @@ module _ (list : List ℕ) (held : List Member) (count : ℕ) (w : Span) (b : Be
       taken : suc userIdLength * suc count + room behind ≤ suc (length list)
       taken = omega (arith, b .takes, ap (λ (ws : List (List ℕ)). room ws) left-some, leb-true userIdLength (length entry) (entry-takes entry good))
 
+      -- there is room for its member
       pub before-room : length list ≤ lineLimit → count < memberLimit
       before-room h = omega (arith, taken, h)
 
+      -- with its member gathered, the same is known at the next word
       pub before-next : (m : Member) (v : Span) → m ≡ memberOf entry → v ≡ nextWord list (w .end) → Before list (set held count m) (count + 1) v
       before-next m v e is =
           let l = left-next list (w .end) v (b .inside some) is in
@@ -137,6 +142,7 @@ module _ (list : List ℕ) (held : List Member) (count : ℕ) (w : Span) (b : Be
             gathers = rw t (gathers-more held count (take count (named list)) m (b .gathers));
           }
 
+      -- fewer words are left at the next one
       pub before-fewer : (v : Span) → v ≡ nextWord list (w .end) → length (left list v) < length (left list w)
       before-fewer v is = rw (left-next list (w .end) v (b .inside some) is, left-some) (omega arith)
 
@@ -148,9 +154,11 @@ module _ (list : List ℕ) (held : List Member) (count : ℕ) (w : Span) (b : Be
     every : take count (named list) ≡ named list
     every = take-all count (named list) (omega (arith, length-drop count (named list), ap (λ (l : List Member). length l) (sym (b .others) ∙ ap (map memberOf) left-none)))
 
+    -- what is gathered is the roster of all that the list names
     pub before-members : _≡_ {A = Roster} (record { list = held; count = count }) (roster (named list))
     before-members = gathers-roster held count (take count (named list)) (b .gathers) ∙ ap roster every
 
+    -- the list is good exactly if a member was gathered
     pub before-good : ltb 0 count ≡ goodEntries list
     unfolding goodEntries all
     before-good =

@@ -66,39 +66,48 @@ pub good-fresh : (s : List ℕ) → startsWith plus s ≡ true → goodLetters s
 unfolding goodLetters
 good-fresh s e = rw (e, fresh-is (drop 1 s) 0, none-seen (drop 1 s), and-true (once (drop 1 s)))
 
+-- without '+' in front the letters are bad
 pub good-none : (s : List ℕ) → startsWith plus s ≡ false → goodLetters s ≡ false
 unfolding goodLetters
 good-none s e = rw e
 
 -- ---- letters at a place
 module _ (s : List ℕ) (i seen : ℕ) where
+  -- past the end no letter is left that could be bad
   pub fresh-past : length s ≤ i → fresh seen (drop i s) ≡ true
   unfolding fresh
   fresh-past h = rw (drop-of-length-le s h)
 
   module _ (place : ℕ) (h : i < length s) (is : place ≡ modePlace (getD s i 0)) where
+    -- a byte that is no mode decides
     pub fresh-other : modeCount ≤ place → fresh seen (drop i s) ≡ false
     unfolding fresh
     fresh-other k = rw (drop-step s i 0 h, ← is, le-ltb place modeCount k)
 
+    -- a mode that was seen decides
     pub fresh-twice : place < modeCount → hasMode seen place ≡ true → fresh seen (drop i s) ≡ false
     unfolding fresh
     fresh-twice k e = rw (drop-step s i 0 h, ← is, lt-ltb place modeCount k, e)
 
+    -- behind a mode that wasn't seen the others decide, with that one seen
     pub fresh-go : place < modeCount → hasMode seen place ≡ false → fresh seen (drop i s) ≡ fresh (withMode seen place) (drop (i + 1) s)
     unfolding fresh
     fresh-go k e = rw (drop-step s i 0 h, ← is, lt-ltb place modeCount k, e)
 
 -- ---- the modes' byte
+-- the bits of letters, united
 abbrev pub bits : List ℕ → ℕ
 bits s = total bitOr 0 (λ x. withMode 0 (modePlace x)) s
 
+-- the bits of the letters after '+' are the modes' byte
 pub bits-first : (s : List ℕ) → bitOr 0 (bits (drop 1 s)) ≡ modesByte s
 unfolding modesByte
 bits-first s = or-zero-l (bits (drop 1 s))
 
+-- past the end there is nothing to add
 pub bits-past : (s : List ℕ) (i m : ℕ) → length s ≤ i → bitOr m (bits (drop i s)) ≡ m
 bits-past s i m h = rw (drop-of-length-le s {i = i} h) (or-zero-r m)
 
+-- a letter's bit, set first, counts as one of those from the letter on
 pub bits-go : (s : List ℕ) (i m : ℕ) → i < length s → bitOr (withMode m (modePlace (getD s i 0))) (bits (drop (i + 1) s)) ≡ bitOr m (bits (drop i s))
 bits-go s i m h = rw (drop-step s i 0 h, with-union m (modePlace (getD s i 0))) (joining-bits .assoc m (withMode 0 (modePlace (getD s i 0))) (bits (drop (i + 1) s)))

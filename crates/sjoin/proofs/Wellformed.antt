@@ -129,13 +129,16 @@ module _ (c : Content) (none : firstOf (joinRules c) ≡ accepted) (small : leng
       }
 
 -- ---- of a line
+-- The channel of a line that is read and that no rule refuses is proper.
 pub read-proper : (line : List ℕ) → isRead line ≡ true → firstOf (joinRules (contentOf line)) ≡ accepted → Proper (channelIn (contentOf line))
 read-proper line h none =
     told-proper (contentOf line) none (omega (arith, list-small line (messageOf line), ap (λ (c : Content). length (listIn c)) (message-holds line), read-small line h))
 
+-- its record is well formed
 pub read-well : (line : List ℕ) → isRead line ≡ true → firstOf (joinRules (contentOf line)) ≡ accepted → wellFormed (encode (channelIn (contentOf line))) ≡ true
 read-well line h none = encode-well (channelIn (contentOf line)) (read-proper line h none)
 
+-- So the record told of a line that is accepted is well formed.
 pub line-well : (line : List ℕ) → toldBy line .number ≡ accepted → wellFormed (toldBy line .«record») ≡ true
 line-well line e = go (isRead line) refl
   where

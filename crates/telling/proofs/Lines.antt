@@ -46,7 +46,8 @@ pub letters-past : (s : List ℕ) (k modes : ℕ) → length s ≤ k → letters
 unfolding lettersFrom
 letters-past s k modes h = rw (drop-of-length-le s {i = k} h)
 
--- ---- the entries, one by one: the text of those from a place on
+-- ---- the entries, one by one
+-- the text of those from place k on, with the SPACEs before them
 abbrev pub entriesFrom : ℕ → List Member → List ℕ
 entriesFrom k l = separatedFrom space k (map entryOf l)
 
