@@ -27,8 +27,8 @@ abbrev pub operator : ℕ
 operator = 2 ^ operatorPlace
 
 -- '@', the mark of an operator
-abbrev pub at : ℕ
-at = 64
+abbrev pub atSign : ℕ
+atSign = 64
 
 abbrev pub member : List ℕ → ℕ → Member
 member id status = record { id = id; status = status }

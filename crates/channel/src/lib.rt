@@ -16,11 +16,11 @@ use names::NAME_LIMIT;
 use names::USER_ID;
 use octets::part;
 use octets::zero_from;
+use well::good_head;
 use well::good_member;
 use well::in_room;
 use well::member_bits;
 use well::precedes;
-use well::settled;
 
 // A member of a channel: its user id, held whole, and its status, VOICE plus OPERATOR.
 #[repr(C)]
@@ -161,7 +161,7 @@ pub fn is_well_formed(r: Record) -> bool
     }
     let named = part(&name, 0, r.name_len);
     let keyed = part(&key, 0, r.key_len);
-    if !settled(named, r.time, r.modes, keyed, r.limit) {
+    if !good_head(named, r.time, r.modes, keyed, r.limit) {
         return false;
     }
     let mut bits = 0u64;

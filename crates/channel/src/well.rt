@@ -111,7 +111,7 @@ pub(crate) fn precedes(m: Member, next: Member) -> bool
 }
 
 // Whether name, time, modes, key and limit are a channel's.
-pub(crate) fn settled(name: &[u8], time: u32, modes: u8, key: &[u8], limit: u16) -> bool
+pub(crate) fn good_head(name: &[u8], time: u32, modes: u8, key: &[u8], limit: u16) -> bool
     ensures { λ r. ⌜ r ≡ isChannel (now (name .entry)) && (leb 1 time && (goodKey modes (now (key .entry)) && goodLimit modes limit)) ⌝ }
 {
     if !is_channel(name) {

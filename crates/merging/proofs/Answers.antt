@@ -109,16 +109,16 @@ side-standing time r = go (eqb (r .time) time)
     go false = refl
 
 -- what is given, as settings: of a key so many bytes as are given
-abbrev held : Given → List ℕ → Settings
-held g key = record { modes = g .modes; key = take (g .«key_len») key; limit = g .limit }
+abbrev settingsOf : Given → List ℕ → Settings
+settingsOf g key = record { modes = g .modes; key = take (g .«key_len») key; limit = g .limit }
 
 -- what a record gives at a time
 abbrev pub givenAt : Record → ℕ → Given
 givenAt r time = givenIf (eqb (r .time) time) (r .modes) (r .«key_len») (r .limit)
 
-side-settings : (time : ℕ) (r : Record) → settingsAt time (decode r) ≡ held (givenAt r time) (r .key)
+side-settings : (time : ℕ) (r : Record) → settingsAt time (decode r) ≡ settingsOf (givenAt r time) (r .key)
 unfolding settingsAt counts decode givenIf
-side-settings time r = elim (eqb (r .time) time) as (λ t. cond t (decode r .settings) noSettings ≡ held (givenIf t (r .modes) (r .«key_len») (r .limit)) (r .key)) [ true ↦ refl | false ↦ refl ]
+side-settings time r = elim (eqb (r .time) time) as (λ t. cond t (decode r .settings) noSettings ≡ settingsOf (givenIf t (r .modes) (r .«key_len») (r .limit)) (r .key)) [ true ↦ refl | false ↦ refl ]
 
 -- ---- the record that is made of what the sides give
 -- its fields, one by one
@@ -149,7 +149,7 @@ module _ (a b : Record) (time : ℕ) (et : time ≡ min (a .time) (b .time)) (m 
       rw (et, take-within (a .members) (a .count) m em, take-within (b .members) (b .count) n en)
       (ap₂ (onePass byId) (side-standing (min (a .time) (b .time)) a) (side-standing (min (a .time) (b .time)) b))
 
-  both-settings : both .settings ≡ joinSettings (held (givenAt a time) (a .key)) (held (givenAt b time) (b .key))
+  both-settings : both .settings ≡ joinSettings (settingsOf (givenAt a time) (a .key)) (settingsOf (givenAt b time) (b .key))
   unfolding decode
   both-settings = rw et (ap₂ joinSettings (side-settings (min (a .time) (b .time)) a) (side-settings (min (a .time) (b .time)) b))
 

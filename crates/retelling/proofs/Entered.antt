@@ -13,7 +13,7 @@ use Rattle.names.specs.Names.{isUserId}
 use Rattle.names.proofs.UserIds.{user-some, user-solid, user-unmarked}
 use Rattle.channel.specs.declared.Member.{Member}
 use Rattle.channel.specs.Modes.{hasMode, plus}
-use Rattle.channel.specs.Channel.{voicePlace, operatorPlace, voice, operator, member, at}
+use Rattle.channel.specs.Channel.{voicePlace, operatorPlace, voice, operator, member, atSign}
 use Rattle.channel.specs.WellFormed.{bothStatuses, goodMember}
 use Rattle.channel.proofs.Proper.{member-says}
 use Rattle.message.specs.Words.{wordsOf}
@@ -32,15 +32,15 @@ status-back (suc (suc (suc (suc n)))) h = absurd (omega arith)
 
 -- ---- and the id follows them
 module _ (id : List ℕ) (h : isUserId id ≡ true) where
-  no-at : startsWith at id ≡ false
+  no-at : startsWith atSign id ≡ false
   unfolding isDigit within
-  no-at = user-unmarked id at h refl
+  no-at = user-unmarked id atSign h refl
 
   no-plus : startsWith plus id ≡ false
   unfolding isDigit within
   no-plus = user-unmarked id plus h refl
 
-  marked : (o v : Bool) → memberOf (cond o (at ∷ []) [] ++ cond v (plus ∷ []) [] ++ id) ≡ member id (cond o operator 0 + cond v voice 0)
+  marked : (o v : Bool) → memberOf (cond o (atSign ∷ []) [] ++ cond v (plus ∷ []) [] ++ id) ≡ member id (cond o operator 0 + cond v voice 0)
   unfolding memberOf idOf statusOf past startsWith
   marked true true = refl
   marked true false = rw no-plus
@@ -54,7 +54,7 @@ entry-back m h =
     marked (m .id) (member-says m h .0) (hasMode (m .status) operatorPlace) (hasMode (m .status) voicePlace) ∙ ap (member (m .id)) (status-back (m .status) (member-says m h .1))
 
 -- ---- an entry holds no SPACE
-marked-solid : (id : List ℕ) → isUserId id ≡ true → (o v : Bool) → not (isNil (cond o (at ∷ []) [] ++ cond v (plus ∷ []) [] ++ id)) && all isNonSpace (cond o (at ∷ []) [] ++ cond v (plus ∷ []) [] ++ id) ≡ true
+marked-solid : (id : List ℕ) → isUserId id ≡ true → (o v : Bool) → not (isNil (cond o (atSign ∷ []) [] ++ cond v (plus ∷ []) [] ++ id)) && all isNonSpace (cond o (atSign ∷ []) [] ++ cond v (plus ∷ []) [] ++ id) ≡ true
 unfolding all
 marked-solid id h true true = user-solid id h
 marked-solid id h true false = user-solid id h

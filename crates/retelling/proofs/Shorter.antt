@@ -25,7 +25,7 @@ use Rattle.channel.specs.declared.Member.{Member}
 use Rattle.channel.specs.Limits.{limitLimit}
 use Rattle.channel.specs.Modes.{letters, keyMode, limitMode, hasMode, withMode, modePlace, plus}
 use Rattle.channel.specs.Settings.{Settings, noSettings}
-use Rattle.channel.specs.Channel.{Channel, voicePlace, operatorPlace, voice, operator, byId, at}
+use Rattle.channel.specs.Channel.{Channel, voicePlace, operatorPlace, voice, operator, byId, atSign}
 use Rattle.channel.specs.Members.{ordered}
 use Rattle.channel.specs.Standing.{counts, settingsAt, bare, standing, channelAt}
 use Rattle.channel.proofs.Letters.{has-no-mode}
@@ -43,7 +43,7 @@ use Rattle.sjoin.specs.Entries.{past, idOf, statusOf, memberOf, named}
 use Rattle.sjoin.specs.Join.{timeIn, nameIn, modesIn, listIn, argumentsIn, isTime, joinRules, channelIn}
 use Rattle.telling.specs.Telling.{modesText, entryOf, listText, paramsOf, sjoin, joinMessage}
 use Rattle.sjoin.proofs.Modes.{bits}
-use Rattle.sjoin.proofs.Joined.{Passes, passes, Given, argument-given}
+use Rattle.sjoin.proofs.Joined.{Passes, passes, Suits, argument-suits}
 use Rattle.sjoin.proofs.Answers.{bounds}
 use Rattle.sjoin.proofs.Sizes.{taken, arguments-room, parts}
 use Rattle.telling.proofs.Lengths.{lettersCount, letters-either, letters-none, letters-single, takes, takes-joined, takes-unmarked, list-length}
@@ -69,7 +69,7 @@ key-takes : (modes : ℕ) (key : List ℕ) → hasMode modes keyMode ≡ not (is
 key-takes modes [] h = rw h
 key-takes modes (b ∷ key) h = rw h
 
-limit-takes : (modes : ℕ) (s a : List ℕ) → hasMode modes limitMode ≡ ltb 0 (valueOf a) → Given limitLetter s a
+limit-takes : (modes : ℕ) (s a : List ℕ) → hasMode modes limitMode ≡ ltb 0 (valueOf a) → Suits limitLetter s a
     → cond (hasMode modes limitMode) (suc (length (digitsOf (valueOf a)))) 0 ≤ taken a
 unfolding goodArgument isLimit valueFrom isDecimal
 limit-takes modes s a h (inl g) = rw (h, g .1) (omega arith)
@@ -104,9 +104,9 @@ marks-back false false = (refl, refl)
 entry-tells : (w : List ℕ) → entryOf (memberOf w) ≡ w
 unfolding entryOf memberOf idOf statusOf
 entry-tells w =
-    let o = startsWith at w in
-    let v = startsWith plus (past at w) in
-    rw (marks-back o v .0, marks-back o v .1) (append-assoc (marked at o) (marked plus v) (past plus (past at w)) ∙ ap (_++_ (marked at o)) (past-back plus (past at w)) ∙ past-back at w)
+    let o = startsWith atSign w in
+    let v = startsWith plus (past atSign w) in
+    rw (marks-back o v .0, marks-back o v .1) (append-assoc (marked atSign o) (marked plus v) (past plus (past atSign w)) ∙ ap (_++_ (marked atSign o)) (past-back plus (past atSign w)) ∙ past-back atSign w)
 
 -- without status they take up no more than with it
 takes-bare : (l : List Member) → weight takes (bare l) ≤ weight takes l
@@ -178,7 +178,7 @@ module _ (c : Content) (none : firstOf (joinRules c) ≡ accepted) (p : Proper (
       let s = parametered (lettersOf (modesIn c)) in
       let k = argumentOf keyLetter (modesIn c) (argumentsIn c) in
       let l = argumentOf limitLetter (modesIn c) (argumentsIn c) in
-      let limit = limit-takes (settings true .modes) (lettersOf (modesIn c)) l (p .settings .limited) (argument-given (modesIn c) (argumentsIn c) limitLetter refl (good .modes)) in
+      let limit = limit-takes (settings true .modes) (lettersOf (modesIn c)) l (p .settings .limited) (argument-suits (modesIn c) (argumentsIn c) limitLetter refl (good .modes)) in
       let both = arguments-room keyLetter limitLetter refl s (argumentsIn c) (and-right (goodLetters (modesIn c)) _ (good .modes)) in
       omega (arith, key-takes (settings true .modes) k (p .settings .keyed), limit, both)
   arguments-shorter false = rw (has-no-mode keyMode, has-no-mode limitMode) (omega arith)

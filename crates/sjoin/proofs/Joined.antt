@@ -57,11 +57,11 @@ passes c e =
 
 -- ---- a letter that is missing has no parameter, and one that is there a good one
 -- a letter that is missing, with no parameter, or one that is there, with a good one
-abbrev pub Given : ℕ → List ℕ → List ℕ → Type 0
-Given letter s a = ((lacks letter s ≡ true) × (a ≡ [])) ⊎ ((lacks letter s ≡ false) × (goodArgument letter a ≡ true))
+abbrev pub Suits : ℕ → List ℕ → List ℕ → Type 0
+Suits letter s a = ((lacks letter s ≡ true) × (a ≡ [])) ⊎ ((lacks letter s ≡ false) × (goodArgument letter a ≡ true))
 
 module _ (letter : ℕ) (has : hasParameter letter ≡ true) where
-  skip : (x : ℕ) (s args : List ℕ) → eqb x letter ≡ false → Given letter s args → Given letter (x ∷ s) args
+  skip : (x : ℕ) (s args : List ℕ) → eqb x letter ≡ false → Suits letter s args → Suits letter (x ∷ s) args
   unfolding all
   skip x s a e (inl g) = inl (rw e (g .0), g .1)
   skip x s a e (inr g) = inr (rw e (g .0), g .1)
@@ -73,34 +73,34 @@ module _ (letter : ℕ) (has : hasParameter letter ≡ true) where
       go true f = absurd (true≢false (sym has ∙ ap hasParameter (sym (eqb-true x letter f)) ∙ e))
       go false f = f
 
-  given : (s : List ℕ) (args : List (List ℕ)) → goodArguments (parametered s) args ≡ true → Given letter s (argumentAmong letter s args)
+  suits : (s : List ℕ) (args : List (List ℕ)) → goodArguments (parametered s) args ≡ true → Suits letter s (argumentAmong letter s args)
   unfolding all parametered goodArguments placeAmong
-  given [] [] h = inl (refl, refl)
-  given [] (a ∷ args) h = absurd (true≢false (sym h))
-  given (x ∷ s) args h = go (hasParameter x) refl args h (λ l k. given s l k)
+  suits [] [] h = inl (refl, refl)
+  suits [] (a ∷ args) h = absurd (true≢false (sym h))
+  suits (x ∷ s) args h = go (hasParameter x) refl args h (λ l k. suits s l k)
     where
-      found : (a : List ℕ) (args : List (List ℕ)) (t : Bool) → eqb x letter ≡ t → hasParameter x ≡ true → goodArgument x a && goodArguments (parametered s) args ≡ true → Given letter s (argumentAmong letter s args) → Given letter (x ∷ s) (argumentAmong letter (x ∷ s) (a ∷ args))
+      found : (a : List ℕ) (args : List (List ℕ)) (t : Bool) → eqb x letter ≡ t → hasParameter x ≡ true → goodArgument x a && goodArguments (parametered s) args ≡ true → Suits letter s (argumentAmong letter s args) → Suits letter (x ∷ s) (argumentAmong letter (x ∷ s) (a ∷ args))
       found a args true e f g ih = rw (f, e) (inr (refl, rw (sym (eqb-true x letter e)) (and-left (goodArgument x a) (goodArguments (parametered s) args) g)))
       found a args false e f g ih = rw (f, e) ih
 
-      go : (t : Bool) → hasParameter x ≡ t → (args : List (List ℕ)) → goodArguments (parametered (x ∷ s)) args ≡ true → ((l : List (List ℕ)) → goodArguments (parametered s) l ≡ true → Given letter s (argumentAmong letter s l)) → Given letter (x ∷ s) (argumentAmong letter (x ∷ s) args)
+      go : (t : Bool) → hasParameter x ≡ t → (args : List (List ℕ)) → goodArguments (parametered (x ∷ s)) args ≡ true → ((l : List (List ℕ)) → goodArguments (parametered s) l ≡ true → Suits letter s (argumentAmong letter s l)) → Suits letter (x ∷ s) (argumentAmong letter (x ∷ s) args)
       go true e [] g rec = absurd (true≢false (sym (rw e at g)))
       go true e (a ∷ args) g rec = let k = rw e at g in found a args (eqb x letter) refl e k (rec args (and-right (goodArgument x a) (goodArguments (parametered s) args) k))
       go false e args g rec = rw e (skip x s (argumentAmong letter s args) (other x e) (rec args (rw e at g)))
 
 -- Of good modes a letter's parameter fits it: there is none where the letter is missing, and a good one where it is there.
-pub argument-given : (modes : List ℕ) (args : List (List ℕ)) (letter : ℕ) → hasParameter letter ≡ true → isModes modes args ≡ true → Given letter (lettersOf modes) (argumentOf letter modes args)
+pub argument-suits : (modes : List ℕ) (args : List (List ℕ)) (letter : ℕ) → hasParameter letter ≡ true → isModes modes args ≡ true → Suits letter (lettersOf modes) (argumentOf letter modes args)
 unfolding isModes argumentOf
-argument-given modes args letter has h = given letter has (lettersOf modes) args (and-right (goodLetters modes) (goodArguments (parametered (lettersOf modes)) args) h)
+argument-suits modes args letter has h = suits letter has (lettersOf modes) args (and-right (goodLetters modes) (goodArguments (parametered (lettersOf modes)) args) h)
 
 -- the key keeps to its room
-pub key-short : (s k : List ℕ) → Given keyLetter s k → length k ≤ keyLimit
+pub key-short : (s k : List ℕ) → Suits keyLetter s k → length k ≤ keyLimit
 unfolding goodArgument
 key-short s k (inl g) = rw (g .1) (omega arith)
 key-short s k (inr g) = key-length k (g .1)
 
 -- the limit is the value of its text
-pub limit-read : (s l : List ℕ) → Given limitLetter s l → limitIn l ≡ valueOf l
+pub limit-read : (s l : List ℕ) → Suits limitLetter s l → limitIn l ≡ valueOf l
 unfolding goodArgument limitIn isLimit isDecimal valueFrom
 limit-read s l (inl g) = rw (g .1)
 limit-read s l (inr g) = rw (g .1)

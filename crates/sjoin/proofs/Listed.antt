@@ -27,7 +27,7 @@ use Rattle.message.specs.Words.{wordsOf, nextWord}
 use Rattle.message.proofs.Sizes.{room, long, words-room, words-few}
 use Rattle.message.proofs.Splits.{wordsFrom, next-none, next-one, next-in}
 use Rattle.channel.specs.Modes.{plus}
-use Rattle.channel.specs.Channel.{at}
+use Rattle.channel.specs.Channel.{atSign}
 use Rattle.sjoin.specs.Entries.{past, idOf, isEntry, memberOf, goodEntries, named}
 
 -- ---- an entry
@@ -53,7 +53,7 @@ past-short mark s = go (startsWith mark s) refl
 
 entry-takes : (e : List ℕ) → isEntry e ≡ true → long userIdLength e ≡ true
 unfolding idOf
-entry-takes e h = le-leb userIdLength (length e) (omega (arith, entry-long e h, past-short plus (past at e), past-short at e))
+entry-takes e h = le-leb userIdLength (length e) (omega (arith, entry-long e h, past-short plus (past atSign e), past-short atSign e))
 
 -- ---- the list
 -- every word of a good list is an entry

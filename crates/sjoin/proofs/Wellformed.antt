@@ -19,7 +19,7 @@ use Rattle.ascending.proofs.Ascends.{unite-some, unite-few, all-unite, ascendin
 use Rattle.channel.specs.Limits.{timeLimit, limitLimit}
 use Rattle.channel.specs.Modes.{modeCount, hasMode, withMode, placeAmong, modePlace, plus}
 use Rattle.channel.specs.Key.{isKey}
-use Rattle.channel.specs.Channel.{voice, operator, byId, at}
+use Rattle.channel.specs.Channel.{voice, operator, byId, atSign}
 use Rattle.channel.specs.Record.{encode}
 use Rattle.channel.specs.WellFormed.{bothStatuses, goodMember, wellFormed}
 use Rattle.channel.proofs.Keys.{key-some}
@@ -41,7 +41,7 @@ use Rattle.sjoin.proofs.Answers.{list-small, told-unread, told-number, 
 use Rattle.sjoin.proofs.Limits.{limit-bounds}
 use Rattle.sjoin.proofs.Listed.{list-entries, list-room}
 use Rattle.sjoin.proofs.Judged.{time-zero}
-use Rattle.sjoin.proofs.Joined.{Passes, passes, Given, argument-given}
+use Rattle.sjoin.proofs.Joined.{Passes, passes, Suits, argument-suits}
 
 -- ---- the modes' byte
 bits-small : (s : List ℕ) → bits s < 2 ^ modeCount
@@ -59,12 +59,12 @@ bits-have letter (x ∷ s) h =
     has-either (withMode 0 (modePlace x)) (bits s) (modePlace letter) ∙ ap₂ _||_ first (bits-have letter s (all-tail isMode x s h)) ∙ or-not (eqb x letter) (lacks letter s)
 
 -- ---- key and limit, present exactly with their letters
-key-says : (s a : List ℕ) → Given keyLetter s a → (not (lacks keyLetter s) ≡ not (isNil a)) × ((isNil a || isKey a) ≡ true)
+key-says : (s a : List ℕ) → Suits keyLetter s a → (not (lacks keyLetter s) ≡ not (isNil a)) × ((isNil a || isKey a) ≡ true)
 unfolding goodArgument
 key-says s a (inl g) = (rw (g .0, g .1), rw (g .1))
 key-says s a (inr g) = (rw (g .0, key-some a (g .1)), rw (key-some a (g .1)) (g .1))
 
-limit-says : (s a : List ℕ) → Given limitLetter s a → (not (lacks limitLetter s) ≡ ltb 0 (valueOf a)) × (valueOf a ≤ limitLimit)
+limit-says : (s a : List ℕ) → Suits limitLetter s a → (not (lacks limitLetter s) ≡ ltb 0 (valueOf a)) × (valueOf a ≤ limitLimit)
 unfolding goodArgument valueFrom
 limit-says s a (inl g) = (rw (g .0, g .1), rw (g .1) (omega arith))
 limit-says s a (inr g) = let b = limit-bounds a (g .1) in (rw (g .0) (sym (lt-ltb 0 (valueOf a) (b .0))), b .1)
@@ -72,7 +72,7 @@ limit-says s a (inr g) = let b = limit-bounds a (g .1) in (rw (g .0) (sym (lt-lt
 -- ---- the members
 status-few : (e : List ℕ) → statusOf e ≤ bothStatuses
 unfolding statusOf
-status-few e = go (startsWith at e) (startsWith plus (past at e))
+status-few e = go (startsWith atSign e) (startsWith plus (past atSign e))
   where
     go : (t u : Bool) → cond t operator 0 + cond u voice 0 ≤ bothStatuses
     go true true = omega arith
@@ -108,8 +108,8 @@ module _ (c : Content) (none : firstOf (joinRules c) ≡ accepted) (small : leng
   unfolding channelIn modesByte placeAmong all
   told-proper =
       let s = lettersOf (modesIn c) in
-      let k = key-says s _ (argument-given (modesIn c) (argumentsIn c) keyLetter refl (good .modes)) in
-      let l = limit-says s _ (argument-given (modesIn c) (argumentsIn c) limitLetter refl (good .modes)) in
+      let k = key-says s _ (argument-suits (modesIn c) (argumentsIn c) keyLetter refl (good .modes)) in
+      let l = limit-says s _ (argument-suits (modesIn c) (argumentsIn c) limitLetter refl (good .modes)) in
       let n = named (listIn c) in
       record {
         name = good .name;

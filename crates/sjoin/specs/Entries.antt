@@ -7,7 +7,7 @@ use lib.ListN.{drop}
 use Rattle.laws.specs.Lists.{all, isNil, startsWith}
 use Rattle.names.specs.Names.{isUserId}
 use Rattle.channel.specs.declared.Member.{Member}
-use Rattle.channel.specs.Channel.{voice, operator, at, member}
+use Rattle.channel.specs.Channel.{voice, operator, atSign, member}
 use Rattle.message.specs.Words.{wordsOf}
 use Rattle.channel.specs.Modes.{plus}
 
@@ -17,11 +17,11 @@ past mark s = cond (startsWith mark s) (drop 1 s) s
 
 -- the entry's id: what follows '@' and '+', in that order
 unfoldable pub idOf : List ℕ → List ℕ
-idOf entry = past plus (past at entry)
+idOf entry = past plus (past atSign entry)
 
 -- operator with '@', voice with '+'
 unfoldable pub statusOf : List ℕ → ℕ
-statusOf entry = cond (startsWith at entry) operator 0 + cond (startsWith plus (past at entry)) voice 0
+statusOf entry = cond (startsWith atSign entry) operator 0 + cond (startsWith plus (past atSign entry)) voice 0
 
 unfoldable pub isEntry : List ℕ → Bool
 isEntry entry = isUserId (idOf entry)

@@ -16,7 +16,7 @@ use Rattle.ascending.proofs.Ascends.{joined}
 use Rattle.ascending.proofs.Weights.{weight}
 use Rattle.channel.specs.declared.Member.{Member}
 use Rattle.channel.specs.Modes.{letters, modeCount, plus, hasMode, withMode}
-use Rattle.channel.specs.Channel.{voicePlace, operatorPlace, at, member, byId}
+use Rattle.channel.specs.Channel.{voicePlace, operatorPlace, atSign, member, byId}
 use Rattle.channel.proofs.Letters.{has-no-mode, has-either, has-with}
 use Rattle.telling.specs.Telling.{lettersFrom, entryOf, listText}
 
@@ -82,7 +82,7 @@ entry-length : (m : Member) → length (entryOf m) ≡ marks (hasMode (m .status
 unfolding entryOf
 entry-length m = go (hasMode (m .status) operatorPlace) (hasMode (m .status) voicePlace)
   where
-    go : (o v : Bool) → length (cond o (at ∷ []) [] ++ cond v (plus ∷ []) [] ++ m .id) ≡ marks o + marks v + length (m .id)
+    go : (o v : Bool) → length (cond o (atSign ∷ []) [] ++ cond v (plus ∷ []) [] ++ m .id) ≡ marks o + marks v + length (m .id)
     go true true = omega arith
     go true false = omega arith
     go false true = omega arith

@@ -22,7 +22,7 @@ use Rattle.names.proofs.UserIds.{no-server-id, server-bytes, user-length, user-
 use Rattle.channel.specs.declared.Member.{Member}
 use Rattle.channel.specs.Modes.{letters, keyMode, limitMode, hasMode, plus}
 use Rattle.channel.specs.Key.{isKey}
-use Rattle.channel.specs.Channel.{Channel, at}
+use Rattle.channel.specs.Channel.{Channel, atSign}
 use Rattle.channel.specs.WellFormed.{goodMember}
 use Rattle.channel.proofs.Keys.{key-says}
 use Rattle.channel.proofs.Proper.{Proper, member-says}
@@ -92,13 +92,13 @@ key-middle : (k : List ℕ) → isKey k ≡ true → Middle k
 key-middle k h = let p = key-says k h in neat-middle k (p .0) (p .1) (all-neat isKeyByte key-clean k (p .2))
 
 -- ---- the list
-marked-middle : (id : List ℕ) → isUserId id ≡ true → (o v : Bool) → Middle (cond o (at ∷ []) [] ++ cond v (plus ∷ []) [] ++ id)
+marked-middle : (id : List ℕ) → isUserId id ≡ true → (o v : Bool) → Middle (cond o (atSign ∷ []) [] ++ cond v (plus ∷ []) [] ++ id)
 unfolding startsWith isPlain
 marked-middle id h o v = go o v (all-neat isIdByte id-clean id (user-bytes id h))
   where
-    go : (o v : Bool) → all neat id ≡ true → Middle (cond o (at ∷ []) [] ++ cond v (plus ∷ []) [] ++ id)
-    go true true k = neat-middle (at ∷ plus ∷ id) (omega arith) refl (all-cons neat at (plus ∷ id) refl (all-cons neat plus id refl k))
-    go true false k = neat-middle (at ∷ id) (omega arith) refl (all-cons neat at id refl k)
+    go : (o v : Bool) → all neat id ≡ true → Middle (cond o (atSign ∷ []) [] ++ cond v (plus ∷ []) [] ++ id)
+    go true true k = neat-middle (atSign ∷ plus ∷ id) (omega arith) refl (all-cons neat atSign (plus ∷ id) refl (all-cons neat plus id refl k))
+    go true false k = neat-middle (atSign ∷ id) (omega arith) refl (all-cons neat atSign id refl k)
     go false true k = neat-middle (plus ∷ id) (omega arith) refl (all-cons neat plus id refl k)
     go false false k = neat-middle id (omega (arith, user-length id h)) (ids-uncolon id (user-bytes id h)) k
 

@@ -15,7 +15,7 @@ use Rattle.octets.specs.Decimals.{digitsOf}
 use Rattle.octets.specs.Room.{fits}
 use Rattle.channel.specs.declared.Member.{Member}
 use Rattle.channel.specs.Modes.{letters, keyMode, limitMode, hasMode, plus}
-use Rattle.channel.specs.Channel.{Channel, voicePlace, operatorPlace, at}
+use Rattle.channel.specs.Channel.{Channel, voicePlace, operatorPlace, atSign}
 use Rattle.message.specs.Grammar.{lineLimit}
 use Rattle.message.specs.Content.{Content}
 use Rattle.writer.specs.Form.{written}
@@ -30,7 +30,7 @@ modesText modes = plus ∷ lettersFrom 0 letters modes
 
 -- '@' for an operator, '+' for voice, then the id
 unfoldable pub entryOf : Member → List ℕ
-entryOf m = cond (hasBit (m .status) operatorPlace) (at ∷ []) [] ++ cond (hasBit (m .status) voicePlace) (plus ∷ []) [] ++ m .id
+entryOf m = cond (hasBit (m .status) operatorPlace) (atSign ∷ []) [] ++ cond (hasBit (m .status) voicePlace) (plus ∷ []) [] ++ m .id
 
 -- one SPACE between entries
 abbrev pub listText : List Member → List ℕ

@@ -66,10 +66,10 @@ room : (c : tie.After-in-room Inv-loop μ-loop Inv-loop2 μ-loop2) → c .in-roo
 unfolding inRoom
 room c = c .in-room .ensures
 
-set-up : (c : tie.After-settled Inv-loop μ-loop Inv-loop2 μ-loop2) → c .settled .result ≡ getD (tests (at-3 (c .before .before .before .before .before))) 3 true
+set-up : (c : tie.After-good-head Inv-loop μ-loop Inv-loop2 μ-loop2) → c .good-head .result ≡ getD (tests (at-3 (c .before .before .before .before .before))) 3 true
 set-up c =
     let r : Record = at-3 (c .before .before .before .before .before) in
-    c .settled .ensures
+    c .good-head .ensures
     ∙ ap₂ (λ (x y : List ℕ). isChannel x && (leb 1 (r .time) && (goodKey (r .modes) y && goodLimit (r .modes) (r .limit))))
     (c .before .before .before .part .ensures .0 ∙ part-front (r .name) (r .«name_len»)) (c .before .part2 .ensures .0 ∙ part-front (r .key) (r .«key_len»))
 
@@ -136,8 +136,8 @@ slice-aggregate-part-2 c = search needs
 part-requires-2 : tie.Need-part-requires-2 Inv-loop μ-loop Inv-loop2 μ-loop2
 part-requires-2 c κs = search needs
 
-settled-requires : tie.Need-settled-requires Inv-loop μ-loop Inv-loop2 μ-loop2
-settled-requires c κs = search needs
+good-head-requires : tie.Need-good-head-requires Inv-loop μ-loop Inv-loop2 μ-loop2
+good-head-requires c κs = search needs
 
 returns-4 : tie.Need-returns-4 Inv-loop μ-loop Inv-loop2 μ-loop2
 returns-4 c = sym (left-3 (c .before .before .before .before .before .before) ∙ fail _ (sym (set-up (c .before)) ∙ not-true _ (c .if4 .taken)))
@@ -262,7 +262,7 @@ is-well-formed-spec =
     part-requires
     slice-aggregate-part-2
     part-requires-2
-    settled-requires
+    good-head-requires
     returns-4
     loop-holds
     mul-m

@@ -11,7 +11,7 @@ use Rattle.message.specs.Parts.{contentBy}
 use Rattle.names.proofs.Channels.{channel-length}
 use Rattle.sjoin.specs.Modes.{keyLetter, limitLetter, lettersOf, hasParameter, modesByte, limitIn, argumentOf}
 use Rattle.sjoin.specs.Join.{listIn, nameIn, modesIn, argumentsIn}
-use Rattle.sjoin.proofs.Joined.{Passes, passes, Given, argument-given, key-short, limit-read}
+use Rattle.sjoin.proofs.Joined.{Passes, passes, Suits, argument-suits, key-short, limit-read}
 use Rattle.sjoin.proofs.Answers.{ordered-is, made}
 use Rattle.sjoin.proofs.record_of.Statement.{statement}
 use Rattle.sjoin.proofs.record_of.Tie as tie
@@ -27,8 +27,8 @@ good c = passes (content c) (c .pre .passes)
 abbrev argument : ℕ → tie.Start → List ℕ
 argument letter c = argumentOf letter (modesIn (content c)) (argumentsIn (content c))
 
-given : (letter : ℕ) (c : tie.Start) → hasParameter letter ≡ true → Given letter (lettersOf (modesIn (content c))) (argument letter c)
-given letter c has = argument-given (modesIn (content c)) (argumentsIn (content c)) letter has (good c .modes)
+suits : (letter : ℕ) (c : tie.Start) → hasParameter letter ≡ true → Suits letter (lettersOf (modesIn (content c))) (argument letter c)
+suits letter c has = argument-suits (modesIn (content c)) (argumentsIn (content c)) letter has (good c .modes)
 
 param-in-requires : tie.Need-param-in-requires
 param-in-requires c κs = search needs
@@ -51,7 +51,7 @@ argument-requires c κs = c .before .before .before .before .before .before .pre
 key-room-requires : tie.Need-key-room-requires
 key-room-requires c κs =
     let s = c .before .before .before .before .before .before .before in
-    omega (arith, key-short (lettersOf (modesIn (content s))) (argument keyLetter s) (given keyLetter s refl), ap (λ (l : List ℕ). length l) {y = argument keyLetter s} (c .argument .ensures))
+    omega (arith, key-short (lettersOf (modesIn (content s))) (argument keyLetter s) (suits keyLetter s refl), ap (λ (l : List ℕ). length l) {y = argument keyLetter s} (c .argument .ensures))
 
 argument-requires-2 : tie.Need-argument-requires-2
 argument-requires-2 c κs = c .before .before .before .before .before .before .before .before .pre .parted
@@ -78,7 +78,7 @@ returns c =
     made (content s) _ _ _ _ _ _ _ (members .ordered .result) (first .param-in .ensures .0) (named .name-room .ensures) (timed .time-of .ensures)
     (lettered .modes-byte .ensures ∙ ap modesByte (read .param-in2 .ensures .0))
     (looked .argument .ensures) (keyed .key-room .ensures)
-    (limited .limit-in .ensures ∙ ap limitIn {y = argument limitLetter s} (found .argument2 .ensures) ∙ limit-read (lettersOf (modesIn (content s))) (argument limitLetter s) (given limitLetter s refl))
+    (limited .limit-in .ensures ∙ ap limitIn {y = argument limitLetter s} (found .argument2 .ensures) ∙ limit-read (lettersOf (modesIn (content s))) (argument limitLetter s) (suits limitLetter s refl))
     (ordered-is (s .args .entries) (members .ordered .result) (listIn (content s)) (s .pre .named) (s .pre .few) (members .ordered .ensures))
 
 pub record-of-spec : {M : Type 1} → statement M

@@ -5,14 +5,14 @@ use mathlib.Core.List.{List}
 use Prim.Native.Nat.{ℕ, _+_}
 use borrow.Author.Needs.{needs}
 use Rattle.laws.specs.Lists.{startsWith}
-use Rattle.channel.specs.Channel.{voice, operator, at}
+use Rattle.channel.specs.Channel.{voice, operator, atSign}
 use Rattle.channel.specs.Modes.{plus}
 use Rattle.sjoin.specs.Entries.{past, statusOf}
 use Rattle.sjoin.proofs.entries.status_of.Statement.{statement}
 use Rattle.sjoin.proofs.entries.status_of.Tie as tie
 
 -- by the answers of both tests
-status : (entry after : List ℕ) (o v t u : Bool) → after ≡ past at entry → o ≡ startsWith at entry → v ≡ startsWith plus after → o ≡ t → v ≡ u → cond t operator 0 + cond u voice 0 ≡ statusOf entry
+status : (entry after : List ℕ) (o v t u : Bool) → after ≡ past atSign entry → o ≡ startsWith atSign entry → v ≡ startsWith plus after → o ≡ t → v ≡ u → cond t operator 0 + cond u voice 0 ≡ statusOf entry
 unfolding statusOf
 status entry after o v t u e p q f g = rw (sym p ∙ f, sym (q ∙ ap (startsWith plus) e) ∙ g)
 

@@ -1,12 +1,12 @@
--- `settled` meets its contract: each return is the first test that fails, after those that passed. Assumes nothing.
+-- `good_head` meets its contract: each return is the first test that fails, after those that passed. Assumes nothing.
 use mathlib.Core.Path.{_≡_, sym, _∙_}
 use mathlib.Core.Bool.{true}
 use native.Mathlib.Omega.{arith}
 use borrow.Author.Needs.{needs}
 use borrow.Author.Tests.{le-leb, lt-leb, not-true, not-false}
 use Rattle.names.specs.Names.{isChannel}
-use Rattle.channel.proofs.well.settled.Statement.{statement}
-use Rattle.channel.proofs.well.settled.Tie as tie
+use Rattle.channel.proofs.well.good_head.Statement.{statement}
+use Rattle.channel.proofs.well.good_head.Tie as tie
 
 is-channel-requires : tie.Need-is-channel-requires
 is-channel-requires c κs = search needs
@@ -38,8 +38,8 @@ returns-4 c =
     let p = k .before in
     rw (named (p .before), le-leb 1 (p .before .before .before .before .before .args .time) (omega (arith, p .if2 .left)), sym (k .good-key .ensures) ∙ not-false _ (c .before .if3 .left)) (c .good-limit .ensures)
 
-pub settled-spec : {M : Type 1} → statement M
-settled-spec =
+pub good-head-spec : {M : Type 1} → statement M
+good-head-spec =
     tie.close
     (tie.spec
     is-channel-requires
