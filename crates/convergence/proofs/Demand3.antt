@@ -22,8 +22,8 @@ use Rattle.channel.specs.Record.{encode, emptyRecord}
 use Rattle.channel.proofs.Proper.{Proper}
 use Rattle.merging.specs.declared.Merged.{Merged}
 use Rattle.merging.specs.Merging.{merge, mergeAnswer}
-use Rattle.merging.specs.Plain.{everyone, plain, spelled}
-use Rattle.merging.proofs.Plains.{length-everyone, everyone-same, plain-name, length-plain, merge-plain, plain-same}
+use Rattle.merging.specs.Plain.{everyone, plain}
+use Rattle.merging.proofs.Plains.{length-everyone, everyone-same, plain-name, length-plain, merge-plain, spelled, plain-same}
 use Rattle.merging.proofs.Merges.{folded, folded-plain}
 use Rattle.merging.proofs.Answers.{answer-encoded}
 use Rattle.table.specs.declared.Table.{Table}

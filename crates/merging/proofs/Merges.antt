@@ -15,10 +15,10 @@ use Rattle.channel.proofs.Fields.{channel-path}
 use Rattle.channel.proofs.Statuses.{stays-byId, lawful-byId, named}
 use Rattle.channel.proofs.Standing.{settings-own, standing-own, has-standing, ascending-standing}
 use Rattle.merging.specs.Merging.{merge}
-use Rattle.merging.specs.Plain.{everyone, plain, spelled}
+use Rattle.merging.specs.Plain.{everyone, plain}
 use Rattle.merging.proofs.Settings.{joining-settings}
 use Rattle.merging.proofs.Proper.{ascending-merge}
-use Rattle.merging.proofs.Plains.{has-everyone, ascending-everyone, merge-plain, plain-single}
+use Rattle.merging.proofs.Plains.{has-everyone, ascending-everyone, merge-plain, plain-single, spelled}
 
 -- A record whose members ascend.
 abbrev pub Fair : Channel → Type 0

@@ -23,7 +23,7 @@ use Rattle.channel.proofs.Statuses.{keyed-byId, stays-byId, lawful-byId, named,
 use Rattle.channel.proofs.Standing.{settings-own, standing-own, settings-late, standing-late, status-bare, has-standing}
 use Rattle.merging.specs.Settings.{joinSettings}
 use Rattle.merging.specs.Merging.{merge}
-use Rattle.merging.specs.Plain.{earliest, entries, everyone, statusAt, plain, spelled}
+use Rattle.merging.specs.Plain.{earliest, entries, everyone, statusAt, plain}
 use Rattle.merging.proofs.Settings.{joining-settings}
 use Rattle.merging.proofs.Proper.{ascending-merge}
 
@@ -179,7 +179,11 @@ plain-single l h =
     (λ x. plain-has x l [] ∙ or-false (named x l))
     (λ x. plain-status x l [] ∙ join-none bitOr 0 joining-bits _ ∙ ap (statusIn x) (standing-own l)))
 
--- it depends only on which lines there are, order and repeats apart, but for the spelling
+-- the same channel under another spelling of its name
+unfoldable pub spelled : List ℕ → Channel → Channel
+spelled name c = record { name = name; time = c .time; settings = c .settings; members = c .members }
+
+-- the plain record depends only on which lines there are, order and repeats apart, but for the spelling
 pub plain-same : (l k : Channel) (s t : List Channel) → Within (l ∷ s) (k ∷ t) → Within (k ∷ t) (l ∷ s) → plain l s ≡ spelled (l .name) (plain k t)
 unfolding plain spelled statusAt
 plain-same l k s t h i =

@@ -19,8 +19,8 @@ use Rattle.channel.proofs.Statuses.{named, status-absent, status-unite}
 use Rattle.channel.proofs.Standing.{settings-own, standing-own, settings-late, standing-late, status-bare}
 use Rattle.merging.specs.Settings.{joinSettings}
 use Rattle.merging.specs.Merging.{merge, mergeRules}
-use Rattle.merging.specs.Plain.{spelled}
 use Rattle.merging.proofs.Settings.{joining-settings}
+use Rattle.merging.proofs.Plains.{spelled}
 
 module _ (a b : Channel) where
   -- incoming time later: only the users join, without status, and a member already there keeps its own

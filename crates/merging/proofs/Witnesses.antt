@@ -24,10 +24,10 @@ use Rattle.channel.proofs.Examples.{2cd, 1ab, stored, incoming}
 use Rattle.channel.proofs.Witnesses.{second, lines, proper, stored-in, incoming-in, second-in, incoming-later, well}
 use Rattle.merging.specs.Settings.{greater, joinSettings}
 use Rattle.merging.specs.Merging.{merge, mergeAnswer, combined}
-use Rattle.merging.specs.Plain.{earliest, entries, everyone, statusAt, plain, spelled}
+use Rattle.merging.specs.Plain.{earliest, entries, everyone, statusAt, plain}
 use Rattle.merging.proofs.Rules.{merge-later, merge-equal, merge-earlier, later-keeps, later-none}
 use Rattle.merging.proofs.Proper.{proper-merge, merge-well}
-use Rattle.merging.proofs.Plains.{everyone-same, merge-plain, plain-single, plain-same}
+use Rattle.merging.proofs.Plains.{everyone-same, merge-plain, plain-single, spelled, plain-same}
 use Rattle.merging.proofs.Merges.{Fair, folded, merge-comm, merge-self, folded-plain, merge-assoc, length-folded}
 use Rattle.merging.proofs.Answers.{combined-merge}
 

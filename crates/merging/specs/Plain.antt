@@ -40,7 +40,3 @@ plain l s =
       settings = total joinSettings noSettings (settingsAt time) (l ∷ s);
       members = map (λ m. member (m .id) (statusAt time (l ∷ s) (m .id))) (everyone (l ∷ s));
     }
-
--- the same channel under another spelling of its name
-unfoldable pub spelled : List ℕ → Channel → Channel
-spelled name c = record { name = name; time = c .time; settings = c .settings; members = c .members }

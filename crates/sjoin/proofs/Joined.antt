@@ -19,9 +19,10 @@ use Rattle.channel.specs.Limits.{keyLimit}
 use Rattle.channel.specs.Modes.{placeAmong}
 use Rattle.channel.proofs.Keys.{key-length}
 use Rattle.message.specs.Content.{Content, prefixIs}
-use Rattle.sjoin.specs.Modes.{keyLetter, limitLetter, lettersOf, lacks, hasParameter, parametered, isLimit, limitIn, goodLetters, goodArgument, goodArguments, argumentAmong, argumentOf, isModes}
+use Rattle.sjoin.specs.Modes.{keyLetter, limitLetter, lettersOf, lacks, hasParameter, parametered, isLimit, goodLetters, goodArgument, goodArguments, argumentAmong, argumentOf, isModes}
 use Rattle.sjoin.specs.Entries.{goodEntries}
 use Rattle.sjoin.specs.Join.{timeIn, nameIn, modesIn, listIn, argumentsIn, goodCount, isTime, joinRules}
+use Rattle.sjoin.specs.Private.Scanning.{limitIn}
 
 -- ---- each test is passed
 -- What the rules test of a line, each passed.

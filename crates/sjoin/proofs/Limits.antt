@@ -11,7 +11,8 @@ use Rattle.octets.specs.Decimals.{isDecimal, valueOf, decimalUpTo, digitsOf}
 use Rattle.laws.proofs.Bools.{and-three}
 use Rattle.octets.proofs.Digits.{value-digits, decimal-digits, decimal-read, value-in}
 use Rattle.channel.specs.Limits.{limitLimit}
-use Rattle.sjoin.specs.Modes.{isLimit, limitIn}
+use Rattle.sjoin.specs.Modes.{isLimit}
+use Rattle.sjoin.specs.Private.Scanning.{limitIn}
 
 -- the digits of a number within bounds are a limit unless it is 0
 limit-digits : (n : ℕ) → n ≤ limitLimit → limitIn (digitsOf n) ≡ n

@@ -57,10 +57,6 @@ parametered (x ∷ s) = cond (hasParameter x) (x ∷ parametered s) (parametered
 unfoldable pub isLimit : List ℕ → Bool
 isLimit s = isDecimal s && (leb 1 (valueOf s) && leb (valueOf s) limitLimit)
 
--- the limit, or 0 where the bytes are none
-unfoldable pub limitIn : List ℕ → ℕ
-limitIn s = cond (isLimit s) (valueOf s) 0
-
 -- a key for k, a limit for l
 unfoldable pub goodArgument : ℕ → List ℕ → Bool
 goodArgument letter s = cond (eqb letter keyLetter) (isKey s) (isLimit s)

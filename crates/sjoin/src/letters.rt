@@ -1,7 +1,8 @@
 // The modes of an SJOIN line: their letters, and which of them have a parameter.
 ghost use mathlib.Core.Path.{_≡_};
 ghost use Rattle.laws.specs.Lists.{startsWith};
-ghost use Rattle.sjoin.specs.Modes.{hasParameter, goodLetters, modesByte, limitIn, goodArgument};
+ghost use Rattle.sjoin.specs.Modes.{hasParameter, goodLetters, modesByte, goodArgument};
+ghost use Rattle.sjoin.specs.Private.Scanning.{limitIn};
 use channel::Record;
 use channel::key::is_key;
 use channel::modes::MODES;

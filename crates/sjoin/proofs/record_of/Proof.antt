@@ -9,8 +9,9 @@ use borrow.Author.Needs.{needs}
 use Rattle.message.specs.Content.{Content}
 use Rattle.message.specs.Parts.{contentBy}
 use Rattle.names.proofs.Channels.{channel-length}
-use Rattle.sjoin.specs.Modes.{keyLetter, limitLetter, lettersOf, hasParameter, modesByte, limitIn, argumentOf}
+use Rattle.sjoin.specs.Modes.{keyLetter, limitLetter, lettersOf, hasParameter, modesByte, argumentOf}
 use Rattle.sjoin.specs.Join.{listIn, nameIn, modesIn, argumentsIn}
+use Rattle.sjoin.specs.Private.Scanning.{limitIn}
 use Rattle.sjoin.proofs.Joined.{Passes, passes, Suits, argument-suits, key-short, limit-read}
 use Rattle.sjoin.proofs.Answers.{ordered-is, made}
 use Rattle.sjoin.proofs.record_of.Statement.{statement}
