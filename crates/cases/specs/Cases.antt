@@ -1,5 +1,5 @@
 -- Document 01's cases marked P ('From the water') in a single table, and what it is for a case to hold: that the definitions in the contracts of
--- `message::read`, `prefix`, `command`, `param`, `names::equal`, `glob::matches` and `channel::merge` answer as the paper says.
+-- `message::read`, `prefix`, `command`, `param`, `names::equal`, `glob::matches` and `merging::merge` answer as the paper says.
 use Prim.Native.Nat.{ℕ}
 use mathlib.Core.Bool.{Bool, true, false, _&&_, Bool·beq}
 use mathlib.Core.List.{List, [], _∷_, _++_}

@@ -7,7 +7,7 @@ use Rattle.channel.specs.declared.Member.{Member}
 use Rattle.channel.specs.Settings.{Settings, noSettings}
 use Rattle.channel.specs.Channel.{Channel, member}
 
--- a channel counts at a time if it is its own
+-- a channel counts at a time if the time is its own
 unfoldable pub counts : ℕ → Channel → Bool
 counts time c = eqb (c .time) time
 

@@ -20,13 +20,13 @@ use Rattle.merging.proofs.Settings.{joining-settings}
 use Rattle.merging.proofs.Proper.{ascending-merge}
 use Rattle.merging.proofs.Plains.{has-everyone, ascending-everyone, merge-plain, plain-single, spelled}
 
--- A record whose members ascend.
-abbrev pub Fair : Channel → Type 0
-Fair c = Ascending byId (c .members)
+-- A channel whose members ascend.
+abbrev pub InOrder : Channel → Type 0
+InOrder c = Ascending byId (c .members)
 
 -- ---- commutative but for the spelling, and idempotent
 -- the other way round it is the same, but for the spelling
-pub merge-comm : (a b : Channel) → Ascending byId (a .members) → Ascending byId (b .members) → merge a b ≡ spelled (a .name) (merge b a)
+pub merge-comm : (a b : Channel) → InOrder a → InOrder b → merge a b ≡ spelled (a .name) (merge b a)
 unfolding merge spelled
 merge-comm a b h k =
     let m : ℕ = min (b .time) (a .time) in
@@ -36,7 +36,7 @@ merge-comm a b h k =
     (unite-comm byId 0 lawful-byId (standing m a) (standing m b) (ascending-standing m a h) (ascending-standing m b k)))
 
 -- a record merged with itself is the same
-pub merge-self : (a : Channel) → Ascending byId (a .members) → merge a a ≡ a
+pub merge-self : (a : Channel) → InOrder a → merge a a ≡ a
 unfolding merge
 merge-self a h =
     let e : min (a .time) (a .time) ≡ a .time = omega arith in
@@ -60,28 +60,28 @@ unfolding folded
 folded-snoc l k [] = refl
 folded-snoc l k (j ∷ s) = folded-snoc (merge l j) k s
 
-plain-snoc : (l k : Channel) (s : List Channel) → Fair k → merge (plain l s) k ≡ plain l (s ++ k ∷ [])
+plain-snoc : (l k : Channel) (s : List Channel) → InOrder k → merge (plain l s) k ≡ plain l (s ++ k ∷ [])
 plain-snoc l k s h = ap (merge (plain l s)) (sym (plain-single k h)) ∙ merge-plain l k s []
 
-plain-folded : (l : Channel) (s t : List Channel) → ((k : Channel) → List·Memᴰ k t → Fair k) → folded (plain l s) t ≡ plain l (s ++ t)
+plain-folded : (l : Channel) (s t : List Channel) → ((k : Channel) → List·Memᴰ k t → InOrder k) → folded (plain l s) t ≡ plain l (s ++ t)
 unfolding folded
 plain-folded l s [] h = ap (plain l) (sym (append-nil s))
 plain-folded l s (k ∷ t) h =
-    let f : Fair k = h k (List·Memᴰ·head refl) in
+    let f : InOrder k = h k (List·Memᴰ·head refl) in
     ap (λ (c : Channel). folded c t) (plain-snoc l k s f)
     ∙ plain-folded l (s ++ k ∷ []) t (λ j i. h j (List·Memᴰ·tail i)) ∙ ap (plain l) (append-assoc s (k ∷ []) t)
 
 -- records merged one after the other give the plain record
-pub folded-plain : (l : Channel) (s : List Channel) → ((k : Channel) → List·Memᴰ k (l ∷ s) → Fair k) → folded l s ≡ plain l s
+pub folded-plain : (l : Channel) (s : List Channel) → ((k : Channel) → List·Memᴰ k (l ∷ s) → InOrder k) → folded l s ≡ plain l s
 folded-plain l s h =
     ap (λ (c : Channel). folded c s) (sym (plain-single l (h l (List·Memᴰ·head refl)))) ∙ plain-folded l [] s (λ k i. h k (List·Memᴰ·tail i))
 
 -- ---- associative
-merge-pair : (a b : Channel) → Fair a → Fair b → merge a b ≡ plain a (b ∷ [])
+merge-pair : (a b : Channel) → InOrder a → InOrder b → merge a b ≡ plain a (b ∷ [])
 merge-pair a b p q = ap (λ (c : Channel). merge c b) (sym (plain-single a p)) ∙ plain-snoc a b [] q
 
 -- three may be merged in either grouping
-pub merge-assoc : (a b c : Channel) → Fair a → Fair b → Fair c → merge (merge a b) c ≡ merge a (merge b c)
+pub merge-assoc : (a b c : Channel) → InOrder a → InOrder b → InOrder c → merge (merge a b) c ≡ merge a (merge b c)
 merge-assoc a b c p q r =
     ap (λ (d : Channel). merge d c) (merge-pair a b p q) ∙ plain-snoc a c (b ∷ []) r
     ∙ sym (ap₂ merge (sym (plain-single a p)) (merge-pair b c q r) ∙ merge-plain a b [] (c ∷ []))
@@ -91,7 +91,7 @@ merge-has : (x : List ℕ) (a b : Channel) → named x (merge a b) ≡ (named x 
 unfolding merge
 merge-has x a b = has-unite byId stays-byId x _ _ ∙ ap₂ _||_ (has-standing _ a x) (has-standing _ b x)
 
-ascending-folded : (l : Channel) (s : List Channel) → Ascending byId (l .members) → Ascending byId (folded l s .members)
+ascending-folded : (l : Channel) (s : List Channel) → InOrder l → InOrder (folded l s)
 unfolding folded
 ascending-folded l [] h = h
 ascending-folded l (k ∷ s) h = ascending-folded (merge l k) s (ascending-merge l k h)
@@ -103,6 +103,6 @@ folded-has x l [] = sym (or-false (named x l))
 folded-has x l (k ∷ s) = folded-has x (merge l k) s ∙ ap (λ (b : Bool). b || total _||_ false (named x) s) (merge-has x l k) ∙ or-assoc (named x l) (named x k) (total _||_ false (named x) s)
 
 -- as many as they name
-pub length-folded : (l : Channel) (s : List Channel) → Ascending byId (l .members) → length (folded l s .members) ≡ length (everyone (l ∷ s))
+pub length-folded : (l : Channel) (s : List Channel) → InOrder l → length (folded l s .members) ≡ length (everyone (l ∷ s))
 length-folded l s h =
     same-length byId (folded l s .members) (everyone (l ∷ s)) (ascending-folded l s h) (ascending-everyone (l ∷ s)) (λ x. folded-has x l s ∙ sym (has-everyone x (l ∷ s)))

@@ -28,12 +28,12 @@ use Rattle.merging.specs.Plain.{earliest, entries, everyone, statusAt, p
 use Rattle.merging.proofs.Rules.{merge-later, merge-equal, merge-earlier, later-keeps, later-none}
 use Rattle.merging.proofs.Proper.{proper-merge, merge-well}
 use Rattle.merging.proofs.Plains.{everyone-same, merge-plain, plain-single, spelled, plain-same}
-use Rattle.merging.proofs.Merges.{Fair, folded, merge-comm, merge-self, folded-plain, merge-assoc, length-folded}
+use Rattle.merging.proofs.Merges.{InOrder, folded, merge-comm, merge-self, folded-plain, merge-assoc, length-folded}
 use Rattle.merging.proofs.Answers.{combined-merge}
 
--- each is fair
-fair : (c : Channel) → List·Memᴰ c lines → Fair c
-fair c m = proper c m .ascending
+-- each is in-order
+in-order : (c : Channel) → List·Memᴰ c lines → InOrder c
+in-order c m = proper c m .ascending
 
 -- ---- the rules of SJOIN
 later : merge stored incoming ≡ peopled stored (unite byId (stored .members) (bare (incoming .members)))
@@ -64,7 +64,7 @@ itself : merge second second ≡ second
 itself = merge-self second (proper second second-in .ascending)
 
 grouped : merge (merge stored incoming) second ≡ merge stored (merge incoming second)
-grouped = merge-assoc stored incoming second (fair stored stored-in) (fair incoming incoming-in) (fair second second-in)
+grouped = merge-assoc stored incoming second (in-order stored stored-in) (in-order incoming incoming-in) (in-order second second-in)
 
 -- ---- the plain record
 alone : plain second [] ≡ second
@@ -76,7 +76,7 @@ plain-lines = merge-plain stored second (incoming ∷ []) (incoming ∷ [])
 -- the three merged one after the other: of the later line only the users are there
 one-by-one : folded stored (incoming ∷ second ∷ []) ≡ record { name = stored .name; time = 1000; settings = second .settings; members = member (1ab 65) 0 ∷ member (1ab 66) 0 ∷ member 2cd 3 ∷ [] }
 unfolding plain earliest settingsAt standing counts bare everyone entries statusIn statusAt sameBy insert put unite compare greater joinSettings withMode stored incoming second 1ab 2cd
-one-by-one = folded-plain stored (incoming ∷ second ∷ []) fair
+one-by-one = folded-plain stored (incoming ∷ second ∷ []) in-order
 
 three-named : length (folded stored (incoming ∷ second ∷ []) .members) ≡ 3
 unfolding everyone entries insert put unite compare stored incoming second 1ab 2cd
