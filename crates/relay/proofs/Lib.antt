@@ -15,4 +15,4 @@ pub mod Taking
 mod Acted
 pub mod Answering
 pub mod Joined
-pub mod Examples
+mod Examples
