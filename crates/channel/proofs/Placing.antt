@@ -10,7 +10,7 @@ use lib.Seq.{split-at, take-suc, take-length, drop-length, length-take-le, getD-
 use Rattle.laws.specs.Lists.{same, padded}
 use Rattle.octets.specs.Order.{compare, isLess}
 use Rattle.ascending.specs.Ascending.{put}
-use Rattle.laws.proofs.Lists.{drop-step, getD-any, getD-padded, length-padded}
+use Rattle.laws.proofs.Lists.{drop-step, getD-any, getD-padded, length-padded, set-padded-at, padded-more}
 use Rattle.octets.proofs.Bytes.{same-true}
 use Rattle.ascending.proofs.Ascends.{Above, Under, Ascending, joined, less-says, less-fails, ascends-says, put-between, put-joined, under-take, under-upto}
 use Rattle.channel.specs.declared.Member.{Member}
@@ -20,7 +20,7 @@ use Rattle.channel.specs.Channel.{byId}
 use Rattle.channel.specs.Record.{nobody}
 use Rattle.channel.specs.Members.{roster}
 use Rattle.channel.specs.Private.Rosters.{Sorted}
-use Rattle.channel.proofs.Gathering.{gathers-roster, set-padded-at, padded-more}
+use Rattle.channel.proofs.Gathering.{gathers-roster}
 
 -- Those from p on are moved up by one, and what stands at p is of no account.
 pub record Shifted (l next : List Member) (p : ℕ) : Type 0 where

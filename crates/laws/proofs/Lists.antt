@@ -1,12 +1,13 @@
 -- Laws of lists: a list at a place, tests of every element, lists of tests, equal lists, padding, and parts of lists. Assumes nothing.
 use mathlib.Core.Path.{_≡_, refl, sym, ap, _∙_}
 use mathlib.Core.Bool.{Bool, true, false, true≢false, _&&_}
-use mathlib.Core.List.{List, [], _∷_, _++_, map}
+use mathlib.Core.List.{List, [], _∷_, _++_, map, append-assoc}
 use Prim.Native.Nat.{ℕ, zero, suc, _+_, _-_, _≤_, _<_, min}
+use native.Mathlib.Nat.{zero-add}
 use native.Mathlib.Numerals.{add-one}
 use native.Mathlib.Omega.{arith}
 use lib.ListN.{length, take, drop, getD, set, replicate, drop-of-length-le, length-append, length-take, length-drop, length-map, length-replicate, getD-replicate, List·getD-map, List·getD-eq-default}
-use lib.Seq.{take-suc, take-all, drop-cons, take-append-le, drop-append-le, take-append-seam, length-take-le, take-take, getD-take, getD-drop, ext-getD, sets}
+use lib.Seq.{take-suc, take-all, drop-cons, take-append-le, drop-append-le, take-append-seam, length-take-le, take-take, getD-take, getD-drop, ext-getD, sets, set-append-seam, set-getD, take-set-lt}
 use lib.Dec.{eqb, leb, ltb}
 use borrow.Author.Tests.{ne-eqb, leb-true, leb-false, ltb-true, ltb-false}
 use Rattle.laws.specs.Lists.{all, isNil, sameBy, padded}
@@ -230,11 +231,18 @@ module _ {A : Type 0} (t : A → A → Bool) where
       unfolding sameBy
       sameBy-go e = rw (drop-step l i d h, drop-step m i d k, e)
 
--- ---- the first of a mapped list
+-- ---- a part of a mapped list
+-- the first n
 pub take-map : {A B : Type 0} (f : A → B) (n : ℕ) (l : List A) → take n (map f l) ≡ map f (take n l)
 take-map f zero l = refl
 take-map f (suc n) [] = refl
 take-map f (suc n) (x ∷ l) = ap (λ m. f x ∷ m) (take-map f n l)
+
+-- and all but the first
+pub drop-map : {A B : Type 0} (f : A → B) (n : ℕ) (l : List A) → drop n (map f l) ≡ map f (drop n l)
+drop-map f zero l = refl
+drop-map f (suc n) [] = refl
+drop-map f (suc n) (x ∷ l) = drop-map f n l
 
 -- ---- padding
 module _ {A : Type 0} (x : A) where
@@ -314,6 +322,31 @@ module _ {A : Type 0} (x : A) where
   pub sets-padded : (n : ℕ) (vs : List A) → sets (replicate n x) 0 vs ≡ padded n x vs
   unfolding padded
   sets-padded n vs = sets-continued vs n n (omega arith)
+
+  sets-snoc : (vs l : List A) (i : ℕ) (v : A) → sets l i (vs ++ (v ∷ [])) ≡ set (sets l i vs) (i + length vs) v
+  sets-snoc [] l i v = let e : i + 0 ≡ i = omega arith in rw e
+  sets-snoc (u ∷ vs) l i v = let e : i + suc (length vs) ≡ suc i + length vs = omega arith in rw e (sets-snoc vs (set l i u) (suc i) v)
+
+  -- an element set behind the padded ones is one of them
+  pub set-padded : (n : ℕ) (l : List A) (v : A) → set (padded n x l) (length l) v ≡ padded n x (l ++ (v ∷ []))
+  set-padded n l v =
+      ap (λ (m : List A). set m (length l) v) (sym (sets-padded n l))
+      ∙ ap (λ (k : ℕ). set (sets (replicate n x) 0 l) k v) (sym (zero-add (length l)))
+      ∙ sym (sets-snoc l (replicate n x) 0 v)
+      ∙ sets-padded n (l ++ (v ∷ []))
+
+  -- an element in another's stead
+  pub set-padded-at : (n : ℕ) (a b : List A) (y v : A) → length a < n → set (padded n x (a ++ y ∷ b)) (length a) v ≡ padded n x (a ++ v ∷ b)
+  unfolding padded
+  set-padded-at n a b y v h =
+      sym (take-set-lt n ((a ++ y ∷ b) ++ replicate n x) (length a) v h)
+      ∙ rw (append-assoc a (y ∷ b) (replicate n x), append-assoc a (v ∷ b) (replicate n x), set-append-seam a y (b ++ replicate n x) v)
+
+  -- what pads a list may as well stand in it
+  pub padded-more : (n : ℕ) (l : List A) → length l < n → padded n x (l ++ (x ∷ [])) ≡ padded n x l
+  padded-more n l h =
+      let e : getD (padded n x l) (length l) x ≡ x = getD-padded n l (length l) x h ∙ List·getD-eq-default l x {n = length l} (omega arith) in
+      sym (set-padded n l x) ∙ ap (set (padded n x l) (length l)) (sym e) ∙ set-getD (padded n x l) (length l) x
 
 -- a function of each place, the open ones too
 pub map-padded : {A B : Type 0} (f : A → B) (x : A) (n : ℕ) (l : List A) → map f (padded n x l) ≡ padded n (f x) (map f l)

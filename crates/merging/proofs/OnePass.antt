@@ -3,7 +3,7 @@
 use mathlib.Core.Path.{_≡_, refl, sym, ap, ap₂, _∙_}
 use mathlib.Core.Bool.{Bool}
 use mathlib.Core.List.{List, [], _∷_, _++_, map, append-nil}
-use Prim.Native.Nat.{ℕ, zero, suc, _+_, _≤_, _<_}
+use Prim.Native.Nat.{ℕ, suc, _+_, _≤_, _<_}
 use native.Mathlib.Omega.{arith}
 use lib.ListN.{length, take, drop, getD, set, length-append, drop-of-length-le}
 use lib.Seq.{length-take-le, append-snoc}
@@ -12,7 +12,7 @@ use Rattle.octets.specs.declared.Order.the-variants.{Less, Same, More}
 use Rattle.laws.specs.Lists.{padded}
 use Rattle.octets.specs.Order.{compare}
 use Rattle.ascending.specs.Ascending.{taken, onePass}
-use Rattle.laws.proofs.Lists.{length-padded, front-step}
+use Rattle.laws.proofs.Lists.{length-padded, front-step, drop-map}
 use Rattle.ascending.proofs.Ascends.{pass-nil-left, pass-nil-right, pass-step}
 use Rattle.channel.specs.declared.Member.{Member}
 use Rattle.channel.specs.declared.Roster.{Roster}
@@ -75,11 +75,6 @@ module _ (list : List Member) (count : ℕ) (more goal : List Member) (b : Begun
       rw is at f
 
 -- ---- the members of a side
-drop-map : {X Y : Type 0} (f : X → Y) (i : ℕ) (l : List X) → drop i (map f l) ≡ map f (drop i l)
-drop-map f zero l = refl
-drop-map f (suc i) [] = refl
-drop-map f (suc i) (x ∷ l) = drop-map f i l
-
 module _ (counts : Bool) (l : List Member) (n : ℕ) where
   -- as it gives them
   abbrev pub side : List Member

@@ -31,7 +31,7 @@ use Rattle.merging.proofs.Plains.{everyone-same, merge-plain, plain-sin
 use Rattle.merging.proofs.Merges.{InOrder, folded, merge-comm, merge-self, folded-plain, merge-assoc, length-folded}
 use Rattle.merging.proofs.Answers.{combined-merge}
 
--- each is in-order
+-- each has its members in order
 in-order : (c : Channel) → List·Memᴰ c lines → InOrder c
 in-order c m = proper c m .ascending
 

@@ -28,11 +28,6 @@ pub record Placed (s : List ℕ) (at : Span) (bytes : List ℕ) : Type 0 where
 pub placed-start : (s : List ℕ) (at : Span) (bytes : List ℕ) → Placed s at bytes → min (at .start) (min (at .end) (length s)) ≡ at .start
 placed-start s at bytes p = omega (arith, p .forward, p .inside)
 
--- and its bytes are no more than those of s
-pub placed-length : (s : List ℕ) (at : Span) (bytes : List ℕ) → Placed s at bytes → length bytes ≤ length s
-unfolding part
-placed-length s at bytes p = omega (arith, ap (λ (l : List ℕ). length l) (p .same), length-take (at .end - at .start) (drop (at .start) s), length-drop (at .start) s)
-
 -- ---- a part with its bytes at a place
 -- bytes that stand at a place are the span from there on, of their length
 standing : (s : List ℕ) (at : ℕ) (bytes more : List ℕ) → at ≤ length s → drop at s ≡ bytes ++ more → Placed s (spanOf (partAt at bytes)) bytes

@@ -16,7 +16,7 @@ use Rattle.message.specs.Grammar.{Part, partAt, word, spaces}
 use Rattle.message.specs.Content.{bytesOf}
 use Rattle.message.specs.Parts.{span, emptyAt, spanOf}
 use Rattle.message.specs.Words.{wordsAt, afterWord, nextWord}
-use Rattle.message.proofs.Runs.{word-past, word-go, word-front, word-in, start-in, start-stops}
+use Rattle.message.proofs.Runs.{word-past, word-front, word-in, start-in, start-stops}
 
 -- ---- SPACEs before a word, and the rest of one, are passed over
 words-skip : (s : List ℕ) (at : ℕ) → wordsAt at s ≡ wordsAt (at + spaces s) (drop (spaces s) s)
@@ -95,10 +95,6 @@ next-past s at h = rw (drop-of-length-le s {i = at} h)
 abbrev pub wordsFrom : List ℕ → ℕ → List (List ℕ)
 wordsFrom s at = bytesOf (wordsAt at (drop at s))
 
-pub words-past : (s : List ℕ) (at : ℕ) → length s ≤ at → wordsFrom s at ≡ []
-unfolding wordsAt
-words-past s at h = rw (drop-of-length-le s {i = at} h)
-
 module _ (s : List ℕ) (at : ℕ) (w : Span) (within : at ≤ length s) (is : w ≡ nextWord s at) where
   abbrev start : ℕ
   start = at + spaces (drop at s)
@@ -131,6 +127,3 @@ module _ (s : List ℕ) (at : ℕ) (w : Span) (within : at ≤ length s) (is : w
 
     pub next-in : w .end ≤ length s
     next-in = omega (arith, ends-at, before-end, word-in (drop start s), length-drop start s)
-
-    pub next-further : at < w .end
-    next-further = omega (arith, ends-at, word-go s start before-end (start-stops s at start within refl before-end))

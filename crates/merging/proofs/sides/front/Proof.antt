@@ -6,7 +6,9 @@ use lib.ListN.{length, take, length-take}
 use borrow.Author.Needs.{needs}
 use Rattle.octets.proofs.Room.{part-front}
 use Rattle.names.specs.Names.{nameLimit}
-use Rattle.merging.proofs.Rooms.{name-put}
+use Rattle.merging.specs.declared.sides.Name.{Name}
+use Rattle.merging.specs.Private.Sides.{nameOf}
+use Rattle.merging.proofs.Rooms.{room-put}
 use Rattle.merging.proofs.sides.front.Statement.{statement}
 use Rattle.merging.proofs.sides.front.Tie as tie
 
@@ -26,10 +28,11 @@ long : (c : tie.Start) → length (c .args .t1) ≡ nameLimit
 long c = search needs
 
 returns : tie.Need-returns
+unfolding nameOf
 returns c =
     let s = c .before .before .before .before .before in
     let n : length (take (s .args .n) (s .args .t1)) ≤ nameLimit = omega (arith, length-take (s .args .n) (s .args .t1), long s) in
-    name-put _ n (c .before .before .part .ensures .0 ∙ part-front (s .args .t1) (s .args .n)) (c .before .put .ensures .1) (c .before .put .ensures .0)
+    room-put {R = Name} (λ b l. record { bytes = b; len = l }) nameLimit _ n (c .before .before .part .ensures .0 ∙ part-front (s .args .t1) (s .args .n)) (c .before .put .ensures .1) (c .before .put .ensures .0)
 
 pub front-spec : {M : Type 1} → statement M
 front-spec = tie.close (tie.spec slice-aggregate-put slice-aggregate-part part-requires put-requires returns)

@@ -10,9 +10,11 @@ use borrow.Author.Needs.{needs}
 use Rattle.octets.specs.Order.{compare, isLess}
 use Rattle.octets.proofs.Room.{part-front}
 use Rattle.channel.specs.Limits.{keyLimit}
+use Rattle.merging.specs.declared.sides.Key.{Key}
 use Rattle.merging.specs.Settings.{greater}
+use Rattle.merging.specs.Private.Sides.{keyOf}
 use Rattle.merging.proofs.Settings.{greater-is}
-use Rattle.merging.proofs.Rooms.{key-put}
+use Rattle.merging.proofs.Rooms.{room-put}
 use Rattle.merging.proofs.sides.greatest.Statement.{statement}
 use Rattle.merging.proofs.sides.greatest.Tie as tie
 
@@ -50,6 +52,7 @@ lengths : (c : tie.After-bytes) → (length (c .before .args .t1) ≡ keyLimit) 
 lengths c = (search needs, search needs)
 
 returns : tie.Need-returns
+unfolding keyOf
 returns c =
     let p = c .before .before in
     let a = p .before .before .before .before .before .before .args in
@@ -58,7 +61,7 @@ returns c =
     let e : now (p .greater-key .result) ≡ greater (take (a .m) (a .t1)) (take (a .n) (a .t3)) = chosen _ _ _ (p .greater-key .ensures) ∙ ap₂ greater first second in
     let l = lengths (p .before .before .before .before .before) in
     let h = greater-is (λ (k : List ℕ). length k ≤ keyLimit) (take (a .m) (a .t1)) (take (a .n) (a .t3)) (omega (arith, length-take (a .m) (a .t1))) (omega (arith, length-take (a .n) (a .t3))) in
-    key-put _ h e (c .before .put .ensures .1) (c .before .put .ensures .0)
+    room-put {R = Key} (λ b l. record { bytes = b; len = l }) keyLimit _ h e (c .before .put .ensures .1) (c .before .put .ensures .0)
 
 pub greatest-spec : {M : Type 1} → statement M
 greatest-spec =
