@@ -7,7 +7,7 @@ use Rattle.message.specs.Reading.{isRead, contentOf}
 use Rattle.writer.specs.Form.{inCapitals}
 use Rattle.writer.specs.Writing.{forwarded}
 use Rattle.writer.proofs.Rounds.{forwarded-reads}
-use Rattle.relay.proofs.Lawful.{Reads}
+use Rattle.retelling.specs.Retelling.{Reads}
 
 -- The written form of a line that was read, its command in capitals, can be read.
 pub as-read : (line : List ℕ) → isRead line ≡ true → Reads line (inCapitals (contentOf line))

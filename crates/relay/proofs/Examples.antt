@@ -45,6 +45,7 @@ use Rattle.sjoin.specs.Modes.{once, goodLetters, modesByte, parametered, goodAr
 use Rattle.sjoin.specs.Entries.{past, idOf, statusOf, isEntry, memberOf, goodEntries}
 use Rattle.sjoin.specs.Join.{argumentsIn, goodCount, joinRules, channelIn, isTime}
 use Rattle.telling.specs.Telling.{lettersFrom, entryOf, paramsOf}
+use Rattle.retelling.specs.Retelling.{Reads}
 use Rattle.relay.specs.declared.Taken.{Taken}
 use Rattle.relay.specs.declared.Command.the-variants.{Sjoin}
 use Rattle.relay.specs.Arrival.{Arrival, arrival}
@@ -53,7 +54,6 @@ use Rattle.relay.specs.Part.{partRules, partedRules, parted}
 use Rattle.relay.specs.Quit.{quitRules, quitted}
 use Rattle.relay.specs.Commands.{commandAmong, commandIn}
 use Rattle.relay.specs.Relay.{takenRules, entryRules, networkBy, messageBy, relayed, processRules, processAnswer}
-use Rattle.relay.proofs.Lawful.{Reads}
 use Rattle.relay.proofs.Results.{OneChanged}
 use Rattle.relay.proofs.Taking.{taken-good, relayed-reads, join-one, after-alone}
 

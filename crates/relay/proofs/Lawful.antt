@@ -15,6 +15,7 @@ use Rattle.writer.specs.Form.{written}
 use Rattle.channel.specs.Limits.{slotCount}
 use Rattle.table.specs.Network.{Network}
 use Rattle.table.specs.Table.{goodNetwork}
+use Rattle.retelling.specs.Retelling.{Reads}
 use Rattle.relay.specs.declared.Command.{Command}
 use Rattle.relay.specs.declared.Change.{Change}
 use Rattle.relay.specs.Arrival.{Arrival, said}
@@ -29,12 +30,6 @@ pub record Unrefused (m : Meaning) (n : Network) (a : Arrival) : Type 0 where
   pub read : isRead (a .line) ≡ true
   pub word : map capital (said a .command) ≡ m .word
   pub none : firstOf (m .rules n a) ≡ accepted
-
--- A message's written form reads as it, and is no longer than the line.
-pub record Reads (line : List ℕ) (d : Content) : Type 0 where
-  pub read : isRead (written d) ≡ true
-  pub message : contentOf (written d) ≡ d
-  pub short : length (written d) ≤ length line
 
 -- The rules stand in the order of their numbers, behind the reader's.
 abbrev pub BehindReader : List Rule → Type 0

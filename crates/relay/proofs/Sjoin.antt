@@ -33,6 +33,7 @@ use Rattle.telling.specs.Telling.{joinMessage}
 use Rattle.sjoin.proofs.Judged.{rules-numbered}
 use Rattle.sjoin.proofs.Wellformed.{read-proper}
 use Rattle.retelling.proofs.Retold.{retold-reads}
+use Rattle.retelling.specs.Retelling.{Reads}
 use Rattle.relay.specs.declared.Command.the-variants.{Sjoin}
 use Rattle.relay.specs.declared.Change.{Change}
 use Rattle.relay.specs.Arrival.{Arrival, said}
@@ -41,7 +42,7 @@ use Rattle.relay.specs.Private.Work.{nowhere}
 use Rattle.relay.specs.Private.Sjoin.{toldOf, joins, joinsHeld, joinsFound}
 use Rattle.relay.specs.Private.Commands.{lookedUp}
 use Rattle.relay.proofs.Judgements.{Does, Judged, refused-judged, settles}
-use Rattle.relay.proofs.Lawful.{Unrefused, Reads, BehindReader, Lawful}
+use Rattle.relay.proofs.Lawful.{Unrefused, BehindReader, Lawful}
 use Rattle.relay.proofs.Asking.{name-found}
 use Rattle.relay.proofs.Results.{back, held-inside, held-number, held-answer, free-inside, free-result, free-rules, full-rules, result-heads, result-proper, joined-good}
 
@@ -111,8 +112,7 @@ module _ (n : Network) (a : Arrival) where
     unfolding outgoing channelIn
     reads =
         let h = result-heads n incoming (proper (p .read) own-none) (p .good) in
-        let r = retold-reads (a .line) (p .read) own-none (p .word) (resulting n incoming .name) (resulting n incoming .time) (h .0) (h .1) (h .2) (h .3) in
-        record { read = r .0; message = r .1; short = r .2 }
+        retold-reads (a .line) (p .read) own-none (p .word) (resulting n incoming .name) (resulting n incoming .time) (h .0) (h .1) (h .2) (h .3)
 
 -- the slot that is looked for is that of its channel
 found : (n : Network) (a : Arrival) → isRead (a .line) ≡ true → firstOf (joinRules (said a)) ≡ accepted

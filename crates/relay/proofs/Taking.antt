@@ -20,13 +20,14 @@ use Rattle.table.specs.Table.{goodNetwork, goodTable}
 use Rattle.table.specs.Slots.{slotIn, placeOf}
 use Rattle.sjoin.specs.Join.{channelIn}
 use Rattle.sjoin.proofs.Wellformed.{read-proper}
+use Rattle.retelling.specs.Retelling.{Reads}
 use Rattle.relay.specs.declared.Command.{Command}
 use Rattle.relay.specs.declared.Command.the-variants.{Sjoin, Unknown}
 use Rattle.relay.specs.Arrival.{Arrival, said}
 use Rattle.relay.specs.Sjoin.{resulting, joined}
 use Rattle.relay.specs.Commands.{commands, meaningOf, commandIn}
 use Rattle.relay.specs.Relay.{meaningIn, takenRules, networkBy, messageBy, relayed, entryRules, processRules, processAnswer, sent}
-use Rattle.relay.proofs.Lawful.{Unrefused, Reads}
+use Rattle.relay.proofs.Lawful.{Unrefused}
 use Rattle.relay.proofs.Commands.{unknown-refused, lawful, word-of}
 use Rattle.relay.proofs.Entering.{enters}
 use Rattle.relay.proofs.Sjoin.{join-none}

@@ -26,7 +26,8 @@ use Rattle.message.specs.Content.{Content, prefixIs}
 use Rattle.sjoin.specs.Modes.{keyLetter, limitLetter, isLimit, goodArgument, goodArguments, argumentOf, isModes}
 use Rattle.sjoin.specs.Entries.{goodEntries, named}
 use Rattle.sjoin.specs.Join.{listIn, argumentsIn, goodCount, isTime, joinRules, channelIn}
-use Rattle.telling.specs.Telling.{modesText, listText, paramsOf}
+use Rattle.telling.specs.Telling.{modesText, listText, paramsOf, sjoin}
+use Rattle.retelling.specs.Retelling.{TellsBack}
 use Rattle.retelling.proofs.Entered.{members-back, list-good}
 use Rattle.sjoin.proofs.Judged.{sourced, led, listed}
 use Rattle.retelling.proofs.Lettered.{modes-back}
@@ -107,7 +108,7 @@ shape false false sid command t n m k l s = (refl, refl, refl)
 
 -- ---- the channel told is the channel
 -- The channel that is read of what is told is the channel.
-pub channel-back : (c : Channel) → Proper c → (sid command : List ℕ) → channelIn (content sid command (paramsOf c)) ≡ c
+channel-back : (c : Channel) → Proper c → (sid command : List ℕ) → channelIn (content sid command (paramsOf c)) ≡ c
 unfolding channelIn paramsOf argumentOf
 channel-back c p sid command =
     let s = c .settings in
@@ -119,7 +120,7 @@ channel-back c p sid command =
 
 -- ---- and no rule refuses it
 -- No rule refuses what a server tells of a channel.
-pub rules-back : (c : Channel) → Proper c → (sid command : List ℕ) → isServerId sid ≡ true → accepted ≡ firstOf (joinRules (content sid command (paramsOf c)))
+rules-back : (c : Channel) → Proper c → (sid command : List ℕ) → isServerId sid ≡ true → accepted ≡ firstOf (joinRules (content sid command (paramsOf c)))
 unfolding paramsOf isModes prefixIs
 rules-back c p sid command h =
     let s = c .settings in
@@ -134,3 +135,7 @@ rules-back c p sid command h =
     (led d (time-back c p .0) (λ e. omega (arith, time-back c p .1, e, p .from)) (p .name)
     (rw (sh .1, mb .0, mb .2) (fits a b (s .key) (digitsOf (s .limit)) (key-good s (p .settings)) (limit-good s (p .settings))))))
     (ap goodEntries (sh .2) ∙ list-good (c .members) (nil-length (c .members) ∙ ne-eqb (length (c .members)) 0 (λ e. omega (arith, p .some, e))) (p .listed)))
+
+-- What a server tells of a channel as document 01 has it reads back as that channel.
+pub told-back : (c : Channel) → Proper c → (sid : List ℕ) → isServerId sid ≡ true → TellsBack sid c
+told-back c p sid h = record { rules = sym (rules-back c p sid sjoin h); channel = channel-back c p sid sjoin }

@@ -1,4 +1,4 @@
--- The law that the crates above cite, those that lead to it, and an example.
+-- The theorem that the crates above cite, what leads to it, and an example.
 pub mod Retold
 mod Entered
 mod Lettered

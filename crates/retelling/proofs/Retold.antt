@@ -24,6 +24,7 @@ use Rattle.telling.specs.Telling.{sjoin, joinMessage}
 use Rattle.sjoin.proofs.Joined.{passes}
 use Rattle.sjoin.proofs.Wellformed.{read-proper}
 use Rattle.telling.proofs.Writable.{told-good}
+use Rattle.retelling.specs.Retelling.{Reads}
 use Rattle.retelling.proofs.Shorter.{told-shorter}
 
 module _ (line : List ℕ) (read : isRead line ≡ true) (none : firstOf (joinRules (contentOf line)) ≡ accepted) where
@@ -42,10 +43,10 @@ module _ (line : List ℕ) (read : isRead line ≡ true) (none : firstOf (joinRu
           omega (arith, told-shorter content none (read-proper line read none) (Option·getD (content .prefix) []) name time (s .0) c named same from until, content-short line read)
 
       -- What a line told, told again, is read as it is, and is no longer than the line.
-      pub retold-reads : (isRead (written message) ≡ true) × (contentOf (written message) ≡ message) × (length (written message) ≤ length line)
+      pub retold-reads : Reads line message
       retold-reads =
           let o = channelAt name time (channelIn content) in
           let s = prefix-there isServerId (content .prefix) (passes content none .source) in
           let p = proper-at name time (channelIn content) named from (omega (arith, read-proper line read none .until)) (read-proper line read none) in
           let r = good-line message (told-good (Option·getD (content .prefix) []) o (s .1) p) (omega (arith, retold-short, read-small line read)) in
-          (r .0, r .1, retold-short)
+          record { read = r .0; message = r .1; short = retold-short }

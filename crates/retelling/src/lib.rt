@@ -1,1 +1,2 @@
-// What is told of a channel reads back as it; what stands of a line's channel is told in no more bytes than the line had: laws in proofs/. No code.
+// What is told of a channel reads back as it; what stands of a line's channel is told in no more bytes than the line had: claims in specs/, theorems in proofs/. No
+// code.

@@ -98,6 +98,10 @@ judged c =
     let j = law e .judged (networkOf (table e)) (came e) (good (passed c)) (sixteen (start e)) (q .0) (q .1) (change c) (rw (c .before .slot-of .ensures, q .2) at (c .settled .ensures)) in
     (enters (table e) (came e) (length (lent e)) (passes (passed c)) ∙ command-decides (came e) (q .0) (networkOf (table e)) ∙ sym (j .number), j)
 
+-- ---- the line is sent: no number refused it
+abbrev accepts : tie.After-send → tie.Else3
+accepts c = c .before .before
+
 -- ---- a refusal
 refuses : (c : Entered) (k : ℕ) → number c ≡ k → (k ≡ accepted → ⊥) → (r : Taken) → r ≡ refused (table c) k
     → (r ≡ processAnswer (table c) (came c) (length (lent c))) × (lent c ≡ front (sent (table c) (came c) (length (lent c))) (lent c))
@@ -159,7 +163,7 @@ count-requires : tie.Need-count-requires
 count-requires c κs = search needs
 
 changed-requires : tie.Need-changed-requires
-changed-requires c κs = judged (c .before .before .before .before .before .before .before) .1 .inside
+changed-requires c κs = judged (accepts (c .before .before .before .before) .before) .1 .inside
 
 same-length : tie.Need-same-length
 same-length c = search needs
@@ -168,16 +172,16 @@ returns-4 : tie.Need-returns-4
 returns-4 c =
     let set = c .before .before in
     let sends = set .before .before .before in
-    let accepts = sends .before .before in
-    let j = accepts .before in
+    let left = accepts sends .if3 .left in
+    let j = accepts sends .before in
     let e = entered j in
-    let none : number e ≡ accepted = judged j .0 ∙ accepts .if3 .left in
-    let does = judged j .1 .does (sym (judged j .1 .number) ∙ accepts .if3 .left) in
+    let none : number e ≡ accepted = judged j .0 ∙ left in
+    let does = judged j .1 .does (sym (judged j .1 .number) ∙ left) in
     let parsed = asked j .before .parse in
     let m : parsed .result .message ≡ messageOf (came e .line) = ap (λ (x : Parsed). x .message) (parsed .ensures .0) in
     let w = ap (λ (x : Message). writtenBy (change j .sending) (change j) (came e .line) x (lent e)) m ∙ written-line (table e) (came e) (length (lent e)) none (change j) does (lent e) refl in
     let s = sends .send .ensures in (
-      answer-taken (table e) (came e) (length (lent e)) none (change j) does _ _ _ _ _ (accepts .if3 .left) (c .changed .ensures) (set .relay-set .ensures) (c .before .count .ensures) (s .0 ∙ ap (λ (l : List ℕ). length l) w),
+      answer-taken (table e) (came e) (length (lent e)) none (change j) does _ _ _ _ _ left (c .changed .ensures) (set .relay-set .ensures) (c .before .count .ensures) (s .0 ∙ ap (λ (l : List ℕ). length l) w),
       s .1 ∙ ap (λ (l : List ℕ). front l (lent e)) (w ∙ sym (sent-line (table e) (came e) (length (lent e)) none)),
     )
 

@@ -1,10 +1,16 @@
 -- `send` meets its contract: what goes out is written by its own function, or nothing is. Assumes nothing.
 use mathlib.Core.Path.{_≡_, refl}
 use borrow.Author.Needs.{needs}
+use Rattle.relay.specs.declared.Change.{Change}
 use Rattle.relay.specs.declared.Sending.the-variants.{Silent, AsRead, Anew}
 use Rattle.relay.proofs.acting.send.Statement.{statement}
 use Rattle.relay.proofs.acting.send.Tie as tie
 
+-- the change, from where its sending is looked at
+abbrev change : tie.After-slice-known → Change
+change c = c .before .before .args .change
+
+-- ---- the needs
 enum-told : tie.Need-enum-told
 enum-told c = search needs
 
@@ -21,19 +27,25 @@ tell-requires : tie.Need-tell-requires
 tell-requires c κs = search needs
 
 returns : tie.Need-returns
-returns c = let q : c .before .before .before .before .args .change .sending ≡ Silent = cc in rw q (refl, refl)
+returns c = let q : change (c .before .before) .sending ≡ Silent = cc in rw q (refl, refl)
 
 same-length : tie.Need-same-length
 same-length c = search needs
 
 returns-2 : tie.Need-returns-2
-returns-2 c = let q : c .before .before .before .before .before .before .before .before .args .change .sending ≡ AsRead = cc in rw q (c .before .before .pass-on .ensures)
+returns-2 c =
+    let passed = c .before .before in
+    let q : change (passed .before .before .before .before) .sending ≡ AsRead = cc in
+    rw q (passed .pass-on .ensures)
 
 same-length-2 : tie.Need-same-length-2
 same-length-2 c = search needs
 
 returns-3 : tie.Need-returns-3
-returns-3 c = let q : c .before .before .before .before .before .before .before .before .args .change .sending ≡ Anew = cc in rw q (c .before .before .tell .ensures)
+returns-3 c =
+    let told = c .before .before in
+    let q : change (told .before .before .before .before) .sending ≡ Anew = cc in
+    rw q (told .tell .ensures)
 
 pub send-spec : {M : Type 1} → statement M
 send-spec =
