@@ -113,7 +113,8 @@ module _ (t : Table) (a : Arrival) (n : ℕ) where
       let e = enters t a n h in
       (answer-number ∙ e, answer-network ∙ rw e, rw e)
 
--- So two tables that hold the same network answer an arrival alike, whatever their links are.
+-- So two tables that hold the same network, where none of those rules applies in either, give an arrival one number, one network and one line, whatever else their
+-- links are.
 pub after-alone : (t u : Table) (a : Arrival) (n m : ℕ) → networkOf t ≡ networkOf u → firstOf (entryRules t a n) ≡ accepted → firstOf (entryRules u a m) ≡ accepted
     → (processAnswer t a n .number ≡ processAnswer u a m .number)
     × (networkOf (processAnswer t a n .table) ≡ networkOf (processAnswer u a m .table))

@@ -1,4 +1,4 @@
--- The theorem that the crates above cite, what leads to it, and an example.
+-- The theorem that the crates above cite and what leads to it; that what is told reads back; an example.
 pub mod Retold
 mod Entered
 mod Lettered
