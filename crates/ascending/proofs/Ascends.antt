@@ -2,8 +2,8 @@
 -- stay so, are united in one pass, and take an entry from the end. Assumes nothing.
 use Prim.Native.Nat.{ℕ, zero, suc, _+_, _≤_, _<_}
 use mathlib.Core.Path.{_≡_, refl, sym, ap, _∙_}
-use mathlib.Core.Bool.{Bool, true, false, true≢false}
-use mathlib.Core.List.{List, [], _∷_, _++_}
+use mathlib.Core.Bool.{Bool, true, false, true≢false, _&&_}
+use mathlib.Core.List.{List, [], _∷_, _++_, map}
 use native.Mathlib.Numerals.{add-one}
 use native.Mathlib.Omega.{arith}
 use lib.ListN.{length, take, getD}
@@ -121,7 +121,8 @@ module _ {E P : Type 0} (K : Kind E P) where
   unite-past x a [] h = refl
   unite-past x a (y ∷ b) h = ap (λ (l : List E). unite K l b) (put-more K y x a (h .0)) ∙ unite-past x (put K y a) b (h .1)
 
-  unite-nil-right : (a : List E) → unite K a [] ≡ a
+  -- nothing united leaves a list as it is
+  pub unite-nil-right : (a : List E) → unite K a [] ≡ a
   unfolding unite
   unite-nil-right a = refl
 
@@ -175,6 +176,11 @@ module _ {E P : Type 0} (K : Kind E P) where
     pass-unite [] b h = sym (unite-nil-left b h)
     pass-unite (x ∷ a) b h = against-unite x a (onePass K a) (λ b h. pass-unite a b h) b h
 
+  -- the first entry is put, and then the others
+  pub unite-next : (e : E) (a b : List E) → unite K a (e ∷ b) ≡ unite K (put K e a) b
+  unfolding unite
+  unite-next e a b = refl
+
   pub unite-append : (a b c : List E) → unite K a (b ++ c) ≡ unite K (unite K a b) c
   unfolding unite
   unite-append a [] c = refl
@@ -210,6 +216,18 @@ module _ {E P : Type 0} (K : Kind E P) where
   ascends-passes [] h = refl
   ascends-passes (e ∷ []) h = refl
   ascends-passes (e ∷ d ∷ l) h = rw (h .0 .0) (ascends-passes (d ∷ l) (h .1))
+
+  -- a list of one entry, or of none, passes
+  pub ascends-short : (l : List E) → length l ≤ 1 → ascends K l ≡ true
+  unfolding ascends
+  ascends-short [] h = refl
+  ascends-short (e ∷ []) h = refl
+  ascends-short (e ∷ d ∷ l) h = absurd (omega arith)
+
+  -- the first two are compared, and then those behind the first
+  pub ascends-step : (e d : E) (l : List E) → ascends K (e ∷ d ∷ l) ≡ isLess (compare (K .key e) (K .key d)) && ascends K (d ∷ l)
+  unfolding ascends
+  ascends-step e d l = refl
 
 -- ---- how many
 module _ {E P : Type 0} (K : Kind E P) where
@@ -302,3 +320,25 @@ module _ {E P : Type 0} (K : Kind E P) (S : Stays K) where
   unfolding unite
   ascending-unite a [] h = h
   ascending-unite a (e ∷ b) h = ascending-unite (put K e a) b (ascending-put e a h)
+
+-- ---- entries made into those of another kind, with the same keys
+module _ {E P F Q : Type 0} (K : Kind E P) (L : Kind F Q) (f : E → F) (keys : (e : E) → L .key (f e) ≡ K .key e) where
+  above-made : (x : List ℕ) (l : List E) → Above K x l → Above L x (map f l)
+  above-made x [] h = tt
+  above-made x (e ∷ l) h = (rw (keys e) (h .0), above-made x l (h .1))
+
+  -- an ascending list stays so
+  pub ascending-made : (l : List E) → Ascending K l → Ascending L (map f l)
+  ascending-made [] h = tt
+  ascending-made (e ∷ l) h = (rw (keys e) (above-made (K .key e) l (h .0)), ascending-made l (h .1))
+
+  -- what is put among the entries is put among those made of them, if those that are joined are
+  pub put-made : ((e d : E) → f (joined K e d) ≡ joined L (f e) (f d)) → (e : E) (l : List E) → map f (put K e l) ≡ put L (f e) (map f l)
+  unfolding put insert
+  put-made joins e [] = refl
+  put-made joins e (d ∷ l) = rw (keys e, keys d) (go (compare (K .key e) (K .key d)) (put-made joins e l))
+    where
+      go : (o : Order) → map f (put K e l) ≡ put L (f e) (map f l) → map f (insert K o e d l (put K e l)) ≡ insert L o (f e) (f d) (map f l) (put L (f e) (map f l))
+      go Less ih = refl
+      go Same ih = ap (λ (x : F). x ∷ map f l) (joins e d)
+      go More ih = ap (_∷_ (f d)) ih

@@ -106,6 +106,19 @@ module _ {E P : Type 0} (K : Kind E P) (S : Stays K) where
   pub has-unite : (x : List ℕ) (a b : List E) → has K x (unite K a b) ≡ (has K x a || has K x b)
   has-unite x = total-unite K _||_ false joining-or (λ e. same x (K .key e)) (has-joined x)
 
+  -- ---- two ascending lists united in either order
+  module _ (a b : List E) (h : Ascending K a) (k : Ascending K b) where
+    has-either : (x : List ℕ) → has K x (unite K a b) ≡ has K x (unite K b a)
+    has-either x = has-unite x a b ∙ joining-or .comm (has K x a) (has K x b) ∙ sym (has-unite x b a)
+
+    -- have the same keys at the same places
+    pub unite-keys : map (K .key) (unite K a b) ≡ map (K .key) (unite K b a)
+    unite-keys = same-keys K (unite K a b) (unite K b a) (ascending-unite K S a b h) (ascending-unite K S b a k) has-either
+
+    -- and so are equally long
+    pub unite-length : length (unite K a b) ≡ length (unite K b a)
+    unite-length = same-length K (unite K a b) (unite K b a) (ascending-unite K S a b h) (ascending-unite K S b a k) has-either
+
 -- ---- kinds whose parts fit together
 module _ {E P : Type 0} (K : Kind E P) (M : Keyed K) where
   -- the same keys with other loads

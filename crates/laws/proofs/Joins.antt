@@ -3,11 +3,11 @@
 use Prim.Native.Nat.{ℕ, _+_, _*_, _/_, _%_, _^_, max}
 use mathlib.Core.Path.{_≡_, refl, sym, ap, ap₂, _∙_}
 use mathlib.Core.Bool.{false, _||_, or-assoc, or-comm, or-self}
-use mathlib.Core.List.{List, [], _∷_, _++_, map, List·Memᴰ, List·Memᴰ·head, List·Memᴰ·tail, Memᴰ·cast, Memᴰ·map, Memᴰ·of-map}
+use mathlib.Core.List.{List, [], _∷_, _++_, map, append-assoc, List·Memᴰ, List·Memᴰ·head, List·Memᴰ·tail, Memᴰ·cast, Memᴰ·map, Memᴰ·of-map}
 use native.Mathlib.Omega.{arith}
 use lib.Arith.{bin-ind}
 use lib.Bits.{bitOr, or-step, or-comm as bits-comm, or-self as bits-self, or-zero-l, or-shr}
-use Rattle.laws.specs.Joins.{total}
+use Rattle.laws.specs.Joins.{total, concatenated}
 
 pub record Joining {A : Type 0} (join : A → A → A) (none : A) : Type 0 where
   pub assoc : (a b c : A) → join (join a b) c ≡ join a (join b c)
@@ -90,3 +90,9 @@ joining-bits = record { assoc = bits-assoc; comm = bits-comm; idem = bits-self; 
 -- a union's digit at a place is the greater of the two
 pub bits-digit : (k a b : ℕ) → bitOr a b / 2 ^ k % 2 ≡ max (a / 2 ^ k % 2) (b / 2 ^ k % 2)
 bits-digit k a b = rw (or-shr a b k) (bits-last (a / 2 ^ k) (b / 2 ^ k))
+
+-- ---- lists one behind the other
+-- those of two lists of them
+pub concatenated-append : {A : Type 0} (l m : List (List A)) → concatenated (l ++ m) ≡ concatenated l ++ concatenated m
+concatenated-append [] m = refl
+concatenated-append (s ∷ l) m = ap (_++_ s) (concatenated-append l m) ∙ sym (append-assoc s (concatenated l) (concatenated m))

@@ -7,7 +7,7 @@ use native.Mathlib.Nat.{zero-add}
 use native.Mathlib.Numerals.{add-one}
 use native.Mathlib.Omega.{arith}
 use lib.ListN.{length, take, drop, getD, set, replicate, drop-of-length-le, length-append, length-take, length-drop, length-map, length-replicate, getD-replicate, List·getD-map, List·getD-eq-default}
-use lib.Seq.{take-suc, take-all, drop-cons, take-append-le, drop-append-le, take-append-seam, length-take-le, take-take, getD-take, getD-drop, ext-getD, sets, set-append-seam, set-getD, take-set-lt}
+use lib.Seq.{take-suc, take-all, drop-cons, take-append-le, drop-append-le, take-append-seam, take-append-add, length-take-le, take-take, getD-take, getD-drop, ext-getD, sets, set-append-seam, set-getD, take-set-lt}
 use lib.Dec.{eqb, leb, ltb}
 use borrow.Author.Tests.{ne-eqb, leb-true, leb-false, ltb-true, ltb-false}
 use Rattle.laws.specs.Lists.{all, isNil, sameBy, padded}
@@ -31,6 +31,10 @@ module _ {A : Type 0} where
 
     pub take-next : take (i + 1) s ≡ take i s ++ (x ∷ [])
     take-next = rw (add-one i, take-suc s i x drop-inside) (ap (λ (l : List A). take i s ++ (getD l 0 x ∷ [])) split)
+
+  -- behind the first element
+  pub drop-behind : (x : A) (s : List A) (i : ℕ) → drop (1 + i) (x ∷ s) ≡ drop i s
+  drop-behind x s i = let e : 1 + i ≡ suc i = omega arith in ap (λ (k : ℕ). drop k (x ∷ s)) e
 
   -- inside a list the default of `getD` doesn't matter
   pub getD-any : (l : List A) (k : ℕ) (d e : A) → k < length l → getD l k d ≡ getD l k e
@@ -273,6 +277,13 @@ module _ {A : Type 0} (x : A) where
   pub take-padded : (n : ℕ) (l : List A) → length l ≤ n → take (length l) (padded n x l) ≡ l
   unfolding padded
   take-padded n l h = take-take (length l) n (l ++ replicate n x) h ∙ take-append-seam l (replicate n x)
+
+  -- and padding stands behind it
+  pub padded-behind : (n : ℕ) (l : List A) → length l ≤ n → padded n x l ≡ l ++ replicate (n - length l) x
+  unfolding padded
+  padded-behind n l h =
+      let e : length l + (n - length l) ≡ n = omega arith in
+      ap (λ (k : ℕ). take k (l ++ replicate n x)) (sym e) ∙ take-append-add l (replicate n x) (n - length l) ∙ ap (_++_ l) (take-replicate (n - length l) n (omega arith))
 
   -- the places that it leaves open hold x
   pub all-padded : (p : A → Bool) → p x ≡ true → (n : ℕ) (l : List A) → all p (drop (length l) (padded n x l)) ≡ true

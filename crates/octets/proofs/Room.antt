@@ -5,13 +5,13 @@ use mathlib.Core.List.{List, [], _++_, append-nil, append-assoc}
 use Prim.Native.Nat.{ℕ, suc, _+_, _-_, _≤_, _<_}
 use native.Mathlib.Nat.{zero-add}
 use native.Mathlib.Omega.{arith}
-use lib.ListN.{length, take, drop, getD, replicate, length-append, length-drop, length-replicate, getD-replicate}
-use lib.Seq.{take-append-seam, drop-append-add, drop-drop, take-at, take-all, length-take-le, getD-append-add, getD-drop}
+use lib.ListN.{length, take, drop, getD, replicate, length-append, length-take, length-drop, length-replicate, getD-replicate, take-append-drop, drop-of-length-le}
+use lib.Seq.{take-append-seam, drop-append-add, drop-drop, drop-at, take-at, take-all, length-take-le, getD-append-add, getD-drop}
 use borrow.Author.Tests.{le-leb, leb-true, leb-false, lt-leb}
 use Rattle.laws.specs.Lists.{padded}
 use Rattle.octets.specs.Room.{part, fits, putAt, endOf, front}
 use Rattle.octets.specs.Private.Additions.{Holds, Adds}
-use Rattle.laws.proofs.Lists.{padded-take}
+use Rattle.laws.proofs.Lists.{front-part, padded-take}
 
 -- ---- a part at either end
 pub part-front : (s : List ℕ) (n : ℕ) → part s 0 n ≡ take n s
@@ -26,6 +26,16 @@ part-next s start n = let e : start + n - start ≡ n = omega arith in rw e
 pub part-back : (s : List ℕ) (start end : ℕ) → length s ≤ end → part s start end ≡ drop start s
 unfolding part
 part-back s start end h = take-all (end - start) (drop start s) (omega (arith, length-drop start s))
+
+-- as many bytes as lie between the two places
+pub length-part : (s : List ℕ) (start end : ℕ) → end ≤ length s → length (part s start end) ≡ end - start
+unfolding part
+length-part s start end h = length-take-le (end - start) (drop start s) (omega (arith, length-drop start s))
+
+-- and no more, wherever these are
+pub part-short : (s : List ℕ) (start end : ℕ) → length (part s start end) ≤ end - start
+unfolding part
+part-short s start end = omega (arith, length-take (end - start) (drop start s))
 
 -- ---- what is put
 module _ (out : List ℕ) (at : ℕ) (p : List ℕ) where
@@ -63,6 +73,52 @@ length-put out at p = go (fits out at p) refl
         let h : at + length p ≤ length out = leb-true (at + length p) (length out) e in
         rw (put-fits out at p h) (simp length-append (omega (arith, length-take-le at out (omega arith), length-drop (at + length p) out)))
     go false e = ap (λ (l : List ℕ). length l) (put-over out at p (leb-false (at + length p) (length out) e))
+
+-- three parts, one behind the other, that fill the room
+pub put-three : (z p q r x y w : List ℕ) (i j : ℕ) → i ≡ length p → j ≡ length p + length q → length p + length q + length r ≡ length z
+    → x ≡ putAt z 0 p → y ≡ putAt x i q → w ≡ putAt y j r → w ≡ p ++ q ++ r
+put-three z p q r x y w i j ei ej n ex ey ew =
+    let a : x ≡ front p z = ex ∙ put-front z p (omega arith) in
+    let b : y ≡ front (p ++ q) z = ey ∙ rw (a, ei) (put-behind z p q (omega arith)) in
+    let c : w ≡ front ((p ++ q) ++ r) z = ew ∙ rw (b, ej, ← length-append p q) (put-behind z (p ++ q) r (omega (arith, length-append p q))) in
+    c
+    ∙ ap (λ (l : List ℕ). ((p ++ q) ++ r) ++ l) (drop-of-length-le z {i = length ((p ++ q) ++ r)} (omega (arith, length-append (p ++ q) r, length-append p q)))
+    ∙ append-nil ((p ++ q) ++ r)
+
+-- ---- a part of bytes into which others were put
+module _ (out : List ℕ) (at : ℕ) (p : List ℕ) (h : at + length p ≤ length out) where
+  -- those
+  pub part-put : part (putAt out at p) at (at + length p) ≡ p
+  part-put =
+      part-next (putAt out at p) at (length p)
+      ∙ ap (λ (l : List ℕ). take (length p) (drop at l)) (put-fits out at p h ∙ append-assoc (take at out) p (drop (at + length p) out))
+      ∙ ap (take (length p)) (drop-at (take at out) (p ++ drop (at + length p) out) at (length-take-le at out (omega arith)))
+      ∙ take-append-seam p (drop (at + length p) out)
+
+  -- or what stood before them
+  pub part-before : (start n : ℕ) → start + n ≤ at → part (putAt out at p) start (start + n) ≡ part out start (start + n)
+  part-before start n k =
+      let e : length (take at out) ≡ at = length-take-le at out (omega arith) in
+      part-next (putAt out at p) start n
+      ∙ ap (λ (l : List ℕ). take n (drop start l)) (put-fits out at p h)
+      ∙ front-part (take at out ++ p) (drop (at + length p) out) start n (omega (arith, length-append (take at out) p))
+      ∙ front-part (take at out) p start n (omega arith)
+      ∙ sym (front-part (take at out) (drop at out) start n (omega arith))
+      ∙ ap (λ (l : List ℕ). take n (drop start l)) (take-append-drop at out)
+      ∙ sym (part-next out start n)
+
+  -- or behind them
+  pub part-behind : (start end : ℕ) → at + length p ≤ start → part (putAt out at p) start end ≡ part out start end
+  unfolding part
+  part-behind start end k =
+      let e : length (take at out ++ p) + (start - (at + length p)) ≡ start = omega (arith, length-append (take at out) p, length-take-le at out (omega arith)) in
+      let f : at + length p + (start - (at + length p)) ≡ start = omega arith in
+      ap (take (end - start))
+      (ap (drop start) (put-fits out at p h)
+      ∙ ap (λ (n : ℕ). drop n ((take at out ++ p) ++ drop (at + length p) out)) (sym e)
+      ∙ drop-append-add (take at out ++ p) (drop (at + length p) out) (start - (at + length p))
+      ∙ drop-drop (start - (at + length p)) (at + length p) out
+      ∙ ap (λ (n : ℕ). drop n out) f)
 
 -- ---- what a line holds
 pub holds-nothing : (line : List ℕ) → Holds line 0 []

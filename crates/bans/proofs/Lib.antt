@@ -1,0 +1,10 @@
+-- Laws that the crates above cite; then laws for this crate alone, and examples.
+pub mod Slots
+pub mod Keeping
+pub mod Uniting
+pub mod Encoding
+pub mod Matching
+mod Places
+mod Placing
+mod Listing
+mod Examples
