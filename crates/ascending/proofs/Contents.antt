@@ -100,9 +100,6 @@ module _ {E P : Type 0} (K : Kind E P) (S : Stays K) where
   has-joined : (x : List ℕ) (e d : E) → K .key e ≡ K .key d → same x (K .key (joined K e d)) ≡ (same x (K .key e) || same x (K .key d))
   has-joined x e d h = rw (S .stays e d h, h) (sym (or-self (same x (K .key d))))
 
-  pub has-put : (x : List ℕ) (e : E) (l : List E) → has K x (put K e l) ≡ (same x (K .key e) || has K x l)
-  has-put x = total-put K _||_ false joining-or (λ e. same x (K .key e)) (has-joined x)
-
   pub has-unite : (x : List ℕ) (a b : List E) → has K x (unite K a b) ≡ (has K x a || has K x b)
   has-unite x = total-unite K _||_ false joining-or (λ e. same x (K .key e)) (has-joined x)
 

@@ -13,7 +13,8 @@ use Rattle.laws.proofs.Bools.{and-left, and-right}
 use Rattle.laws.proofs.Lists.{all-head, all-tail, all-cons, all-from, padded-take, padded-behind, drop-behind}
 use Rattle.octets.specs.Bytes.{isZero}
 use Rattle.octets.proofs.Room.{part-next}
-use Rattle.bans.specs.Limits.{maskLimit, roomSize, roomsSize, banLimit, listSize}
+use Rattle.channel.specs.Limits.{maskLimit, banLimit}
+use Rattle.bans.specs.Limits.{roomSize, roomsSize, listSize}
 use Rattle.bans.specs.Masks.{isMask, maskIn, roomOf, chunks, rooms, maskCount, usedRooms, masks, encodeList}
 use Rattle.bans.specs.WellFormed.{goodRoom, wellFormedList}
 use Rattle.bans.proofs.Places.{count-room, length-masks}

@@ -13,12 +13,13 @@ use Rattle.ascending.specs.Ascending.{insert, put, unite, ascends}
 use Rattle.names.specs.Fold.{fold}
 use Rattle.glob.specs.Mask.{matchAnswer, matchRules, afterRun, firstThen, matchesByte}
 use Rattle.glob.specs.Mask as mask
+use Rattle.channel.specs.Limits.{maskLimit}
 use Rattle.bans.specs.declared.BanList.{BanList}
-use Rattle.bans.specs.Limits.{maskLimit, listSize, bansSize}
-use Rattle.bans.specs.Masks.{isMask, maskIn, roomOf, bySpelling, chunks, rooms, maskCount, usedRooms, masks, encodeList}
+use Rattle.bans.specs.Limits.{listSize, bansSize}
+use Rattle.bans.specs.Masks.{isMask, maskIn, roomOf, bySpelling, chunks, rooms, maskCount, usedRooms, masks, maskStart, encodeList}
 use Rattle.bans.specs.WellFormed.{goodRoom, wellFormedList, isUnused, goodList}
-use Rattle.bans.specs.Putting.{putIn, withRooms, putAnswer, putAll, uniteAnswer}
-use Rattle.bans.specs.Slots.{offset}
+use Rattle.bans.specs.Putting.{putIn, withRooms, putAnswer, putAll, addAnswer, uniteAnswer}
+use Rattle.bans.specs.Slots.{offset, listWith}
 use Rattle.bans.specs.Matching.{someMatches}
 
 are-masks : all isMask ((42 ∷ []) ∷ (colon ∷ comma ∷ bell ∷ 255 ∷ []) ∷ replicate maskLimit 97 ∷ []) ≡ true
@@ -45,21 +46,21 @@ unfolding wellFormedList encodeList all ascends goodRoom isMask isPlain maskIn p
 no-lists = refl
 
 -- A in a list: a is there already, and its spelling stays
-first-spelling : masks (putAnswer (97 ∷ []) (record { room = encodeList ((65 ∷ []) ∷ []) }) .list .room) ≡ (65 ∷ []) ∷ []
+first-spelling : masks (putAnswer (97 ∷ []) (listWith ((65 ∷ []) ∷ [])) .list .room) ≡ (65 ∷ []) ∷ []
 unfolding putAnswer putIn withRooms masks put insert encodeList maskIn part roomOf padded chunks rooms maskCount usedRooms compare fold within
 first-spelling = refl
 
 -- A and b united with a and c: a is there already, and the others come in their order
-united : masks (uniteAnswer (record { room = encodeList ((65 ∷ []) ∷ (98 ∷ []) ∷ []) }) (record { room = encodeList ((97 ∷ []) ∷ (99 ∷ []) ∷ []) }) .list .room)
+united : masks (uniteAnswer (listWith ((65 ∷ []) ∷ (98 ∷ []) ∷ [])) (listWith ((97 ∷ []) ∷ (99 ∷ []) ∷ [])) .list .room)
     ≡ (65 ∷ []) ∷ (98 ∷ []) ∷ (99 ∷ []) ∷ []
-unfolding uniteAnswer putAll putAnswer putIn withRooms masks put insert encodeList maskIn part roomOf padded chunks rooms maskCount usedRooms compare fold within
+unfolding addAnswer putAll putAnswer putIn withRooms masks put insert encodeList maskIn part roomOf padded chunks rooms maskCount usedRooms compare fold within
 united = refl
 
 -- 32 masks of one byte each: ! is one of them, a would be the 33rd
 many : List (List ℕ)
 many = map (λ b. b ∷ []) (33 ∷ 34 ∷ 35 ∷ 36 ∷ 37 ∷ 38 ∷ 39 ∷ 40 ∷ 41 ∷ 42 ∷ 43 ∷ 44 ∷ 45 ∷ 46 ∷ 47 ∷ 48 ∷ 49 ∷ 50 ∷ 51 ∷ 52 ∷ 53 ∷ 54 ∷ 55 ∷ 56 ∷ 57 ∷ 58 ∷ 59 ∷ 60 ∷ 61 ∷ 62 ∷ 63 ∷ 64 ∷ [])
 
-up-to-32 : map (λ m. putAnswer m (record { room = encodeList many }) .full) ((33 ∷ []) ∷ (97 ∷ []) ∷ []) ≡ false ∷ true ∷ []
+up-to-32 : map (λ m. putAnswer m (listWith many) .full) ((33 ∷ []) ∷ (97 ∷ []) ∷ []) ≡ false ∷ true ∷ []
 unfolding many putAnswer putIn put insert encodeList maskIn part roomOf padded chunks rooms maskCount usedRooms compare fold within
 up-to-32 = refl
 
@@ -73,6 +74,11 @@ begins : map offset (0 ∷ 1 ∷ 15 ∷ 16 ∷ 17 ∷ []) ≡ 0 ∷ listSize ∷
 unfolding offset
 begins = refl
 
+-- masks 0 and 1 of A, b begin one byte into their rooms, there is no mask 2, and bytes that end before mask 1 have it at their end
+mask-starts : map (maskStart (encodeList ((65 ∷ []) ∷ (98 ∷ []) ∷ []))) (0 ∷ 1 ∷ 2 ∷ []) ++ map (maskStart (2 ∷ 1 ∷ 65 ∷ [])) (0 ∷ 1 ∷ []) ≡ 2 ∷ 103 ∷ 0 ∷ 2 ∷ 3 ∷ []
+unfolding maskStart encodeList roomOf padded maskCount
+mask-starts = refl
+
 -- a*b and c: AxB is matched, ax isn't
 matched : map (λ t. someMatches t ((97 ∷ 42 ∷ 98 ∷ []) ∷ (99 ∷ []) ∷ [])) ((65 ∷ 120 ∷ 66 ∷ []) ∷ (97 ∷ 120 ∷ []) ∷ []) ≡ true ∷ false ∷ []
 unfolding someMatches matchAnswer matchRules firstOf mask.matches afterRun firstThen matchesByte fold within
@@ -80,13 +86,13 @@ matched = refl
 
 -- three lists, each well formed: A and b, a and c, d
 abbrev one : BanList
-one = record { room = encodeList ((65 ∷ []) ∷ (98 ∷ []) ∷ []) }
+one = listWith ((65 ∷ []) ∷ (98 ∷ []) ∷ [])
 
 abbrev two : BanList
-two = record { room = encodeList ((97 ∷ []) ∷ (99 ∷ []) ∷ []) }
+two = listWith ((97 ∷ []) ∷ (99 ∷ []) ∷ [])
 
 abbrev three : BanList
-three = record { room = encodeList ((100 ∷ []) ∷ []) }
+three = listWith ((100 ∷ []) ∷ [])
 
 well : all (λ (b : BanList). wellFormedList (b .room)) (one ∷ two ∷ three ∷ []) ≡ true
 unfolding wellFormedList encodeList all ascends goodRoom isMask isPlain maskIn part roomOf padded chunks rooms maskCount usedRooms compare fold within
@@ -96,5 +102,5 @@ well = refl
 grouped : all (λ (t : Bool). not t)
     (uniteAnswer one two .full ∷ uniteAnswer two three .full ∷ uniteAnswer (uniteAnswer one two .list) three .full ∷ uniteAnswer one (uniteAnswer two three .list) .full ∷ [])
     ≡ true
-unfolding all uniteAnswer putAll putAnswer putIn withRooms masks put insert encodeList maskIn part roomOf padded chunks rooms maskCount usedRooms compare fold within
+unfolding all addAnswer putAll putAnswer putIn withRooms masks put insert encodeList maskIn part roomOf padded chunks rooms maskCount usedRooms compare fold within
 grouped = refl

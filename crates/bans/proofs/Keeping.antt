@@ -15,8 +15,9 @@ use Rattle.laws.proofs.Lists.{Passed, all-passed, all-head, all-tail, all-cons,
 use Rattle.octets.specs.Bytes.{isZero}
 use Rattle.ascending.specs.Ascending.{put, ascends}
 use Rattle.ascending.proofs.Ascends.{Stays, ascends-says, ascends-passes, ascending-put, all-put, length-put, put-made}
+use Rattle.channel.specs.Limits.{maskLimit, banLimit}
 use Rattle.bans.specs.declared.BanList.{BanList}
-use Rattle.bans.specs.Limits.{maskLimit, roomSize, roomsSize, banLimit, listSize}
+use Rattle.bans.specs.Limits.{roomSize, roomsSize, listSize}
 use Rattle.bans.specs.Masks.{isMask, maskIn, roomOf, byFold, bySpelling, chunks, rooms, maskCount, usedRooms, masks}
 use Rattle.bans.specs.WellFormed.{goodRoom, listTests, wellFormedList}
 use Rattle.bans.specs.Putting.{putIn, withRooms, putAnswer}

@@ -13,12 +13,13 @@ use Rattle.laws.proofs.Joins.{concatenated-append}
 use Rattle.octets.specs.Room.{part}
 use Rattle.octets.proofs.Room.{part-front, part-next}
 use Rattle.ascending.specs.Ascending.{put}
+use Rattle.channel.specs.Limits.{maskLimit, banLimit}
 use Rattle.bans.specs.declared.BanList.{BanList}
 use Rattle.bans.specs.declared.order.Place.{Place}
-use Rattle.bans.specs.Limits.{maskLimit, roomSize, roomsSize, banLimit, listSize}
+use Rattle.bans.specs.Limits.{roomSize, roomsSize, listSize}
 use Rattle.bans.specs.Masks.{roomOf, byFold, chunks, rooms, maskCount, usedRooms}
 use Rattle.bans.specs.Putting.{putIn, withRooms, addition, putAnswer}
-use Rattle.bans.specs.Private.Placing.{Placed, spliced}
+use Rattle.bans.specs.Private.Placing.{PlacedIn, spliced}
 use Rattle.bans.proofs.Places.{count-room, length-used}
 use Rattle.bans.proofs.Placing.{length-room, room-cut}
 
@@ -123,7 +124,7 @@ with-spliced (x ∷ t) i m = λ e h k.
     ∙ ap (λ (l : List ℕ). take roomsSize (concatenated (take i (take (maskCount (x ∷ t)) (chunks banLimit t)) ++ roomOf m ∷ drop i (take (maskCount (x ∷ t)) (chunks banLimit t))) ++ l)) (sym (drop-behind x t (roomSize * maskCount (x ∷ t)))))
 
 -- ---- the answers of `put`
-module _ (m : List ℕ) (b : BanList) (p : List ℕ) (r : Place) (size : length (b .room) ≡ listSize) (is : p ≡ part m 0 maskLimit) (placed : Placed (roomOf p) (usedRooms (b .room)) r) where
+module _ (m : List ℕ) (b : BanList) (p : List ℕ) (r : Place) (size : length (b .room) ≡ listSize) (is : p ≡ part m 0 maskLimit) (placed : PlacedIn (roomOf p) (usedRooms (b .room)) r) where
   abbrev s : List ℕ
   s = b .room
 

@@ -2,15 +2,17 @@
 use mathlib.Core.Path.{_≡_, refl, sym, ap, _∙_}
 use mathlib.Core.Bool.{Bool, _&&_}
 use mathlib.Core.List.{List, [], _∷_, map}
-use Prim.Native.Nat.{ℕ, zero, suc, _+_, _*_, _-_, _≤_, _<_}
+use Prim.Native.Nat.{ℕ, zero, suc, _+_, _*_, _-_, _≤_, _<_, min}
 use native.Mathlib.Omega.{arith}
-use lib.ListN.{length, take, drop, getD, length-map, List·getD-map}
+use lib.ListN.{length, take, drop, getD, length-map, List·getD-map, List·getD-eq-default, length-take, length-drop}
 use lib.Seq.{drop-drop, length-take-le, getD-take}
+use borrow.Author.Tests.{lt-ltb, le-ltb}
 use Rattle.laws.specs.Lists.{all}
-use Rattle.laws.proofs.Lists.{drop-step}
+use Rattle.laws.proofs.Lists.{drop-step, getD-any}
 use Rattle.octets.proofs.Room.{part-next}
-use Rattle.bans.specs.Limits.{roomSize, banLimit}
-use Rattle.bans.specs.Masks.{maskIn, chunks, rooms, maskCount, usedRooms, masks}
+use Rattle.channel.specs.Limits.{banLimit}
+use Rattle.bans.specs.Limits.{roomSize}
+use Rattle.bans.specs.Masks.{maskIn, chunks, rooms, maskCount, usedRooms, masks, maskStart}
 use Rattle.bans.specs.Private.Placing.{roomIn}
 
 chunks-at : (n : ℕ) (s : List ℕ) (i : ℕ) (d : List ℕ) → i < n → getD (chunks n s) i d ≡ take roomSize (drop (roomSize * i) s)
@@ -99,3 +101,26 @@ module _ (s : List ℕ) (i : ℕ) (h : i < maskCount s) where
   masks-step =
       drop-step (map maskIn (usedRooms s)) i (maskIn []) (omega (arith, length-map (usedRooms s) maskIn, length-used s))
       ∙ ap (λ (x : List ℕ). x ∷ drop (i + 1) (map maskIn (usedRooms s))) (List·getD-map maskIn (usedRooms s) i [] ∙ ap maskIn used-at)
+
+  -- it is the mask at that place
+  pub masks-at : maskIn (roomIn s i) ≡ getD (masks s) i []
+  unfolding masks
+  masks-at =
+      let few : i < length (map maskIn (usedRooms s)) = omega (arith, length-map (usedRooms s) maskIn, length-used s) in
+      sym (getD-any (map maskIn (usedRooms s)) i [] (maskIn []) few ∙ List·getD-map maskIn (usedRooms s) i [] ∙ ap maskIn used-at)
+
+  -- which begins one byte into the room
+  pub starts-in : (r : List ℕ) → r ≡ roomIn s i → min 1 (length r) + min (1 + roomSize * i) (length s) ≡ maskStart s i
+  unfolding maskStart roomIn
+  starts-in r e =
+      let n : length r ≡ length (take roomSize (drop (1 + roomSize * i) s)) = ap (λ (l : List ℕ). length l) (e ∙ part-next s (1 + roomSize * i) roomSize) in
+      rw (lt-ltb i (maskCount s) h) (omega (arith, n, length-take roomSize (drop (1 + roomSize * i) s), length-drop (1 + roomSize * i) s))
+
+-- past the last there is none
+pub masks-past : (s : List ℕ) (i : ℕ) → maskCount s ≤ i → [] ≡ getD (masks s) i []
+masks-past s i h = sym (List·getD-eq-default (masks s) [] (omega (arith, length-masks s)))
+
+-- what is handed back for it begins where the list does
+pub starts-past : (s : List ℕ) (i : ℕ) → maskCount s ≤ i → 0 ≡ maskStart s i
+unfolding maskStart
+starts-past s i h = rw (le-ltb i (maskCount s) h)

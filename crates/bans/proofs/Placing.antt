@@ -15,9 +15,10 @@ use Rattle.octets.proofs.Ordered.{compare-same, more-below}
 use Rattle.octets.proofs.Room.{part-next, length-part, part-short, put-fits, put-front, put-padded, put-three}
 use Rattle.ascending.specs.Ascending.{put}
 use Rattle.ascending.proofs.Ascends.{put-less, put-same, put-more, put-front as put-last}
-use Rattle.bans.specs.Limits.{maskLimit, roomSize, banLimit, listSize}
+use Rattle.channel.specs.Limits.{maskLimit, banLimit}
+use Rattle.bans.specs.Limits.{roomSize, listSize}
 use Rattle.bans.specs.Masks.{maskIn, roomOf, byFold}
-use Rattle.bans.specs.Private.Placing.{Placed, spliced}
+use Rattle.bans.specs.Private.Placing.{PlacedIn, spliced}
 
 -- ---- the room of a mask
 -- the mask in it is that mask
@@ -70,21 +71,21 @@ module _ (e : List ℕ) (l : List (List ℕ)) where
           ∙ ap (λ (x : List (List ℕ)). take (i + 1) l ++ put byFold e x) (sym (drop-next l i d r at))
 
       -- its place is before one that it comes before
-      pub placed-less : i ≤ length l → compare (byFold .key e) (byFold .key d) ≡ Less → Placed e l (record { at = i; there = false })
+      pub placed-less : i ≤ length l → compare (byFold .key e) (byFold .key d) ≡ Less → PlacedIn e l (record { at = i; there = false })
       placed-less h o = record {
         inside = h;
         is = here ∙ ap (_++_ (take i l)) (put-less byFold e d r o ∙ ap (_∷_ e) (sym at));
       }
 
       -- one with its fold is there
-      pub placed-same : i ≤ length l → compare (byFold .key e) (byFold .key d) ≡ Same → Placed e l (record { at = i; there = true })
+      pub placed-same : i ≤ length l → compare (byFold .key e) (byFold .key d) ≡ Same → PlacedIn e l (record { at = i; there = true })
       placed-same h o = record {
         inside = h;
         is = here ∙ ap (_++_ (take i l)) (put-same byFold e d r (compare-same (byFold .key e) (byFold .key d) o) ∙ sym at) ∙ take-append-drop i l;
       }
 
     -- its place is behind them all
-    pub placed-last : (n : ℕ) → length l ≤ i → n ≡ length l → Placed e l (record { at = n; there = false })
+    pub placed-last : (n : ℕ) → length l ≤ i → n ≡ length l → PlacedIn e l (record { at = n; there = false })
     placed-last n h q = record {
       inside = omega arith;
       is =

@@ -1,4 +1,5 @@
--- Laws of slots: what is stored is loaded, other slots stay, a cleared slot is a free one's, and what a good slot holds is well formed. Assumes nothing.
+-- Laws of slots: what is stored is loaded, other slots stay, a cleared slot is a free one's, the list without masks is zero, and what a good slot holds is well
+-- formed. Assumes nothing.
 use mathlib.Core.Path.{_≡_, refl, sym, ap, _∙_}
 use mathlib.Core.Bool.{Bool, true, false}
 use mathlib.Core.List.{List, []}
@@ -8,17 +9,19 @@ use lib.ListN.{length, drop, replicate, length-take, length-drop, length-replica
 use lib.Dec.{eqb, ltb}
 use borrow.Author.Tests.{eq-eqb, eqb-true, ltb-true, ltb-false}
 use Rattle.laws.specs.Lists.{all, padded}
-use Rattle.laws.proofs.Bools.{and-left}
-use Rattle.laws.proofs.Lists.{padded-whole, all-head, all-drop, all-replicate}
+use Rattle.laws.proofs.Bools.{and-left, and-right, and-intro}
+use Rattle.laws.proofs.Lists.{padded-whole, all-head, all-drop, all-take, all-replicate}
 use Rattle.octets.specs.Room.{part, putAt}
 use Rattle.octets.specs.Bytes.{isZero}
-use Rattle.octets.proofs.Room.{part-next, length-part, part-short, part-put, part-before, part-behind, length-put}
+use Rattle.octets.proofs.Room.{part-next, length-part, part-short, part-put, part-before, part-behind, length-put, put-same}
 use Rattle.ascending.proofs.Ascends.{ascends-short}
+use Rattle.channel.specs.Limits.{slotCount}
+use Rattle.channel.proofs.Records.{zeros}
 use Rattle.bans.specs.declared.BanList.{BanList}
-use Rattle.bans.specs.Limits.{listSize, listCount, bansSize}
-use Rattle.bans.specs.Masks.{byFold, maskCount, usedRooms}
+use Rattle.bans.specs.Limits.{listSize, bansSize}
+use Rattle.bans.specs.Masks.{byFold, maskCount, usedRooms, masks}
 use Rattle.bans.specs.WellFormed.{wellFormedList, isUnused, goodList}
-use Rattle.bans.specs.Slots.{offset, listAt, listOf, emptyList, stored}
+use Rattle.bans.specs.Slots.{offset, listAt, listOf, emptyList, emptyLists, stored}
 
 -- ---- where a list is
 -- a list's bytes are never more than its size
@@ -32,7 +35,7 @@ unfolding listAt
 list-fits a k e = omega (arith, length-take listSize (drop (offset k) a), length-drop (offset k) a, ap (λ (l : List ℕ). length l) (sym (part-next a (offset k) listSize)))
 
 -- all sixteen are there where the lent bytes are as many as theirs
-pub list-there : (a : List ℕ) (k : ℕ) → length a ≡ bansSize → k < listCount → length (listAt a k) ≡ listSize
+pub list-there : (a : List ℕ) (k : ℕ) → length a ≡ bansSize → k < slotCount → length (listAt a k) ≡ listSize
 unfolding listAt offset
 list-there a k e h = length-part a (offset k) (offset k + listSize) (omega arith) ∙ omega arith
 
@@ -49,6 +52,11 @@ module _ (a : List ℕ) (k : ℕ) (b : BanList) where
   unfolding stored
   length-stored = length-put a (offset k) (b .room)
 
+  -- the list that is there stored again changes nothing
+  pub stored-same : length (listAt a k) ≡ listSize → listAt a k ≡ b .room → stored a k b ≡ a
+  unfolding stored listAt
+  stored-same there e = ap (putAt a (offset k)) (sym e) ∙ put-same a (offset k) listSize (list-fits a k there)
+
   module _ (there : length (listAt a k) ≡ listSize) (whole : length (b .room) ≡ listSize) where
     fits : offset k + length (b .room) ≤ length a
     fits = omega (arith, whole, list-fits a k there)
@@ -64,7 +72,7 @@ module _ (a : List ℕ) (k : ℕ) (b : BanList) where
     load-stored = ap (λ (s : List ℕ). record { room = padded listSize 0 s }) list-stored ∙ ap (λ (s : List ℕ). record { room = s }) (padded-whole 0 listSize (b .room) whole)
 
     -- any other slot holds what it held
-    pub list-other : (j : ℕ) → j < listCount → k < listCount → (j ≡ k → ⊥) → listAt (stored a k b) j ≡ listAt a j
+    pub list-other : (j : ℕ) → j < slotCount → k < slotCount → (j ≡ k → ⊥) → listAt (stored a k b) j ≡ listAt a j
     unfolding listAt stored offset
     list-other j g h ne = go (ltb j k) refl
       where
@@ -72,30 +80,71 @@ module _ (a : List ℕ) (k : ℕ) (b : BanList) where
         go true e = part-before a (offset k) (b .room) fits (offset j) listSize (omega (arith, ltb-true j k e))
         go false e = part-behind a (offset k) (b .room) fits (offset j) (offset j + listSize) (omega (arith, ltb-false j k e, ne))
 
--- ---- good slots
-abbrev zeros : List ℕ
-zeros = replicate listSize 0
+-- bytes that are as many as a list's are loaded as they are
+pub load-whole : (s : List ℕ) → length s ≡ listSize → listOf s .room ≡ s
+unfolding listOf
+load-whole s e = padded-whole 0 listSize s e
 
-zeros-size : length zeros ≡ listSize
-zeros-size = length-replicate {A = ℕ} listSize 0
+-- ---- the list without masks
+abbrev zeroRoom : List ℕ
+zeroRoom = replicate listSize 0
 
-zeros-zero : all isZero zeros ≡ true
-zeros-zero = all-replicate isZero 0 listSize refl
+all-zero : all isZero zeroRoom ≡ true
+all-zero = all-replicate isZero 0 listSize refl
 
--- the list without masks is zero
+-- it is whole
+pub empty-whole : length (emptyList .room) ≡ listSize
+unfolding emptyList
+empty-whole = length-replicate {A = ℕ} listSize 0
+
+-- it has no masks
+pub empty-masks : masks (emptyList .room) ≡ []
+unfolding masks usedRooms maskCount emptyList
+empty-masks = refl
+
+-- it is zero
 pub empty-unused : isUnused (emptyList .room) ≡ true
 unfolding isUnused emptyList
-empty-unused = rw (eq-eqb (length zeros) listSize zeros-size) zeros-zero
+empty-unused = rw (eq-eqb (length zeroRoom) listSize empty-whole) all-zero
 
--- the list without masks is well formed
+-- it is well formed
 pub empty-well : wellFormedList (emptyList .room) ≡ true
 unfolding wellFormedList emptyList all maskCount usedRooms
-empty-well = rw (eq-eqb (length zeros) listSize zeros-size, all-drop isZero 1 zeros zeros-zero, ascends-short byFold [] (omega arith))
+empty-well = rw (eq-eqb (length zeroRoom) listSize empty-whole, all-drop isZero 1 zeroRoom all-zero, ascends-short byFold [] (omega arith))
 
+-- bytes of a list that are zero are it
+pub unused-empty : (s : List ℕ) → isUnused s ≡ true → s ≡ emptyList .room
+unfolding isUnused emptyList
+unused-empty s h =
+    zeros s (and-right (eqb (length s) listSize) (all isZero s) h) ∙ ap (λ (n : ℕ). replicate n 0) (eqb-true (length s) listSize (and-left (eqb (length s) listSize) (all isZero s) h))
+
+-- so they are well formed
+pub unused-well : (s : List ℕ) → isUnused s ≡ true → wellFormedList s ≡ true
+unused-well s h = ap wellFormedList (unused-empty s h) ∙ empty-well
+
+-- sixteen of them are as many bytes as sixteen lists
+pub empty-size : length emptyLists ≡ bansSize
+unfolding emptyLists
+empty-size = length-replicate {A = ℕ} bansSize 0
+
+empty-zero : all isZero emptyLists ≡ true
+unfolding emptyLists
+empty-zero = all-replicate isZero 0 bansSize refl
+
+-- and each of those is it
+pub lists-empty : (k : ℕ) → k < slotCount → listAt emptyLists k ≡ emptyList .room
+unfolding listAt part isUnused
+lists-empty k h =
+    unused-empty (listAt emptyLists k)
+    (and-intro (eqb (length (listAt emptyLists k)) listSize) (all isZero (listAt emptyLists k))
+    (eq-eqb _ listSize (list-there emptyLists k empty-size h))
+    (all-take isZero (offset k + listSize - offset k) _ (all-drop isZero (offset k) emptyLists empty-zero)))
+
+-- ---- good slots
 -- a cleared slot is a free slot's
 pub clear-good : (a : List ℕ) (k : ℕ) → length (listAt a k) ≡ listSize → goodList false (listAt (stored a k emptyList) k) ≡ true
-unfolding goodList emptyList
-clear-good a k there = ap isUnused (list-stored a k emptyList there zeros-size) ∙ empty-unused
+unfolding goodList
+clear-good a k there = ap isUnused (list-stored a k emptyList there empty-whole) ∙ empty-unused
 
 -- a slot in which a well-formed list is stored is good
 pub store-good : (a : List ℕ) (k : ℕ) (b : BanList) → length (listAt a k) ≡ listSize → wellFormedList (b .room) ≡ true → goodList true (listAt (stored a k b) k) ≡ true
@@ -104,8 +153,5 @@ store-good a k b there w = ap wellFormedList (list-stored a k b there (good-ther
 
 -- what is loaded of a good slot in use is well formed, and is what the slot holds
 pub load-good : (s : List ℕ) → goodList true s ≡ true → (listOf s .room ≡ s) × (wellFormedList (listOf s .room) ≡ true)
-unfolding goodList listOf wellFormedList
-load-good s h =
-    let size : length s ≡ listSize = good-there true s h in
-    let e : padded listSize 0 s ≡ s = padded-whole 0 listSize s size in
-    (e, ap wellFormedList e ∙ h)
+unfolding goodList
+load-good s h = let e : listOf s .room ≡ s = load-whole s (good-there true s h) in (e, ap wellFormedList e ∙ h)

@@ -14,11 +14,12 @@ use Rattle.ascending.specs.Ascending.{put, unite}
 use Rattle.ascending.proofs.Ascends.{Stays, Ascending, ascends-says, ascending-made, length-unite-left, unite-nil-right, unite-next}
 use Rattle.ascending.proofs.Contents.{unite-keys, unite-length}
 use Rattle.ascending.proofs.Firsts.{unite-own, unite-assoc}
+use Rattle.channel.specs.Limits.{banLimit}
 use Rattle.bans.specs.declared.BanList.{BanList}
-use Rattle.bans.specs.Limits.{banLimit}
 use Rattle.bans.specs.Masks.{isMask, maskIn, byFold, bySpelling, usedRooms, masks, encodeList}
 use Rattle.bans.specs.WellFormed.{goodRoom, wellFormedList}
-use Rattle.bans.specs.Putting.{putAnswer, putAll, uniteAnswer}
+use Rattle.bans.specs.Putting.{putAnswer, putAll, addAnswer, uniteAnswer}
+use Rattle.bans.specs.Slots.{listWith}
 use Rattle.bans.proofs.Places.{count-room, length-masks}
 use Rattle.bans.proofs.Encoding.{encode-masks}
 use Rattle.bans.proofs.Keeping.{good-mask, well-good, well-order, put-full, put-keeps}
@@ -38,6 +39,10 @@ module _ (s : List ℕ) (w : wellFormedList s ≡ true) where
   pub well-ascending : Ascending bySpelling (masks s)
   unfolding masks
   well-ascending = ascending-made byFold bySpelling maskIn (λ e. refl) (usedRooms s) (ascends-says byFold (usedRooms s) (well-order s w))
+
+-- a list is that of its masks
+pub own-list : (b : BanList) → wellFormedList (b .room) ≡ true → listWith (masks (b .room)) ≡ b
+own-list b w = ap (λ (s : List ℕ). record { room = s }) (encode-masks (b .room) w)
 
 -- ---- masks put one after the other
 -- the list is well formed, and these are its masks
@@ -82,26 +87,44 @@ all-keeps (m ∷ l) b w h f =
         let r = ih (k .0) (all-tail isMask m l h) (rw e at f) in
         rw e (r .0, r .1 ∙ ap (λ (x : List (List ℕ)). unite bySpelling x l) (k .1))
 
--- ---- two lists united
-module _ (a b : BanList) (w : wellFormedList (a .room) ≡ true) (v : wellFormedList (b .room) ≡ true) where
-  same-full : uniteAnswer a b .full ≡ putAll (masks (b .room)) a .full
-  unfolding uniteAnswer
-  same-full = go (putAll (masks (b .room)) a .full) refl
+-- ---- all of some masks added
+module _ (l : List (List ℕ)) (b : BanList) (w : wellFormedList (b .room) ≡ true) (h : all isMask l ≡ true) where
+  same-full : addAnswer l b .full ≡ putAll l b .full
+  unfolding addAnswer
+  same-full = go (putAll l b .full) refl
     where
-      go : (t : Bool) → putAll (masks (b .room)) a .full ≡ t → uniteAnswer a b .full ≡ putAll (masks (b .room)) a .full
+      go : (t : Bool) → putAll l b .full ≡ t → addAnswer l b .full ≡ putAll l b .full
       go true e = rw e
       go false e = rw e
 
+  -- they are refused exactly if over 32 would result
+  pub add-full : addAnswer l b .full ≡ ltb banLimit (length (unite bySpelling (masks (b .room)) l))
+  add-full = same-full ∙ all-full l b w h
+
+  -- else the list is well formed, and has them in their places
+  pub add-keeps : addAnswer l b .full ≡ false → Made (addAnswer l b .list) (unite bySpelling (masks (b .room)) l)
+  unfolding addAnswer
+  add-keeps f =
+      let e : putAll l b .full ≡ false = sym same-full ∙ f in
+      rw e (all-keeps l b w h e)
+
+  -- so it is the list of them all
+  pub add-list : addAnswer l b .full ≡ false → addAnswer l b .list ≡ listWith (unite bySpelling (masks (b .room)) l)
+  add-list f = let k = add-keeps f in sym (own-list (addAnswer l b .list) (k .0)) ∙ ap listWith (k .1)
+
+-- ---- two lists united
+module _ (a b : BanList) (w : wellFormedList (a .room) ≡ true) (v : wellFormedList (b .room) ≡ true) where
   -- a union is refused exactly if over 32 would result
   pub unite-full : uniteAnswer a b .full ≡ ltb banLimit (length (unite bySpelling (masks (a .room)) (masks (b .room))))
-  unite-full = same-full ∙ all-full (masks (b .room)) a w (well-masks (b .room) v)
+  unite-full = add-full (masks (b .room)) a w (well-masks (b .room) v)
 
   -- else the list is well formed, and has the masks of both, the first one's spelling kept
   pub unite-keeps : uniteAnswer a b .full ≡ false → Made (uniteAnswer a b .list) (unite bySpelling (masks (a .room)) (masks (b .room)))
-  unfolding uniteAnswer
-  unite-keeps f =
-      let e : putAll (masks (b .room)) a .full ≡ false = sym same-full ∙ f in
-      rw e (all-keeps (masks (b .room)) a w (well-masks (b .room) v) e)
+  unite-keeps = add-keeps (masks (b .room)) a w (well-masks (b .room) v)
+
+  -- so it is the list of the masks of both
+  pub unite-list : uniteAnswer a b .full ≡ false → uniteAnswer a b .list ≡ listWith (unite bySpelling (masks (a .room)) (masks (b .room)))
+  unite-list = add-list (masks (b .room)) a w (well-masks (b .room) v)
 
 -- ---- in either order
 module _ (a b : BanList) (w : wellFormedList (a .room) ≡ true) (v : wellFormedList (b .room) ≡ true) where

@@ -1,16 +1,17 @@
 -- Masks, each in its room, and the list that they make (document 02, §2): in folded byte order, equal folds once in the first spelling.
-use mathlib.Core.Bool.{Bool, _&&_}
+use mathlib.Core.Bool.{Bool, cond, _&&_}
 use mathlib.Core.List.{List, [], _∷_, map}
-use Prim.Native.Nat.{ℕ, zero, suc, _+_, min}
+use Prim.Native.Nat.{ℕ, zero, suc, _+_, _*_, min}
 use lib.ListN.{length, take, drop, getD}
-use lib.Dec.{leb}
+use lib.Dec.{leb, ltb}
 use Rattle.laws.specs.Lists.{all, padded}
 use Rattle.laws.specs.Joins.{concatenated}
 use Rattle.octets.specs.Bytes.{isPlain, isNonSpace}
 use Rattle.octets.specs.Room.{part}
 use Rattle.ascending.specs.Ascending.{Kind}
 use Rattle.names.specs.Fold.{fold}
-use Rattle.bans.specs.Limits.{maskLimit, roomSize, roomsSize, banLimit}
+use Rattle.channel.specs.Limits.{maskLimit, banLimit}
+use Rattle.bans.specs.Limits.{roomSize, roomsSize}
 
 -- ---- one mask
 -- a mask: 1 to 100 bytes, none SPACE, NUL, CR or LF
@@ -54,6 +55,11 @@ usedRooms s = take (maskCount s) (rooms s)
 -- what the list means: its masks
 unfoldable pub masks : List ℕ → List (List ℕ)
 masks s = map maskIn (usedRooms s)
+
+-- where mask i begins in the bytes: behind the number of masks, the rooms before its own, and its length, or at the bytes' end where that comes first;
+-- at their start where the list has no such mask
+unfoldable pub maskStart : List ℕ → ℕ → ℕ
+maskStart s i = cond (ltb i (maskCount s)) (min (2 + roomSize * i) (length s)) 0
 
 -- the list of these masks, unused room zero
 unfoldable pub encodeList : List (List ℕ) → List ℕ

@@ -7,7 +7,8 @@ use lib.Dec.{eqb, leb}
 use Rattle.laws.specs.Lists.{all}
 use Rattle.octets.specs.Bytes.{isZero}
 use Rattle.ascending.specs.Ascending.{ascends}
-use Rattle.bans.specs.Limits.{maskLimit, roomSize, banLimit, listSize}
+use Rattle.channel.specs.Limits.{maskLimit, banLimit}
+use Rattle.bans.specs.Limits.{roomSize, listSize}
 use Rattle.bans.specs.Masks.{isMask, maskIn, byFold, maskCount, usedRooms}
 
 -- a mask, and zeros behind it

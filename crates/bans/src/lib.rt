@@ -5,16 +5,19 @@ mod order;
 mod rooms;
 
 ghost use mathlib.Core.Path.{_≡_};
+ghost use mathlib.Core.List.{[]};
 ghost use Prim.Native.Nat.{min};
-ghost use lib.ListN.{length};
+ghost use lib.ListN.{length, replicate, getD};
 ghost use denote.Ref.{ptr};
 ghost use Rattle.octets.specs.Room.{placeIn};
-ghost use Rattle.bans.specs.Limits.{maskLimit, roomSize, banLimit, listSize, listCount, bansSize};
-ghost use Rattle.bans.specs.Masks.{isMask, masks};
+ghost use Rattle.bans.specs.Limits.{roomSize, listSize, bansSize};
+ghost use Rattle.bans.specs.Masks.{isMask, masks, maskStart};
 ghost use Rattle.bans.specs.WellFormed.{wellFormedList, goodList};
 ghost use Rattle.bans.specs.Putting.{putAnswer, uniteAnswer};
 ghost use Rattle.bans.specs.Slots.{offset as offsetOf, listAt, listOf, stored, emptyList};
+ghost use Rattle.bans.specs.Records.{wellFormedWhole};
 ghost use Rattle.bans.specs.Matching.{someMatches};
+use channel::Record;
 use octets::Class;
 use octets::all_in;
 use octets::lesser;
@@ -35,29 +38,19 @@ pub struct BanList {
 }
 
 impl BanList {
-    // The most masks of a list.
-    pub const MASKS: usize = 32;
-
-    // The most bytes of a mask.
-    pub const MASK: usize = 100;
-
     // The bytes of a mask's room: its length, and the mask.
     pub const ROOM: usize = 101;
 
     // The bytes of a list: how many masks, and their rooms.
     pub const LIST: usize = 3233;
 
-    // The lists of a table, one for each slot.
-    pub const LISTS: usize = 16;
-
     // The bytes of all lists.
     pub const BANS: usize = 51728;
 
-    // The list without masks. The limits and sizes of the code are those of the definitions.
+    // The list without masks. The sizes of the code are those of the definitions.
     pub fn empty() -> BanList
         ensures { λ r. ⌜ r ≡ emptyList ⌝ }
-        ensures { λ r. do ⌜ ((← ⟦BanList::MASKS⟧ .entry) ≡ banLimit) × ((← ⟦BanList::MASK⟧ .entry) ≡ maskLimit) × ((← ⟦BanList::ROOM⟧ .entry) ≡ roomSize) ⌝ }
-        ensures { λ r. do ⌜ ((← ⟦BanList::LIST⟧ .entry) ≡ listSize) × ((← ⟦BanList::LISTS⟧ .entry) ≡ listCount) × ((← ⟦BanList::BANS⟧ .entry) ≡ bansSize) ⌝ }
+        ensures { λ r. do ⌜ ((← ⟦BanList::ROOM⟧ .entry) ≡ roomSize) × ((← ⟦BanList::LIST⟧ .entry) ≡ listSize) × ((← ⟦BanList::BANS⟧ .entry) ≡ bansSize) ⌝ }
     {
         BanList {
             room: [0u8; BanList::LIST],
@@ -72,6 +65,13 @@ pub struct Added {
     pub list: BanList,
 }
 
+// A channel's record with its ban list: what document 02 calls a record.
+#[repr(C)]
+pub struct WholeRecord {
+    pub record: Record,
+    pub bans: BanList,
+}
+
 // Whether the bytes are a mask: 1 to 100 bytes, none of them SPACE, NUL, CR or LF.
 pub fn is_mask(m: &[u8]) -> bool
     ensures { λ r. ⌜ r ≡ isMask (now (m .entry)) ⌝ }
@@ -79,7 +79,7 @@ pub fn is_mask(m: &[u8]) -> bool
     if m.len() == 0 {
         return false;
     }
-    if BanList::MASK < m.len() {
+    if Record::MASK < m.len() {
         return false;
     }
     if !all_in(m, Class::Plain) {
@@ -93,7 +93,7 @@ pub fn put(b: BanList, m: &[u8]) -> Added
     ensures { λ r. ⌜ r ≡ putAnswer (now (m .entry)) b ⌝ }
 {
     let room = b.room;
-    let mask = part(m, 0, BanList::MASK);
+    let mask = part(m, 0, Record::MASK);
     let n = mask_count(&room);
     let p = place_for(&room, mask);
     if p.there {
@@ -102,7 +102,7 @@ pub fn put(b: BanList, m: &[u8]) -> Added
         let list = BanList { room: same };
         return Added { full: false, list };
     }
-    if n == BanList::MASKS {
+    if n == Record::MASKS {
         return Added {
             full: true,
             list: b,
@@ -142,7 +142,7 @@ pub fn is_well_formed(s: &[u8]) -> bool
     if s.len() != BanList::LIST {
         return false;
     }
-    if BanList::MASKS < rooms::wide(s[0]) {
+    if Record::MASKS < rooms::wide(s[0]) {
         return false;
     }
     let n = mask_count(s);
@@ -153,6 +153,35 @@ pub fn is_well_formed(s: &[u8]) -> bool
         return false;
     }
     ascending(s, n)
+}
+
+// Whether a record and its list are both well formed.
+pub fn is_whole(w: WholeRecord) -> bool
+    ensures { λ r. ⌜ r ≡ wellFormedWhole w ⌝ }
+{
+    if !channel::is_well_formed(w.record) {
+        return false;
+    }
+    let room = w.bans.room;
+    is_well_formed(&room)
+}
+
+// How many masks the list has.
+pub fn count(s: &[u8]) -> usize
+    ensures { λ r. ⌜ r ≡ length (masks (now (s .entry))) ⌝ }
+{
+    mask_count(s)
+}
+
+// Mask i of the list, as that part of its bytes, or the empty part at their start where it has none.
+pub fn mask_at(s: &[u8], i: usize) -> &[u8]
+    ensures bytes { λ r. ⌜ now r ≡ getD (masks (now (s .entry))) i [] ⌝ }
+    ensures place { λ r. ⌜ ptr r ≡ placeIn (s .entry) (maskStart (now (s .entry)) i) ⌝ }
+{
+    if mask_count(s) <= i {
+        return part(s, 0, 0);
+    }
+    mask_in(room_at(s, i))
 }
 
 // Whether some mask of the list matches the text.
@@ -175,10 +204,10 @@ pub fn some_matches(s: &[u8], text: &[u8]) -> bool
 fn offset(k: usize) -> usize
     ensures { λ r. ⌜ r ≡ offsetOf k ⌝ }
 {
-    BanList::LIST * lesser(k, BanList::LISTS)
+    BanList::LIST * lesser(k, Record::SLOTS)
 }
 
-// The bytes of list k, as that part of the lent ones; where there is no such list, none.
+// The bytes of list k, as that part of the lent ones; past the sixteenth, what lies behind the lists, which of BANS bytes is nothing.
 pub fn list_at(bans: &[u8], k: usize) -> &[u8]
     ensures bytes { λ r. ⌜ now r ≡ listAt (now (bans .entry)) k ⌝ }
     ensures place { λ r. ⌜ ptr r ≡ placeIn (bans .entry) (min (offsetOf k) (length (now (bans .entry)))) ⌝ }
@@ -196,7 +225,7 @@ pub fn load(bans: &[u8], k: usize) -> BanList
     BanList { room }
 }
 
-// Puts a list in the place of list k. All other bytes stay.
+// Puts a list in the place of list k, where there is room for it. All other bytes stay.
 pub fn store(bans: &mut [u8], k: usize, list: BanList)
     ensures { λ _. ⌜ now (bans .exit) ≡ stored (now (bans .entry)) k list ⌝ }
 {
@@ -204,11 +233,22 @@ pub fn store(bans: &mut [u8], k: usize, list: BanList)
     octets::put(bans, offset(k), &room);
 }
 
-// Puts the list without masks in the place of list k. All other bytes stay.
+// Puts the list without masks in the place of list k, where there is room for it. All other bytes stay.
 pub fn clear(bans: &mut [u8], k: usize)
     ensures { λ _. ⌜ now (bans .exit) ≡ stored (now (bans .entry)) k emptyList ⌝ }
 {
     store(bans, k, BanList::empty());
+}
+
+// Makes all bytes zero: no list has masks.
+pub fn clear_all(bans: &mut [u8])
+    ensures { λ _. ⌜ now (bans .exit) ≡ replicate (length (now (bans .entry))) 0 ⌝ }
+{
+    let mut i = 0;
+    while i < bans.len() {
+        bans[i] = 0;
+        i += 1;
+    }
 }
 
 // Whether list k is well formed, or, where its slot isn't used, its room zero.

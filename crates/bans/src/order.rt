@@ -8,14 +8,15 @@ ghost use lib.Dec.{eqb};
 ghost use Rattle.octets.specs.Order.{compare, isLess};
 ghost use Rattle.ascending.specs.Ascending.{ascends};
 ghost use Rattle.names.specs.Fold.{fold as foldOf};
-ghost use Rattle.bans.specs.Limits.{maskLimit, banLimit};
+ghost use Rattle.channel.specs.Limits.{maskLimit, banLimit};
 ghost use Rattle.bans.specs.Masks.{roomOf, byFold, rooms, usedRooms};
-ghost use Rattle.bans.specs.Private.Comparing.{blockSize, Alike, Passes};
-ghost use Rattle.bans.specs.Private.Placing.{Placed};
+ghost use Rattle.bans.specs.Private.Comparing.{blockSize, SameFolds, PassedOver};
+ghost use Rattle.bans.specs.Private.Placing.{PlacedIn};
 use crate::rooms::mask_count;
 use crate::rooms::mask_in;
 use crate::rooms::room_at;
 use names::fold;
+use names::folded;
 use octets::Order;
 use octets::lesser;
 
@@ -26,19 +27,6 @@ const BLOCK: usize = 16;
 pub(crate) struct Place {
     pub at: usize,
     pub there: bool,
-}
-
-// The fold of a byte: those that are folded lie side by side, and so do their folds, so that the loop over a block has no branch.
-fn folded(b: u8) -> u8
-    ensures { λ r. ⌜ r ≡ foldOf b ⌝ }
-{
-    if b < b'A' {
-        return b;
-    }
-    if b']' < b {
-        return b;
-    }
-    b + 32
 }
 
 // 0 for bytes that have the same fold, 1 for any others.
@@ -54,7 +42,7 @@ fn unlike(x: u8, y: u8) -> u8
 // 0 only if the blocks of a and b at a place have the same fold.
 fn differing(a: &[u8], b: &[u8], at: usize) -> u8
     requires { ⌜ (at + blockSize ≤ length (now a)) × (at + blockSize ≤ length (now b)) ⌝ }
-    ensures { λ r. ⌜ (r ≡ 0 → Alike blockSize (drop at (now (a .entry))) (drop at (now (b .entry)))) ⌝ }
+    ensures { λ r. ⌜ (r ≡ 0 → SameFolds blockSize (drop at (now (a .entry))) (drop at (now (b .entry)))) ⌝ }
 {
     let mut bits = 0u8;
     let mut j = 0;
@@ -67,7 +55,7 @@ fn differing(a: &[u8], b: &[u8], at: usize) -> u8
 
 // How many bytes may be passed over, block by block, since their folds are the same.
 fn passed(a: &[u8], b: &[u8]) -> usize
-    ensures { λ r. ⌜ Passes r (now (a .entry)) (now (b .entry)) ⌝ }
+    ensures { λ r. ⌜ PassedOver r (now (a .entry)) (now (b .entry)) ⌝ }
 {
     let n = lesser(a.len(), b.len());
     let mut i = 0;
@@ -138,7 +126,7 @@ pub(crate) fn ascending(s: &[u8], n: usize) -> bool
 // Where the mask stands, or is to stand: behind all that come before it.
 pub(crate) fn place_for(s: &[u8], m: &[u8]) -> Place
     requires { ⌜ length (now m) ≤ maskLimit ⌝ }
-    ensures { λ r. ⌜ Placed (roomOf (now (m .entry))) (usedRooms (now (s .entry))) r ⌝ }
+    ensures { λ r. ⌜ PlacedIn (roomOf (now (m .entry))) (usedRooms (now (s .entry))) r ⌝ }
 {
     let n = mask_count(s);
     let mut i = 0;

@@ -1,14 +1,18 @@
 // The rooms of a list: each one's place, its mask, whether it is good, and a room put between others.
 ghost use mathlib.Core.Path.{_≡_};
-ghost use Prim.Native.Nat.{_+_, _≤_, _<_};
+ghost use Prim.Native.Nat.{_+_, _*_, _≤_, _<_, min};
 ghost use lib.ListN.{length, take, set};
+ghost use denote.Ref.{ptr};
 ghost use Rattle.laws.specs.Lists.{all};
-ghost use Rattle.bans.specs.Limits.{maskLimit, banLimit, listSize};
+ghost use Rattle.octets.specs.Room.{placeIn};
+ghost use Rattle.channel.specs.Limits.{maskLimit, banLimit};
+ghost use Rattle.bans.specs.Limits.{roomSize, listSize};
 ghost use Rattle.bans.specs.Masks.{maskIn, roomOf, rooms, maskCount};
 ghost use Rattle.bans.specs.WellFormed.{goodRoom};
 ghost use Rattle.bans.specs.Private.Placing.{roomIn, spliced};
 use crate::BanList;
 use crate::is_mask;
+use channel::Record;
 use octets::lesser;
 use octets::part;
 use octets::put;
@@ -28,13 +32,14 @@ pub(crate) fn mask_count(s: &[u8]) -> usize
     if s.len() == 0 {
         return 0;
     }
-    lesser(wide(s[0]), BanList::MASKS)
+    lesser(wide(s[0]), Record::MASKS)
 }
 
 // The room of the mask i.
 pub(crate) fn room_at(s: &[u8], i: usize) -> &[u8]
     requires { ⌜ i < banLimit ⌝ }
-    ensures { λ r. ⌜ now r ≡ roomIn (now (s .entry)) i ⌝ }
+    ensures bytes { λ r. ⌜ now r ≡ roomIn (now (s .entry)) i ⌝ }
+    ensures place { λ r. ⌜ ptr r ≡ placeIn (s .entry) (min (1 + roomSize * i) (length (now (s .entry)))) ⌝ }
 {
     let at = 1 + BanList::ROOM * i;
     part(s, at, at + BanList::ROOM)
@@ -42,7 +47,8 @@ pub(crate) fn room_at(s: &[u8], i: usize) -> &[u8]
 
 // The mask in a room.
 pub(crate) fn mask_in(r: &[u8]) -> &[u8]
-    ensures { λ t. ⌜ now t ≡ maskIn (now (r .entry)) ⌝ }
+    ensures bytes { λ t. ⌜ now t ≡ maskIn (now (r .entry)) ⌝ }
+    ensures place { λ t. ⌜ ptr t ≡ placeIn (r .entry) (min 1 (length (now (r .entry)))) ⌝ }
 {
     if r.len() == 0 {
         return r;
@@ -58,7 +64,7 @@ fn good_room(r: &[u8]) -> bool
         return false;
     }
     let n = wide(r[0]);
-    if BanList::MASK < n {
+    if Record::MASK < n {
         return false;
     }
     if !is_mask(mask_in(r)) {

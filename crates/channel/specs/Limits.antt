@@ -1,4 +1,5 @@
--- The limits of a record (document 01: "These limits belong to the record and are named once, with it"). A name's is that of crate names.
+-- The limits of a record (document 01: "These limits belong to the record and are named once, with it"), and of its ban list (document 02, §2: up to 32 masks a
+-- channel, 1 to 100 bytes each). A name's is that of crate names.
 use Prim.Native.Nat.{ℕ}
 
 -- the most members
@@ -20,3 +21,11 @@ timeLimit = 4294967295
 -- the largest user limit
 abbrev pub limitLimit : ℕ
 limitLimit = 65535
+
+-- the most masks of a ban list
+abbrev pub banLimit : ℕ
+banLimit = 32
+
+-- the most bytes of a mask
+abbrev pub maskLimit : ℕ
+maskLimit = 100

@@ -7,7 +7,7 @@ mod well;
 
 ghost use mathlib.Core.Path.{_≡_};
 ghost use Rattle.names.specs.Names.{nameLimit};
-ghost use Rattle.channel.specs.Limits.{memberLimit, keyLimit, timeLimit, limitLimit, slotCount};
+ghost use Rattle.channel.specs.Limits.{memberLimit, keyLimit, timeLimit, limitLimit, slotCount, banLimit, maskLimit};
 ghost use Rattle.channel.specs.Channel.{voice, operator, voicePlace, operatorPlace};
 ghost use Rattle.channel.specs.Record.{emptyRecord};
 ghost use Rattle.channel.specs.WellFormed.{wellFormed, isBlank};
@@ -76,11 +76,18 @@ impl Record {
     // The records of a table.
     pub const SLOTS: usize = 16;
 
+    // The most masks of a ban list.
+    pub const MASKS: usize = 32;
+
+    // The most bytes of a mask.
+    pub const MASK: usize = 100;
+
     // No channel: a free slot. The limits and statuses of the code are those of the definitions.
     pub fn empty() -> Record
         ensures { λ r. ⌜ r ≡ emptyRecord ⌝ }
         ensures { λ r. do ⌜ ((← ⟦Record::MEMBERS⟧ .entry) ≡ memberLimit) × ((← ⟦Record::NAME⟧ .entry) ≡ nameLimit) × ((← ⟦Record::KEY⟧ .entry) ≡ keyLimit) × ((← ⟦Record::SLOTS⟧ .entry) ≡ slotCount) ⌝ }
         ensures { λ r. do ⌜ ((← ⟦Record::TIME⟧ .entry) ≡ timeLimit) × ((← ⟦Record::LIMIT⟧ .entry) ≡ limitLimit) ⌝ }
+        ensures { λ r. do ⌜ ((← ⟦Record::MASKS⟧ .entry) ≡ banLimit) × ((← ⟦Record::MASK⟧ .entry) ≡ maskLimit) ⌝ }
         ensures { λ r. do ⌜ ((← ⟦Member::VOICE⟧ .entry) ≡ voice) × ((← ⟦Member::OPERATOR⟧ .entry) ≡ operator) ⌝ }
         ensures { λ r. do ⌜ ((← ⟦Member::VOICE_PLACE⟧ .entry) ≡ voicePlace) × ((← ⟦Member::OPERATOR_PLACE⟧ .entry) ≡ operatorPlace) ⌝ }
     {

@@ -7,18 +7,35 @@ use mathlib.Core.List.{List, map}
 use Prim.Native.Nat.{ℕ, _+_, _≤_, _<_}
 use native.Mathlib.Omega.{arith}
 use lib.ListN.{length, drop, getD, length-map}
-use lib.Dec.{eqb}
-use borrow.Author.Tests.{eq-eqb, ne-eqb}
+use lib.Dec.{eqb, leb}
+use borrow.Author.Tests.{eq-eqb, ne-eqb, eqb-true, eqb-false, leb-true, leb-false}
 use Rattle.octets.specs.Bytes.{within}
-use Rattle.octets.proofs.Bytes.{within-bounds, below-within, above-within, same-refl, same-true}
+use Rattle.octets.proofs.Bytes.{within-bounds, bounds-within, below-within, above-within, same-refl, same-true}
 use Rattle.laws.specs.Lists.{sameBy}
 use Rattle.laws.proofs.Lists.{map-twice, sameBy-lengths, sameBy-differ, sameBy-map-left, sameBy-map-right, sameBy-past, sameBy-stop, sameBy-go}
 use Rattle.names.specs.Fold.{fold, sameName}
 use Rattle.names.specs.Names.{hash}
 
 -- ---- single bytes
+-- no byte below 'A' is folded
+pub fold-low : (b : ℕ) → b < 65 → fold b ≡ b
+unfolding fold
+fold-low b h = simp (below-within 65 b 90 h, ne-eqb b 91 (λ q. omega arith), ne-eqb b 93 (λ q. omega arith), ne-eqb b 92 (λ q. omega arith))
+
+-- each from 'A' to ']' is folded to the one 32 further on
+pub fold-between : (b : ℕ) → 65 ≤ b → b ≤ 93 → fold b ≡ b + 32
+unfolding fold
+fold-between b h k = go (leb b 90) refl (eqb b 91) refl (eqb b 93) refl (eqb b 92) refl
+  where
+    go : (t : Bool) → leb b 90 ≡ t → (u : Bool) → eqb b 91 ≡ u → (v : Bool) → eqb b 93 ≡ v → (w : Bool) → eqb b 92 ≡ w → fold b ≡ b + 32
+    go true e u f v g w i = rw (bounds-within 65 b 90 h (leb-true b 90 e))
+    go false e true f v g w i = simp (above-within 65 b 90 (leb-false b 90 e), f) (omega (arith, eqb-true b 91 f))
+    go false e false f true g w i = simp (above-within 65 b 90 (leb-false b 90 e), f, g) (omega (arith, eqb-true b 93 g))
+    go false e false f false g true i = simp (above-within 65 b 90 (leb-false b 90 e), f, g, i) (omega (arith, eqb-true b 92 i))
+    go false e false f false g false i = absurd (omega (arith, leb-false b 90 e, eqb-false b 91 f, eqb-false b 93 g, eqb-false b 92 i))
+
 -- no byte above ']' is folded
-fold-high : (b : ℕ) → 93 < b → fold b ≡ b
+pub fold-high : (b : ℕ) → 93 < b → fold b ≡ b
 unfolding fold
 fold-high b h = simp (above-within 65 b 90 (omega arith), ne-eqb b 91 (λ q. omega arith), ne-eqb b 93 (λ q. omega arith), ne-eqb b 92 (λ q. omega arith))
 

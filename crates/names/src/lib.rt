@@ -35,6 +35,19 @@ pub fn fold(b: u8) -> u8
     }
 }
 
+// The same for a loop over many bytes, which has no branch this way: the bytes that are folded lie side by side, and so do their folds.
+pub fn folded(b: u8) -> u8
+    ensures { λ r. ⌜ r ≡ foldOf b ⌝ }
+{
+    if b < b'A' {
+        return b;
+    }
+    if b']' < b {
+        return b;
+    }
+    b + 32
+}
+
 // Whether two names are equal: their folds are. Bytes that are the same need not be folded.
 pub fn equal(a: &[u8], b: &[u8]) -> bool
     ensures { λ r. ⌜ r ≡ sameName (now (a .entry)) (now (b .entry)) ⌝ }

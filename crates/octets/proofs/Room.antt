@@ -6,7 +6,7 @@ use Prim.Native.Nat.{ℕ, suc, _+_, _-_, _≤_, _<_}
 use native.Mathlib.Nat.{zero-add}
 use native.Mathlib.Omega.{arith}
 use lib.ListN.{length, take, drop, getD, replicate, length-append, length-take, length-drop, length-replicate, getD-replicate, take-append-drop, drop-of-length-le}
-use lib.Seq.{take-append-seam, drop-append-add, drop-drop, drop-at, take-at, take-all, length-take-le, getD-append-add, getD-drop}
+use lib.Seq.{take-append-seam, take-add, drop-append-add, drop-drop, drop-at, take-at, take-all, length-take-le, getD-append-add, getD-drop}
 use borrow.Author.Tests.{le-leb, leb-true, leb-false, lt-leb}
 use Rattle.laws.specs.Lists.{padded}
 use Rattle.octets.specs.Room.{part, fits, putAt, endOf, front}
@@ -73,6 +73,16 @@ length-put out at p = go (fits out at p) refl
         let h : at + length p ≤ length out = leb-true (at + length p) (length out) e in
         rw (put-fits out at p h) (simp length-append (omega (arith, length-take-le at out (omega arith), length-drop (at + length p) out)))
     go false e = ap (λ (l : List ℕ). length l) (put-over out at p (leb-false (at + length p) (length out) e))
+
+-- a part put where it stands changes nothing
+pub put-same : (out : List ℕ) (at n : ℕ) → at + n ≤ length out → putAt out at (part out at (at + n)) ≡ out
+put-same out at n h =
+    let e : length (part out at (at + n)) ≡ n = length-part out at (at + n) h ∙ omega arith in
+    put-fits out at (part out at (at + n)) (omega arith)
+    ∙ ap (λ (k : ℕ). (take at out ++ part out at (at + n)) ++ drop (at + k) out) e
+    ∙ ap (λ (l : List ℕ). (take at out ++ l) ++ drop (at + n) out) (part-next out at n)
+    ∙ ap (λ (l : List ℕ). l ++ drop (at + n) out) (sym (take-add at n out))
+    ∙ take-append-drop (at + n) out
 
 -- three parts, one behind the other, that fill the room
 pub put-three : (z p q r x y w : List ℕ) (i j : ℕ) → i ≡ length p → j ≡ length p + length q → length p + length q + length r ≡ length z

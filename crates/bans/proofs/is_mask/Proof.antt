@@ -4,7 +4,7 @@ use native.Mathlib.Omega.{arith}
 use lib.ListN.{length}
 use borrow.Author.Tests.{not-true, not-false, le-leb, lt-leb}
 use borrow.Author.Needs.{needs}
-use Rattle.bans.specs.Limits.{maskLimit}
+use Rattle.channel.specs.Limits.{maskLimit}
 use Rattle.bans.specs.Masks.{isMask}
 use Rattle.bans.proofs.is_mask.Statement.{statement}
 use Rattle.bans.proofs.is_mask.Tie as tie

@@ -9,7 +9,8 @@ use borrow.Author.Needs.{needs}
 use Rattle.laws.specs.Lists.{all}
 use Rattle.octets.specs.Bytes.{isZero}
 use Rattle.ascending.specs.Ascending.{ascends}
-use Rattle.bans.specs.Limits.{roomSize, banLimit, listSize}
+use Rattle.channel.specs.Limits.{banLimit}
+use Rattle.bans.specs.Limits.{roomSize, listSize}
 use Rattle.bans.specs.Masks.{byFold, rooms, maskCount, usedRooms}
 use Rattle.bans.specs.WellFormed.{goodRoom, wellFormedList}
 use Rattle.bans.proofs.Places.{count-room}

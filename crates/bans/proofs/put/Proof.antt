@@ -5,7 +5,8 @@ use Prim.Native.Nat.{ℕ, _<_}
 use native.Mathlib.Omega.{arith}
 use lib.ListN.{length}
 use borrow.Author.Needs.{needs}
-use Rattle.bans.specs.Limits.{banLimit, listSize}
+use Rattle.channel.specs.Limits.{banLimit}
+use Rattle.bans.specs.Limits.{listSize}
 use Rattle.bans.specs.Masks.{maskCount}
 use Rattle.bans.proofs.Places.{count-room, length-used}
 use Rattle.bans.proofs.Placing.{cut-short}

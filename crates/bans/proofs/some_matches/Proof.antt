@@ -63,7 +63,7 @@ here c =
     sym (l .inv .2)
     ∙ some-step (list c) (text c) (l .i) (omega arith)
     ∙ ap (λ (t : Bool). t || someMatches (text c) (drop (l .i + 1) (masks (list c))))
-    (sym (ap (λ (m : Match). m .yes) (c .matches .ensures) ∙ ap (λ (m : List ℕ). matchAnswer m (text c) .yes) (c .before .mask-in .ensures ∙ ap maskIn (c .before .before .room-at .ensures))))
+    (sym (ap (λ (m : Match). m .yes) (c .matches .ensures) ∙ ap (λ (m : List ℕ). matchAnswer m (text c) .yes) (c .before .mask-in .ensures .0 ∙ ap maskIn (c .before .before .room-at .ensures .0))))
 
 returns : tie.Need-returns Inv-loop μ-loop
 returns c =

@@ -9,7 +9,7 @@ use borrow.Author.Needs.{needs}
 use Rattle.bans.specs.declared.BanList.{BanList}
 use Rattle.bans.specs.declared.Added.{Added}
 use Rattle.bans.specs.Masks.{maskIn, maskCount, masks}
-use Rattle.bans.specs.Putting.{addition, putAnswer, putAll, uniteAnswer}
+use Rattle.bans.specs.Putting.{addition, putAnswer, putAll, addAnswer}
 use Rattle.bans.specs.Private.Placing.{roomIn}
 use Rattle.bans.proofs.Places.{count-room, length-masks, masks-step}
 use Rattle.bans.proofs.unite.Statement.{statement}
@@ -73,10 +73,10 @@ here c =
     l .inv .2
     ∙ all-step (other c) (l .list) (l .i) (omega arith)
     ∙ ap (λ (r : Added). cond (r .full) (addition true (l .list .room)) (putAll (drop (l .i + 1) (masks (other c))) (r .list)))
-    (sym (c .put .ensures ∙ ap (λ (m : List ℕ). putAnswer m (l .list)) (c .before .mask-in .ensures ∙ ap maskIn (c .before .before .room-at .ensures))))
+    (sym (c .put .ensures ∙ ap (λ (m : List ℕ). putAnswer m (l .list)) (c .before .mask-in .ensures .0 ∙ ap maskIn (c .before .before .room-at .ensures .0))))
 
 returns : tie.Need-returns Inv-loop μ-loop
-unfolding uniteAnswer
+unfolding addAnswer
 returns c =
     let p = c .before in
     let e : putAll (masks (other p)) (given p) ≡ addition true (sofar p .room) = here p ∙ ap (λ (t : Bool). cond t (addition true (sofar p .room)) (putAll (drop (place p + 1) (masks (other p))) (p .put .result .list))) (c .if1 .taken) in
@@ -94,7 +94,7 @@ loop-again c =
     (search needs, p .before .before .before .before .before .loop .inv .1, here p ∙ ap (λ (t : Bool). cond t (addition true (sofar p .room)) (putAll (drop (place p + 1) (masks (other p))) (p .put .result .list))) (c .before .if1 .left))
 
 returns-2 : tie.Need-returns-2 Inv-loop μ-loop
-unfolding uniteAnswer
+unfolding addAnswer
 returns-2 c =
     let l = c .before .loop in
     let s = c .before .before .before .before .before .args .b .room in

@@ -11,11 +11,11 @@ abbrev pub blockSize : ℕ
 blockSize = 16
 
 -- The first n bytes have the same fold.
-abbrev pub Alike : ℕ → List ℕ → List ℕ → Type 0
-Alike n a b = map fold (take n a) ≡ map fold (take n b)
+abbrev pub SameFolds : ℕ → List ℕ → List ℕ → Type 0
+SameFolds n a b = map fold (take n a) ≡ map fold (take n b)
 
 -- The folds of two lists stand to each other as those of what follows the first n bytes.
-pub record Passes (n : ℕ) (a b : List ℕ) : Type 0 where
+pub record PassedOver (n : ℕ) (a b : List ℕ) : Type 0 where
   pub first : n ≤ length a
   pub second : n ≤ length b
-  pub stands : compare (map fold (drop n a)) (map fold (drop n b)) ≡ compare (map fold a) (map fold b)
+  pub order : compare (map fold (drop n a)) (map fold (drop n b)) ≡ compare (map fold a) (map fold b)

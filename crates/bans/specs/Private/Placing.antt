@@ -11,7 +11,7 @@ use Rattle.bans.specs.Limits.{roomSize, listSize}
 use Rattle.bans.specs.Masks.{roomOf, byFold}
 
 -- The place is where the room e is put among l, or where one of its fold stands.
-pub record Placed (e : List ℕ) (l : List (List ℕ)) (p : Place) : Type 0 where
+pub record PlacedIn (e : List ℕ) (l : List (List ℕ)) (p : Place) : Type 0 where
   pub inside : p .at ≤ length l
   pub is : put byFold e l ≡ cond (p .there) l (take (p .at) l ++ e ∷ drop (p .at) l)
 

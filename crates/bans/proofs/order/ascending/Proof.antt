@@ -10,7 +10,7 @@ use borrow.Author.Needs.{needs}
 use Rattle.octets.specs.Order.{compare, isLess}
 use Rattle.ascending.specs.Ascending.{ascends}
 use Rattle.ascending.proofs.Ascends.{ascends-short, ascends-step}
-use Rattle.bans.specs.Limits.{banLimit}
+use Rattle.channel.specs.Limits.{banLimit}
 use Rattle.bans.specs.Masks.{rooms, byFold}
 use Rattle.bans.specs.Private.Placing.{roomIn}
 use Rattle.bans.proofs.Places.{front-step, length-front}
@@ -68,7 +68,7 @@ here c =
     let a = t .before .before .before .args in
     sym (l .inv .1)
     ∙ pairs (a .s .now) (a .n) (l .i) (t .loop-test .taken) (search needs)
-    ∙ ap (λ (t : Bool). t && ascends byFold (drop (l .i + 1) (front c))) (sym (c .is-below .ensures ∙ ap₂ below (c .before .before .room-at .ensures) (c .before .room-at2 .ensures)))
+    ∙ ap (λ (t : Bool). t && ascends byFold (drop (l .i + 1) (front c))) (sym (c .is-below .ensures ∙ ap₂ below (c .before .before .room-at .ensures .0) (c .before .room-at2 .ensures .0)))
 
 returns : tie.Need-returns Inv-loop μ-loop
 returns c =

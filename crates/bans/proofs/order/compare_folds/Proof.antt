@@ -58,7 +58,7 @@ passed-requires : tie.Need-passed-requires Inv-loop μ-loop
 passed-requires c κs = search needs
 
 loop-holds : tie.Need-loop-holds Inv-loop μ-loop
-loop-holds c = let p = c .passed .ensures in (p .first, p .second, p .stands)
+loop-holds c = let p = c .passed .ensures in (p .first, p .second, p .order)
 
 returns : tie.Need-returns Inv-loop μ-loop
 returns c = let l = c .before .before .loop in sym (second-ends _ _ (l .i) (c .before .loop-test .taken) (omega arith)) ∙ l .inv .2

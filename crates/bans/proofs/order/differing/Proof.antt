@@ -14,7 +14,7 @@ use borrow.Author.Needs.{needs}
 use Rattle.laws.proofs.Bools.{and-left, and-right}
 use Rattle.laws.proofs.Bitwise.{or-zero}
 use Rattle.names.specs.Fold.{fold}
-use Rattle.bans.specs.Private.Comparing.{blockSize, Alike}
+use Rattle.bans.specs.Private.Comparing.{blockSize, SameFolds}
 use Rattle.bans.proofs.order.differing.Statement.{statement}
 use Rattle.bans.proofs.order.differing.Tie as tie
 
@@ -33,9 +33,9 @@ fold-next l at j h =
     ∙ map-append fold (take j (drop at l)) (getD (drop at l) j 0 ∷ [])
     ∙ ap (λ (x : ℕ). map fold (take j (drop at l)) ++ (fold x ∷ [])) (getD-drop at l j 0)
 
-alike-next : (a b : List ℕ) (at j bits u : ℕ) → at + j < length a → at + j < length b → (bits ≡ 0 → Alike j (drop at a) (drop at b))
-    → u ≡ cond (eqb (fold (getD a (at + j) 0)) (fold (getD b (at + j) 0))) 0 1 → bitOr bits u ≡ 0 → Alike (j + 1) (drop at a) (drop at b)
-alike-next a b at j bits u h k so e z =
+folds-next : (a b : List ℕ) (at j bits u : ℕ) → at + j < length a → at + j < length b → (bits ≡ 0 → SameFolds j (drop at a) (drop at b))
+    → u ≡ cond (eqb (fold (getD a (at + j) 0)) (fold (getD b (at + j) 0))) 0 1 → bitOr bits u ≡ 0 → SameFolds (j + 1) (drop at a) (drop at b)
+folds-next a b at j bits u h k so e z =
     let both : eqb bits 0 && eqb u 0 ≡ true = sym (or-zero bits u) ∙ eq-eqb (bitOr bits u) 0 z in
     fold-next a at j h
     ∙ ap₂ (λ (l : List ℕ) (x : ℕ). l ++ (x ∷ [])) (so (eqb-true bits 0 (and-left (eqb bits 0) (eqb u 0) both)))
@@ -43,7 +43,7 @@ alike-next a b at j bits u h k so e z =
     ∙ sym (fold-next b at j k)
 
 abbrev Inv-loop : tie.InvT-loop
-Inv-loop a b at bits₀ j₀ bits j = (j ≤ blockSize) × (bits ≡ 0 → Alike j (drop at a) (drop at b))
+Inv-loop a b at bits₀ j₀ bits j = (j ≤ blockSize) × (bits ≡ 0 → SameFolds j (drop at a) (drop at b))
 
 abbrev μ-loop : tie.MeasureT-loop
 μ-loop a b at bits₀ j₀ bits j = blockSize - j
@@ -76,7 +76,7 @@ loop-again : tie.Need-loop-again Inv-loop μ-loop
 loop-again c =
     let a = c .before .before .before .before .before .before .before .args in
     let l = c .before .before .before .before .loop in
-    (search needs, alike-next (a .a .now) (a .b .now) (a .at) (l .j) (l .bits) (c .unlike .result) (omega arith) (omega arith) (l .inv .1) (c .unlike .ensures))
+    (search needs, folds-next (a .a .now) (a .b .now) (a .at) (l .j) (l .bits) (c .unlike .result) (omega arith) (omega arith) (l .inv .1) (c .unlike .ensures))
 
 returns : tie.Need-returns Inv-loop μ-loop
 returns c =

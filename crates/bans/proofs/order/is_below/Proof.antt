@@ -30,7 +30,7 @@ enum-told-3 c = search needs
 -- how the masks of the two rooms stand to each other
 stands : (c : tie.After-compare-folds) → compare (byFold .key (c .before .before .before .before .before .args .r .now)) (byFold .key (c .before .before .before .before .before .args .t .now)) ≡ c .compare-folds .result
 stands c =
-    ap₂ (λ (a b : List ℕ). compare (map fold a) (map fold b)) (sym (c .before .before .mask-in .ensures)) (sym (c .before .mask-in2 .ensures)) ∙ sym (c .compare-folds .ensures)
+    ap₂ (λ (a b : List ℕ). compare (map fold a) (map fold b)) (sym (c .before .before .mask-in .ensures .0)) (sym (c .before .mask-in2 .ensures .0)) ∙ sym (c .compare-folds .ensures)
 
 returns : tie.Need-returns
 returns c = rw (stands (c .before .before) ∙ c .enum-told .given .1)

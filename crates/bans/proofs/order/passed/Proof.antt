@@ -12,28 +12,28 @@ use Rattle.octets.specs.declared.Order.the-variants.{Same}
 use Rattle.octets.specs.Order.{compare}
 use Rattle.octets.proofs.Ordered.{thenBy, compare-refl, compare-parts}
 use Rattle.names.specs.Fold.{fold}
-use Rattle.bans.specs.Private.Comparing.{blockSize, Alike, Passes}
+use Rattle.bans.specs.Private.Comparing.{blockSize, SameFolds, PassedOver}
 use Rattle.bans.proofs.order.passed.Statement.{statement}
 use Rattle.bans.proofs.order.passed.Tie as tie
 
 -- a block more
-passes-more : (a b : List ℕ) (i : ℕ) → i + blockSize ≤ length a → i + blockSize ≤ length b → Passes i a b → Alike blockSize (drop i a) (drop i b) → Passes (i + blockSize) a b
-passes-more a b i h k p e =
+passed-more : (a b : List ℕ) (i : ℕ) → i + blockSize ≤ length a → i + blockSize ≤ length b → PassedOver i a b → SameFolds blockSize (drop i a) (drop i b) → PassedOver (i + blockSize) a b
+passed-more a b i h k p e =
     let front : compare (take blockSize (map fold (drop i a))) (take blockSize (map fold (drop i b))) ≡ Same =
     ap₂ compare (take-map fold blockSize (drop i a) ∙ e) (take-map fold blockSize (drop i b)) ∙ compare-refl (map fold (take blockSize (drop i b))) in
     record {
       first = h;
       second = k;
-      stands =
+      order =
           ap₂ (λ (x y : List ℕ). compare (map fold x) (map fold y)) (sym (drop-drop blockSize i a)) (sym (drop-drop blockSize i b))
           ∙ ap₂ compare (sym (drop-map fold blockSize (drop i a))) (sym (drop-map fold blockSize (drop i b)))
           ∙ ap (λ (o : Order). thenBy o (compare (drop blockSize (map fold (drop i a))) (drop blockSize (map fold (drop i b))))) (sym front)
           ∙ sym (compare-parts blockSize (map fold (drop i a)) (map fold (drop i b)))
-          ∙ p .stands;
+          ∙ p .order;
     }
 
 abbrev Inv-loop : tie.InvT-loop
-Inv-loop a b n i₀ i = (i ≤ n) × (n ≡ min (length a) (length b)) × Passes i a b
+Inv-loop a b n i₀ i = (i ≤ n) × (n ≡ min (length a) (length b)) × PassedOver i a b
 
 abbrev μ-loop : tie.MeasureT-loop
 μ-loop a b n i₀ i = n - i
@@ -42,7 +42,7 @@ lesser-requires : tie.Need-lesser-requires Inv-loop μ-loop
 lesser-requires c κs = search needs
 
 loop-holds : tie.Need-loop-holds Inv-loop μ-loop
-loop-holds c = (search needs, c .lesser .ensures, record { first = omega arith; second = omega arith; stands = refl })
+loop-holds c = (search needs, c .lesser .ensures, record { first = omega arith; second = omega arith; order = refl })
 
 sub-loop : tie.Need-sub-loop Inv-loop μ-loop
 sub-loop c = search needs
@@ -63,7 +63,7 @@ loop-again : tie.Need-loop-again Inv-loop μ-loop
 loop-again c =
     let a = c .before .before .before .before .before .before .before .args in
     let l = c .before .before .before .loop in
-    (omega arith, l .inv .1, passes-more (a .a .now) (a .b .now) (l .i) (omega arith) (omega arith) (l .inv .2) (c .before .differing .ensures (c .if1 .left)))
+    (omega arith, l .inv .1, passed-more (a .a .now) (a .b .now) (l .i) (omega arith) (omega arith) (l .inv .2) (c .before .differing .ensures (c .if1 .left)))
 
 returns-2 : tie.Need-returns-2 Inv-loop μ-loop
 returns-2 c = c .before .loop .inv .2

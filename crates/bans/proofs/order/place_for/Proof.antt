@@ -48,7 +48,7 @@ room c = roomIn (c .before .before .before .before .before .before .before .befo
 stands : (c : tie.After-compare-folds Inv-loop μ-loop) → compare (byFold .key (roomOf (given c))) (byFold .key (room c)) ≡ c .compare-folds .result
 stands c =
     sym (c .compare-folds .ensures
-    ∙ ap₂ (λ (x y : List ℕ). compare (map fold x) (map fold y)) (sym (mask-room (given c) (search needs))) (c .before .mask-in .ensures ∙ ap maskIn (c .before .before .room-at .ensures)))
+    ∙ ap₂ (λ (x y : List ℕ). compare (map fold x) (map fold y)) (sym (mask-room (given c) (search needs))) (c .before .mask-in .ensures .0 ∙ ap maskIn (c .before .before .room-at .ensures .0)))
 
 returns : tie.Need-returns Inv-loop μ-loop
 returns c =

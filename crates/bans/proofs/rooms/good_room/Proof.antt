@@ -10,7 +10,7 @@ use borrow.Author.Needs.{needs}
 use Rattle.laws.specs.Lists.{all}
 use Rattle.octets.specs.Bytes.{isZero}
 use Rattle.octets.proofs.Room.{part-next}
-use Rattle.bans.specs.Limits.{maskLimit}
+use Rattle.channel.specs.Limits.{maskLimit}
 use Rattle.bans.specs.Masks.{isMask, maskIn}
 use Rattle.bans.specs.WellFormed.{goodRoom}
 use Rattle.bans.proofs.rooms.good_room.Statement.{statement}
@@ -50,7 +50,7 @@ returns-3 c =
     let r = w .before .before .before .before .args .r .now in
     simp (
       le-leb (getD r 0 0) maskLimit (omega (arith, t .before .if2 .left, w .wide .ensures .0)),
-      ap isMask (sym (t .mask-in .ensures)) ∙ sym (c .before .is-mask .ensures) ∙ not-true _ (c .if3 .taken),
+      ap isMask (sym (t .mask-in .ensures .0)) ∙ sym (c .before .is-mask .ensures) ∙ not-true _ (c .if3 .taken),
     )
 
 add-zero-from : tie.Need-add-zero-from
@@ -67,7 +67,7 @@ returns-4 c =
     let r = w .before .before .before .before .args .r .now in
     simp (
       le-leb (getD r 0 0) maskLimit (omega (arith, t .before .if2 .left, w .wide .ensures .0)),
-      ap isMask (sym (t .mask-in .ensures)) ∙ sym (c .before .before .is-mask .ensures) ∙ not-false _ (c .before .if3 .left),
+      ap isMask (sym (t .mask-in .ensures .0)) ∙ sym (c .before .before .is-mask .ensures) ∙ not-false _ (c .before .if3 .left),
     )
     (c .zero-from .ensures ∙ ap (λ (n : ℕ). all isZero (drop (1 + n) r)) (w .wide .ensures .0))
 

@@ -45,7 +45,7 @@ here c =
     let a = t .before .before .before .args in
     sym (l .inv .1)
     ∙ all-front (a .s .now) (a .n) (l .i) (t .loop-test .taken) (search needs) goodRoom
-    ∙ ap (λ (t : Bool). t && all goodRoom (drop (l .i + 1) (front c))) (sym (c .good-room .ensures ∙ ap goodRoom (c .before .room-at .ensures)))
+    ∙ ap (λ (t : Bool). t && all goodRoom (drop (l .i + 1) (front c))) (sym (c .good-room .ensures ∙ ap goodRoom (c .before .room-at .ensures .0)))
 
 returns : tie.Need-returns Inv-loop μ-loop
 returns c =

@@ -2,7 +2,7 @@
 use mathlib.Core.Path.{ap, _∙_}
 use Prim.Native.Nat.{ℕ, min}
 use borrow.Author.Needs.{needs}
-use Rattle.bans.specs.Limits.{banLimit}
+use Rattle.channel.specs.Limits.{banLimit}
 use Rattle.bans.specs.Masks.{maskCount}
 use Rattle.bans.proofs.Places.{count-none}
 use Rattle.bans.proofs.rooms.mask_count.Statement.{statement}

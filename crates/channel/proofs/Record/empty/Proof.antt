@@ -46,7 +46,7 @@ vacant-requires c κs = search needs
 
 returns : tie.Need-returns
 unfolding unused
-returns c = (unused-empty _ (c .vacant .ensures), ((refl, refl, refl, refl), ((refl, refl), ((refl, refl), (refl, refl)))))
+returns c = (unused-empty _ (c .vacant .ensures), ((refl, refl, refl, refl), ((refl, refl), ((refl, refl), ((refl, refl), (refl, refl))))))
 
 pub empty-spec : {M : Type 1} → statement M
 empty-spec = tie.close (tie.spec vacant-requires returns)

@@ -1,0 +1,34 @@
+-- The masks of a list as a text, a mark before each. It has room where their rooms have: the mark stands for the byte with the length. Assumes nothing.
+use mathlib.Core.Path.{ap}
+use mathlib.Core.List.{List, map}
+use Prim.Native.Nat.{ℕ, zero, suc, _*_, _≤_}
+use native.Mathlib.Omega.{arith}
+use lib.ListN.{length, take, drop, getD, length-append, length-drop, length-take}
+use Rattle.laws.specs.Lists.{prefixed}
+use Rattle.octets.proofs.Room.{part-next}
+use Rattle.channel.specs.Limits.{maskLimit, banLimit}
+use Rattle.bans.specs.Limits.{roomSize, roomsSize}
+use Rattle.bans.specs.Masks.{maskIn, chunks, rooms, maskCount, usedRooms, masks}
+
+mask-fits : (r : List ℕ) → length r ≤ roomSize → length (maskIn r) ≤ maskLimit
+unfolding maskIn
+mask-fits r h = omega (arith, ap (λ (l : List ℕ). length l) (part-next r 1 (getD r 0 0)), length-take (getD r 0 0) (drop 1 r), length-drop 1 r)
+
+-- some of the first n rooms of any bytes
+chunks-fit : (mark n k : ℕ) (t : List ℕ) → length (prefixed mark (map maskIn (take k (chunks n t)))) ≤ roomSize * n
+unfolding chunks prefixed
+chunks-fit mark n zero t = omega arith
+chunks-fit mark zero (suc k) t = omega arith
+chunks-fit mark (suc n) (suc k) t =
+    let first : List ℕ = take roomSize t in
+    let behind : List ℕ = drop roomSize t in
+    omega (
+      arith,
+      length-append (maskIn first) (prefixed mark (map maskIn (take k (chunks n behind)))),
+      mask-fits first (omega (arith, length-take roomSize t)),
+      chunks-fit mark n k behind,
+    )
+
+pub masks-fit : (mark : ℕ) (s : List ℕ) → length (prefixed mark (masks s)) ≤ roomsSize
+unfolding masks usedRooms rooms
+masks-fit mark s = chunks-fit mark banLimit (maskCount s) (drop 1 s)
