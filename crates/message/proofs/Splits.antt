@@ -1,13 +1,13 @@
 -- Laws of words parted by SPACEs: the first word at a place, and what follows it. Assumes nothing.
 use mathlib.Core.Path.{_≡_, refl, sym, ap, _∙_}
-use mathlib.Core.Bool.{Bool, true, false}
+use mathlib.Core.Bool.{Bool, true, false, cond}
 use mathlib.Core.List.{List, [], _∷_, map}
 use Prim.Native.Nat.{ℕ, _+_, _-_, _≤_, _<_}
 use native.Mathlib.Omega.{arith}
 use lib.ListN.{length, drop, getD, drop-of-length-le, length-drop}
 use lib.Seq.{drop-drop}
 use lib.Dec.{eqb}
-use borrow.Author.Tests.{ne-eqb, eqb-true, eqb-false}
+use borrow.Author.Tests.{eq-eqb, ne-eqb, eqb-true, eqb-false}
 use Rattle.octets.specs.Bytes.{space}
 use Rattle.octets.specs.Room.{part}
 use Rattle.laws.proofs.Lists.{drop-step}
@@ -127,3 +127,22 @@ module _ (s : List ℕ) (at : ℕ) (w : Span) (within : at ≤ length s) (is : w
 
     pub next-in : w .end ≤ length s
     next-in = omega (arith, ends-at, before-end, word-in (drop start s), length-drop start s)
+
+-- ---- the words from a span on, which is that of the next one or stands at the end
+abbrev pub left : List ℕ → Span → List (List ℕ)
+left s w = cond (eqb (w .start) (length s)) [] (part s (w .start) (w .end) ∷ wordsFrom s (w .end))
+
+module _ (s : List ℕ) (w : Span) where
+  pub left-none : w .start ≡ length s → left s w ≡ []
+  left-none none = rw (eq-eqb (w .start) (length s) none)
+
+  pub left-some : (w .start ≡ length s → ⊥) → left s w ≡ part s (w .start) (w .end) ∷ wordsFrom s (w .end)
+  left-some some = rw (ne-eqb (w .start) (length s) some)
+
+  -- from the span that is found at a place on they are those from the place on
+  pub left-next : (at : ℕ) → at ≤ length s → w ≡ nextWord s at → left s w ≡ wordsFrom s at
+  left-next at h is = go (eqb (w .start) (length s)) refl
+    where
+      go : (t : Bool) → eqb (w .start) (length s) ≡ t → left s w ≡ wordsFrom s at
+      go true e = rw e (sym (next-none s at w h is (eqb-true (w .start) (length s) e)))
+      go false e = rw e (sym (next-one s at w h is (eqb-false (w .start) (length s) e)))

@@ -29,7 +29,7 @@ use Rattle.sjoin.specs.Join.{listIn, argumentsIn, goodCount, isTime, joinRules,
 use Rattle.telling.specs.Telling.{modesText, listText, paramsOf, sjoin}
 use Rattle.retelling.specs.Retelling.{TellsBack}
 use Rattle.retelling.proofs.Entered.{members-back, list-good}
-use Rattle.sjoin.proofs.Judged.{sourced, led, listed}
+use Rattle.sjoin.proofs.Judged.{sourced, headed, led, listed}
 use Rattle.retelling.proofs.Lettered.{modes-back}
 
 -- ---- key and limit, each there or not
@@ -132,7 +132,7 @@ rules-back c p sid command h =
     sym
     (listed d (sym (sourced d (sh .0) h))
     (sym
-    (led d (time-back c p .0) (λ e. omega (arith, time-back c p .1, e, p .from)) (p .name)
+    (led d (sym (headed d (time-back c p .0) (λ e. omega (arith, time-back c p .1, e, p .from)) (p .name)))
     (rw (sh .1, mb .0, mb .2) (fits a b (s .key) (digitsOf (s .limit)) (key-good s (p .settings)) (limit-good s (p .settings))))))
     (ap goodEntries (sh .2) ∙ list-good (c .members) (nil-length (c .members) ∙ ne-eqb (length (c .members)) 0 (λ e. omega (arith, p .some, e))) (p .listed)))
 

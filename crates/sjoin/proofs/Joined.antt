@@ -10,7 +10,7 @@ use lib.Dec.{eqb}
 use borrow.Author.Tests.{not-false, eqb-true}
 use Rattle.refusal.specs.Numbers.{accepted}
 use Rattle.refusal.specs.Rules.{firstOf}
-use Rattle.refusal.proofs.Rules.{first-none}
+use Rattle.refusal.proofs.Rules.{first-none, both-none}
 use Rattle.laws.specs.Lists.{all, same}
 use Rattle.octets.specs.Decimals.{zeroDigit, isDecimal, valueFrom, valueOf}
 use Rattle.laws.proofs.Bools.{and-left, and-right}
@@ -21,8 +21,9 @@ use Rattle.channel.proofs.Keys.{key-length}
 use Rattle.message.specs.Content.{Content, prefixIs}
 use Rattle.sjoin.specs.Modes.{keyLetter, limitLetter, lettersOf, lacks, hasParameter, parametered, isLimit, goodLetters, goodArgument, goodArguments, argumentAmong, argumentOf, isModes}
 use Rattle.sjoin.specs.Entries.{goodEntries}
-use Rattle.sjoin.specs.Join.{timeIn, nameIn, modesIn, listIn, argumentsIn, goodCount, isTime, joinRules}
+use Rattle.sjoin.specs.Join.{timeIn, nameIn, modesIn, listIn, argumentsIn, goodCount, isTime, headRules, joinRules}
 use Rattle.sjoin.specs.Private.Scanning.{limitIn}
+use Rattle.sjoin.proofs.Judged.{heads}
 
 -- ---- each test is passed
 -- What the rules test of a line, each passed.
@@ -41,19 +42,18 @@ unfolding joinRules
 passes c e =
     let a = first-none _ _ (λ z. omega arith) e in
     let b = first-none _ _ (λ z. omega arith) (a .1) in
-    let d = first-none _ _ (λ z. omega arith) (b .1) in
-    let f = first-none _ _ (λ z. omega arith) (d .1) in
-    let g = first-none _ _ (λ z. omega arith) (f .1) in
+    let d = both-none _ (headRules c) refl (b .1) in
+    let f = heads c (d .0) in
+    let g = first-none _ _ (λ z. omega arith) (d .1) in
     let h = first-none _ _ (λ z. omega arith) (g .1) in
-    let i = first-none _ _ (λ z. omega arith) (h .1) in
     record {
       count = not-false _ (a .0);
       source = not-false _ (b .0);
-      time = not-false _ (d .0);
-      after = f .0;
-      name = not-false _ (g .0);
-      modes = not-false _ (h .0);
-      list = not-false _ (i .0);
+      time = f .time;
+      after = f .after;
+      name = f .name;
+      modes = not-false _ (g .0);
+      list = not-false _ (h .0);
     }
 
 -- ---- a letter that is missing has no parameter, and one that is there a good one

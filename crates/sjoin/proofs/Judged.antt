@@ -6,12 +6,12 @@ use mathlib.Core.List.{List, [], _∷_}
 use native.Mathlib.Omega.{arith}
 use lib.ListN.{length}
 use lib.Dec.{eqb, leb}
-use borrow.Author.Tests.{eq-eqb, ne-eqb, eqb-true, lt-ltb, le-ltb, le-leb, lt-leb, leb-true, not-false}
+use borrow.Author.Tests.{eq-eqb, ne-eqb, eqb-true, eqb-false, lt-ltb, le-ltb, le-leb, lt-leb, leb-true, not-false}
 use Rattle.refusal.specs.Numbers.{accepted, lineTooLong, wrongParamCount, badSource, badTime, zeroTime, badName, badModes, badMembers}
 use Rattle.refusal.specs.Rules.{firstOf, ascend, ascendFrom, placeIn}
 use Rattle.refusal.proofs.Rules.{skip, stop, first-nil, first-none, numbered, append-some, append-none}
 use Rattle.laws.specs.Lists.{same}
-use Rattle.laws.proofs.Bools.{and-left, both-ways}
+use Rattle.laws.proofs.Bools.{and-left, and-right, both-ways}
 use Rattle.octets.specs.declared.Decimal.the-variants.{Value, Malformed}
 use Rattle.octets.specs.Decimals.{zeroDigit, isDecimal, valueFrom, valueOf, digitsOf, decimalUpTo}
 use Rattle.octets.proofs.Bytes.{same-refl, same-true}
@@ -25,7 +25,7 @@ use Rattle.message.specs.Parts.{contentBy}
 use Rattle.message.specs.Reading.{bodyRules, lineRules}
 use Rattle.sjoin.specs.Modes.{lettersOf, goodLetters, parametered, goodArguments, isModes}
 use Rattle.sjoin.specs.Entries.{goodEntries}
-use Rattle.sjoin.specs.Join.{timeIn, nameIn, modesIn, listIn, argumentsIn, fewest, most, goodCount, isTime, sourceRules, leadRules, tellingRules, joinRules, spanRules, lineJoinRules}
+use Rattle.sjoin.specs.Join.{timeIn, nameIn, modesIn, listIn, argumentsIn, fewest, most, goodCount, isTime, timeOf, sourceRules, headRules, leadRules, tellingRules, joinRules, spanRules, lineJoinRules}
 
 -- The rules stand in the order of their numbers: the first in it that applies is given.
 pub rules-ascend : (c : Content) → ascend (joinRules c) ≡ true
@@ -62,6 +62,16 @@ time-none s e = go (isDecimal s) refl (leb (valueOf s) timeLimit) refl
     go true f false g = rw (f, g)
     go false f u g = rw f
 
+-- a time says its value
+pub time-said : (s : List ℕ) → isTime s ≡ true → timeOf s ≡ valueOf s
+unfolding timeOf
+time-said s t = rw t
+
+-- a text that is no time says 0
+pub time-unsaid : (s : List ℕ) → isTime s ≡ false → timeOf s ≡ 0
+unfolding timeOf
+time-unsaid s t = rw t
+
 -- one that is good is `0` exactly if its value is 0
 pub time-zero : (s : List ℕ) → isTime s ≡ true → same s (zeroDigit ∷ []) ≡ eqb (valueOf s) 0
 unfolding isTime valueFrom
@@ -70,6 +80,11 @@ time-zero s t =
     both-ways (same s (zeroDigit ∷ [])) (eqb (valueOf s) 0)
     (λ e. eq-eqb (valueOf s) 0 (ap valueOf (same-true s (zeroDigit ∷ []) e)))
     (λ e. rw (sym d ∙ ap digitsOf (eqb-true (valueOf s) 0 e) ∙ digits-one 0 (omega arith)) (same-refl (zeroDigit ∷ [])))
+
+-- and else it is from 1 up to the last
+pub time-bounds : (s : List ℕ) → isTime s ≡ true → same s (zeroDigit ∷ []) ≡ false → (1 ≤ valueOf s) × (valueOf s ≤ timeLimit)
+unfolding isTime
+time-bounds s t z = (omega (arith, eqb-false (valueOf s) 0 (sym (time-zero s t) ∙ z)), leb-true (valueOf s) timeLimit (and-right (isDecimal s) _ t))
 
 -- ---- the modes
 -- modes are good exactly if their letters and their parameters are
@@ -112,15 +127,15 @@ module _ (c : Content) where
   pub source-counts : firstOf (sourceRules c) ≡ accepted → goodCount c ≡ true
   source-counts e = not-false _ (first-none _ _ (λ z. omega arith) e .0)
 
--- ---- those of time, name and modes
+-- ---- those of time and name
 module _ (c : Content) where
   -- a bad time gives its number
-  pub untimed : isTime (timeIn c) ≡ false → badTime ≡ firstOf (leadRules c)
+  pub untimed : isTime (timeIn c) ≡ false → badTime ≡ firstOf (headRules c)
   untimed e = sym (stop _ _ (ap not e))
 
   module _ (t : isTime (timeIn c) ≡ true) where
     -- a time that is 0 gives its number
-    pub zero-time : valueOf (timeIn c) ≡ 0 → zeroTime ≡ firstOf (leadRules c)
+    pub zero-time : valueOf (timeIn c) ≡ 0 → zeroTime ≡ firstOf (headRules c)
     zero-time e = sym (skip _ _ (ap not t) ∙ stop _ _ (time-zero (timeIn c) t ∙ eq-eqb (valueOf (timeIn c)) 0 e))
 
     module _ (z : valueOf (timeIn c) ≡ 0 → ⊥) where
@@ -128,17 +143,41 @@ module _ (c : Content) where
       later = time-zero (timeIn c) t ∙ ne-eqb (valueOf (timeIn c)) 0 z
 
       -- behind a good time a bad name gives its number
-      pub unnamed : isChannel (nameIn c) ≡ false → badName ≡ firstOf (leadRules c)
+      pub unnamed : isChannel (nameIn c) ≡ false → badName ≡ firstOf (headRules c)
       unnamed e = sym (skip _ _ (ap not t) ∙ skip _ _ later ∙ stop _ _ (ap not e))
 
-      module _ (m : isChannel (nameIn c) ≡ true) where
-        -- behind a good time and a good name bad modes give their number
-        pub unfit : isModes (modesIn c) (argumentsIn c) ≡ false → badModes ≡ firstOf (leadRules c)
-        unfit e = sym (skip _ _ (ap not t) ∙ skip _ _ later ∙ skip _ _ (ap not m) ∙ stop _ _ (ap not e))
+      -- where time and name are good, no rule of theirs applies
+      pub headed : isChannel (nameIn c) ≡ true → accepted ≡ firstOf (headRules c)
+      headed e = sym (skip _ _ (ap not t) ∙ skip _ _ later ∙ skip _ _ (ap not e) ∙ first-nil)
 
-        -- where time, name and modes are good, no rule of theirs applies
-        pub led : isModes (modesIn c) (argumentsIn c) ≡ true → accepted ≡ firstOf (leadRules c)
-        led e = sym (skip _ _ (ap not t) ∙ skip _ _ later ∙ skip _ _ (ap not m) ∙ skip _ _ (ap not e) ∙ first-nil)
+-- What the rules of time and name test, each passed.
+pub record Heads (c : Content) : Type 0 where
+  pub time : isTime (timeIn c) ≡ true
+  pub after : same (timeIn c) (zeroDigit ∷ []) ≡ false
+  pub name : isChannel (nameIn c) ≡ true
+
+-- A line that none of them refuses passes each test.
+pub heads : (c : Content) → firstOf (headRules c) ≡ accepted → Heads c
+heads c e =
+    let a = first-none _ _ (λ z. omega arith) e in
+    let b = first-none _ _ (λ z. omega arith) (a .1) in
+    let d = first-none _ _ (λ z. omega arith) (b .1) in
+    record { time = not-false _ (a .0); after = b .0; name = not-false _ (d .0) }
+
+-- ---- those of time, name and modes
+module _ (c : Content) where
+  -- a rule of time and name that applies decides
+  pub head-decides : (firstOf (headRules c) ≡ accepted → ⊥) → firstOf (leadRules c) ≡ firstOf (headRules c)
+  head-decides = append-some _ (headRules c)
+
+  module _ (h : firstOf (headRules c) ≡ accepted) where
+    -- behind a good time and a good name bad modes give their number
+    pub unfit : isModes (modesIn c) (argumentsIn c) ≡ false → badModes ≡ firstOf (leadRules c)
+    unfit e = sym (append-none _ (headRules c) refl h ∙ stop _ _ (ap not e))
+
+    -- where time, name and modes are good, no rule of theirs applies
+    pub led : isModes (modesIn c) (argumentsIn c) ≡ true → accepted ≡ firstOf (leadRules c)
+    led e = sym (append-none _ (headRules c) refl h ∙ skip _ _ (ap not e) ∙ first-nil)
 
 -- ---- and all of them, one after the other
 module _ (c : Content) where

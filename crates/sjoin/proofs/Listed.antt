@@ -2,13 +2,13 @@
 -- read word by word. Assumes nothing.
 use Prim.Native.Nat.{ℕ, zero, suc, _+_, _*_, _≤_, _<_}
 use mathlib.Core.Path.{_≡_, refl, sym, ap, _∙_}
-use mathlib.Core.Bool.{Bool, true, false, not, cond, _&&_, and-false}
+use mathlib.Core.Bool.{Bool, true, false, not, _&&_, and-false}
 use mathlib.Core.List.{List, [], _∷_, _++_, map}
 use native.Mathlib.Omega.{arith}
 use lib.ListN.{length, take, drop, set, length-drop, length-map}
 use lib.Seq.{take-all}
 use lib.Dec.{eqb, ltb}
-use borrow.Author.Tests.{eq-eqb, ne-eqb, eqb-true, eqb-false, lt-ltb, le-leb, leb-true}
+use borrow.Author.Tests.{ne-eqb, lt-ltb, le-leb, leb-true}
 use Rattle.laws.specs.Lists.{all, isNil, startsWith, padded}
 use Rattle.laws.proofs.Bools.{and-right}
 use Rattle.laws.proofs.Lists.{drop-next, take-next, nil-length, all-imp}
@@ -25,7 +25,7 @@ use Rattle.message.specs.declared.Span.{Span}
 use Rattle.message.specs.Grammar.{lineLimit}
 use Rattle.message.specs.Words.{wordsOf, nextWord}
 use Rattle.message.proofs.Sizes.{room, long, words-room, words-few}
-use Rattle.message.proofs.Splits.{wordsFrom, next-none, next-one, next-in}
+use Rattle.message.proofs.Splits.{wordsFrom, next-in, left, left-none, left-some, left-next}
 use Rattle.channel.specs.Modes.{plus}
 use Rattle.channel.specs.Channel.{atSign}
 use Rattle.sjoin.specs.Entries.{past, idOf, isEntry, memberOf, goodEntries, named}
@@ -68,17 +68,6 @@ list-room list h k =
     omega (arith, n)
 
 -- ---- read word by word
--- the words from a span on, which is that of the next one or stands at the end
-abbrev pub left : List ℕ → Span → List (List ℕ)
-left list w = cond (eqb (w .start) (length list)) [] (part list (w .start) (w .end) ∷ wordsFrom list (w .end))
-
-left-next : (list : List ℕ) (at : ℕ) (w : Span) → at ≤ length list → w ≡ nextWord list at → left list w ≡ wordsFrom list at
-left-next list at w h is = go (eqb (w .start) (length list)) refl
-  where
-    go : (t : Bool) → eqb (w .start) (length list) ≡ t → left list w ≡ wordsFrom list at
-    go true e = rw e (sym (next-none list at w h is (eqb-true (w .start) (length list) e)))
-    go false e = rw e (sym (next-one list at w h is (eqb-false (w .start) (length list) e)))
-
 -- The words before a span are entries, as many as the count, and their members are gathered.
 pub record Before (list : List ℕ) (held : List Member) (count : ℕ) (w : Span) : Type 0 where
   pub inside : (w .start ≡ length list → ⊥) → w .end ≤ length list
@@ -90,7 +79,7 @@ pub record Before (list : List ℕ) (held : List Member) (count : ℕ) (w : Span
 -- at the first word nothing is gathered
 pub before-first : (list : List ℕ) (held : List Member) (w : Span) → held ≡ padded memberLimit nobody [] → w ≡ nextWord list 0 → Before list held 0 w
 before-first list held w e is =
-    let l = left-next list 0 w (omega arith) is in
+    let l = left-next list w 0 (omega arith) is in
     record {
       inside = next-in list 0 w (omega arith) is;
       entries = ap (all isEntry) l;
@@ -107,12 +96,12 @@ module _ (list : List ℕ) (held : List Member) (count : ℕ) (w : Span) (b : Be
     abbrev behind : List (List ℕ)
     behind = wordsFrom list (w .end)
 
-    left-some : left list w ≡ entry ∷ behind
-    left-some = rw (ne-eqb (w .start) (length list) some)
+    here : left list w ≡ entry ∷ behind
+    here = left-some list w some
 
     all-left : all isEntry (wordsOf list) ≡ isEntry entry && all isEntry behind
     unfolding all
-    all-left = sym (b .entries) ∙ ap (all isEntry) left-some
+    all-left = sym (b .entries) ∙ ap (all isEntry) here
 
     -- a word that is no entry
     pub before-odd : isEntry entry ≡ false → goodEntries list ≡ false
@@ -122,7 +111,7 @@ module _ (list : List ℕ) (held : List Member) (count : ℕ) (w : Span) (b : Be
     -- one that is an entry
     module _ (good : isEntry entry ≡ true) where
       taken : suc userIdLength * suc count + room behind ≤ suc (length list)
-      taken = omega (arith, b .takes, ap (λ (ws : List (List ℕ)). room ws) left-some, leb-true userIdLength (length entry) (entry-takes entry good))
+      taken = omega (arith, b .takes, ap (λ (ws : List (List ℕ)). room ws) here, leb-true userIdLength (length entry) (entry-takes entry good))
 
       -- there is room for its member
       pub before-room : length list ≤ lineLimit → count < memberLimit
@@ -131,8 +120,8 @@ module _ (list : List ℕ) (held : List Member) (count : ℕ) (w : Span) (b : Be
       -- with its member gathered, the same is known at the next word
       pub before-next : (m : Member) (v : Span) → m ≡ memberOf entry → v ≡ nextWord list (w .end) → Before list (set held count m) (count + 1) v
       before-next m v e is =
-          let l = left-next list (w .end) v (b .inside some) is in
-          let d : drop count (named list) ≡ memberOf entry ∷ map memberOf behind = sym (b .others) ∙ ap (map memberOf) left-some in
+          let l = left-next list v (w .end) (b .inside some) is in
+          let d : drop count (named list) ≡ memberOf entry ∷ map memberOf behind = sym (b .others) ∙ ap (map memberOf) here in
           let t : take (count + 1) (named list) ≡ take count (named list) ++ (m ∷ []) = take-next (named list) count _ _ d ∙ ap (λ (x : Member). take count (named list) ++ (x ∷ [])) (sym e) in
           record {
             inside = next-in list (w .end) v (b .inside some) is;
@@ -144,15 +133,15 @@ module _ (list : List ℕ) (held : List Member) (count : ℕ) (w : Span) (b : Be
 
       -- fewer words are left at the next one
       pub before-fewer : (v : Span) → v ≡ nextWord list (w .end) → length (left list v) < length (left list w)
-      before-fewer v is = rw (left-next list (w .end) v (b .inside some) is, left-some) (omega arith)
+      before-fewer v is = rw (left-next list v (w .end) (b .inside some) is, here) (omega arith)
 
   -- at the end
   module _ (none : w .start ≡ length list) where
-    left-none : left list w ≡ []
-    left-none = rw (eq-eqb (w .start) (length list) none)
+    nothing : left list w ≡ []
+    nothing = left-none list w none
 
     every : take count (named list) ≡ named list
-    every = take-all count (named list) (omega (arith, length-drop count (named list), ap (λ (l : List Member). length l) (sym (b .others) ∙ ap (map memberOf) left-none)))
+    every = take-all count (named list) (omega (arith, length-drop count (named list), ap (λ (l : List Member). length l) (sym (b .others) ∙ ap (map memberOf) nothing)))
 
     -- what is gathered is the roster of all that the list names
     pub before-members : _≡_ {A = Roster} (record { list = held; count = count }) (roster (named list))
@@ -163,7 +152,7 @@ module _ (list : List ℕ) (held : List Member) (count : ℕ) (w : Span) (b : Be
     unfolding goodEntries all
     before-good =
         let n : count ≡ length (wordsOf list) = b .gathers .counts ∙ ap (λ (l : List Member). length l) every ∙ length-map (wordsOf list) memberOf in
-        let a : all isEntry (wordsOf list) ≡ true = sym (b .entries) ∙ ap (all isEntry) left-none in
+        let a : all isEntry (wordsOf list) ≡ true = sym (b .entries) ∙ ap (all isEntry) nothing in
         rw (a, nil-length (wordsOf list), ← n) (go count)
       where
         go : (k : ℕ) → ltb 0 k ≡ not (eqb k 0) && true

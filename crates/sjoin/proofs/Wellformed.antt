@@ -8,11 +8,11 @@ use native.Mathlib.Omega.{arith}
 use lib.Bits.{or-lt}
 use lib.ListN.{length, length-map}
 use lib.Dec.{eqb, ltb}
-use borrow.Author.Tests.{not-true, eqb-false, leb-true, ltb-true, lt-ltb}
+use borrow.Author.Tests.{not-true, ltb-true, lt-ltb}
 use Rattle.refusal.specs.Numbers.{accepted}
 use Rattle.refusal.specs.Rules.{firstOf}
 use Rattle.laws.specs.Lists.{all, isNil, startsWith}
-use Rattle.octets.specs.Decimals.{isDecimal, valueFrom, valueOf}
+use Rattle.octets.specs.Decimals.{valueFrom, valueOf}
 use Rattle.laws.proofs.Bools.{and-left, and-right, or-not, eqb-swap}
 use Rattle.laws.proofs.Lists.{all-head, all-tail, all-imp-map, nil-map}
 use Rattle.ascending.proofs.Ascends.{unite-some, unite-few, all-unite, ascending-unite}
@@ -34,13 +34,13 @@ use Rattle.message.proofs.SpanContents.{message-holds}
 use Rattle.message.specs.Words.{wordsOf}
 use Rattle.sjoin.specs.Modes.{keyLetter, limitLetter, lettersOf, isMode, lacks, goodLetters, goodArgument, isModes, modesByte}
 use Rattle.sjoin.specs.Entries.{past, statusOf, isEntry, memberOf, goodEntries, named}
-use Rattle.sjoin.specs.Join.{timeIn, modesIn, listIn, argumentsIn, isTime, joinRules, channelIn, toldBy}
+use Rattle.sjoin.specs.Join.{timeIn, modesIn, listIn, argumentsIn, joinRules, channelIn, toldBy}
 use Rattle.sjoin.proofs.Modes.{bits, same-place}
 use Rattle.sjoin.specs.declared.Told.{Told}
 use Rattle.sjoin.proofs.Answers.{list-small, told-unread, told-number, told-says}
 use Rattle.sjoin.proofs.Limits.{limit-bounds}
 use Rattle.sjoin.proofs.Listed.{list-entries, list-room}
-use Rattle.sjoin.proofs.Judged.{time-zero}
+use Rattle.sjoin.proofs.Judged.{time-bounds}
 use Rattle.sjoin.proofs.Joined.{Passes, passes, Suits, argument-suits}
 
 -- ---- the modes' byte
@@ -96,9 +96,8 @@ module _ (c : Content) (none : firstOf (joinRules c) ≡ accepted) (small : leng
   unfolding isModes goodLetters
   letters-good = and-left _ _ (and-right (startsWith plus (modesIn c)) _ (and-left (goodLetters (modesIn c)) _ (good .modes)))
 
-  time-to : valueOf (timeIn c) ≤ timeLimit
-  unfolding isTime
-  time-to = leb-true (valueOf (timeIn c)) timeLimit (and-right (isDecimal (timeIn c)) _ (good .time))
+  time-in : (1 ≤ valueOf (timeIn c)) × (valueOf (timeIn c) ≤ timeLimit)
+  time-in = time-bounds (timeIn c) (good .time) (good .after)
 
   words-some : isNil (wordsOf (listIn c)) ≡ false
   unfolding goodEntries
@@ -113,8 +112,8 @@ module _ (c : Content) (none : firstOf (joinRules c) ≡ accepted) (small : leng
       let n = named (listIn c) in
       record {
         name = good .name;
-        from = omega (arith, eqb-false (valueOf (timeIn c)) 0 (sym (time-zero (timeIn c) (good .time)) ∙ good .after));
-        until = time-to;
+        from = time-in .0;
+        until = time-in .1;
         settings = record {
           modes = bits-small s;
           keyed = bits-have keyLetter s letters-good ∙ k .0;

@@ -55,6 +55,10 @@ goodCount c = leb fewest (length (c .params)) && leb (length (c .params)) most
 unfoldable pub isTime : List ℕ → Bool
 isTime s = isDecimal s && leb (valueOf s) timeLimit
 
+-- the time that some bytes say, 0 where they say none
+unfoldable pub timeOf : List ℕ → ℕ
+timeOf s = cond (isTime s) (valueOf s) 0
+
 -- of count and source: 12 and 13
 abbrev pub sourceRules : Content → List Rule
 sourceRules c =
@@ -62,14 +66,17 @@ sourceRules c =
     ∷ badSource when not (prefixIs isServerId (c .prefix))
     ∷ []
 
--- of what leads the list, which is time, name and modes with their parameters: 14 to 17
-abbrev pub leadRules : Content → List Rule
-leadRules c =
+-- of time and name, which lead the line of any command that has them: 14 to 16
+abbrev pub headRules : Content → List Rule
+headRules c =
     badTime when not (isTime (timeIn c))
     ∷ zeroTime when same (timeIn c) (zeroDigit ∷ [])
     ∷ badName when not (isChannel (nameIn c))
-    ∷ badModes when not (isModes (modesIn c) (argumentsIn c))
     ∷ []
+
+-- of what leads the list, which is time, name and modes with their parameters: 14 to 17
+abbrev pub leadRules : Content → List Rule
+leadRules c = headRules c ++ (badModes when not (isModes (modesIn c) (argumentsIn c)) ∷ [])
 
 -- of all that is told: 14 to 18
 abbrev pub tellingRules : Content → List Rule

@@ -5,17 +5,15 @@ mod entries;
 mod letters;
 
 ghost use mathlib.Core.Path.{_≡_};
-ghost use mathlib.Core.Bool.{true};
 ghost use Prim.Native.Nat.{_≤_};
 ghost use lib.ListN.{length};
 ghost use Rattle.refusal.specs.Rules.{firstOf};
 ghost use Rattle.laws.specs.Lists.{padded};
-ghost use Rattle.octets.specs.Decimals.{valueOf};
 ghost use Rattle.names.specs.Names.{nameLimit};
 ghost use Rattle.channel.specs.Limits.{keyLimit};
 ghost use Rattle.channel.specs.Record.{encode};
 ghost use Rattle.message.specs.Parts.{contentBy};
-ghost use Rattle.sjoin.specs.Join.{timeIn, isTime, sourceRules, leadRules, channelIn, toldIn, toldBy};
+ghost use Rattle.sjoin.specs.Join.{timeIn, timeOf, sourceRules, headRules, leadRules, channelIn, toldIn, toldBy};
 ghost use Rattle.sjoin.specs.Private.Scanning.{Parted, Tells, refusedBy};
 use arguments::MODES_AT;
 use arguments::argument;
@@ -82,10 +80,9 @@ fn source_number(text: &[u8], m: Message) -> u8
     ACCEPTED
 }
 
-// The first of the numbers 14 to 17 that applies, or ACCEPTED. The list is at `last`.
-fn lead_number(text: &[u8], m: Message, last: usize) -> u8
-    requires { ⌜ Parted (contentBy (now text) m) last ⌝ }
-    ensures { λ r. ⌜ r ≡ firstOf (leadRules (contentBy (now (text .entry)) m)) ⌝ }
+// The first of the numbers 14 to 16 that applies, or ACCEPTED: of time and name, which lead the line of any command that has them.
+pub fn head_number(text: &[u8], m: Message) -> u8
+    ensures { λ r. ⌜ r ≡ firstOf (headRules (contentBy (now (text .entry)) m)) ⌝ }
 {
     let Decimal::Value(time) = decimal(param_in(text, m, TIME_AT), Record::TIME) else {
         return BAD_TIME;
@@ -95,6 +92,18 @@ fn lead_number(text: &[u8], m: Message, last: usize) -> u8
     }
     if !is_channel(param_in(text, m, NAME_AT)) {
         return BAD_NAME;
+    }
+    ACCEPTED
+}
+
+// The first of the numbers 14 to 17 that applies, or ACCEPTED. The list is at `last`.
+fn lead_number(text: &[u8], m: Message, last: usize) -> u8
+    requires { ⌜ Parted (contentBy (now text) m) last ⌝ }
+    ensures { λ r. ⌜ r ≡ firstOf (leadRules (contentBy (now (text .entry)) m)) ⌝ }
+{
+    let head = head_number(text, m);
+    if head != ACCEPTED {
+        return head;
     }
     let modes = param_in(text, m, MODES_AT);
     if !good_letters(modes) {
@@ -126,10 +135,9 @@ fn key_room(key: &[u8]) -> [u8; Record::KEY]
     room
 }
 
-// The time, where it is good.
-fn time_of(text: &[u8], m: Message) -> u32
-    requires { ⌜ isTime (timeIn (contentBy (now text) m)) ≡ true ⌝ }
-    ensures { λ r. ⌜ r ≡ valueOf (timeIn (contentBy (now (text .entry)) m)) ⌝ }
+// The time that a message says, 0 where it says none.
+pub fn time_of(text: &[u8], m: Message) -> u32
+    ensures { λ r. ⌜ r ≡ timeOf (timeIn (contentBy (now (text .entry)) m)) ⌝ }
 {
     match decimal(param_in(text, m, TIME_AT), Record::TIME) {
         Decimal::Value(time) => time,

@@ -1,146 +1,92 @@
--- `lead_number` meets its contract: each return is the first rule of time, name and modes that applies, after the tests that led there. Assumes nothing.
+-- `lead_number` meets its contract: the number of time and name, or what the letters and arguments of the modes give behind it. Assumes nothing.
 use mathlib.Core.Path.{_≡_, sym, ap, _∙_}
 use mathlib.Core.Bool.{true, false}
 use mathlib.Core.List.{List}
 use Prim.Native.Nat.{ℕ}
 use borrow.Author.Needs.{needs}
 use borrow.Author.Tests.{not-true, not-false}
-use Rattle.octets.specs.declared.Decimal.the-variants.{Value}
-use Rattle.octets.specs.Decimals.{valueOf, decimalUpTo}
-use Rattle.names.specs.Names.{isChannel}
-use Rattle.channel.specs.Limits.{timeLimit}
+use Rattle.refusal.specs.Numbers.{accepted}
+use Rattle.refusal.specs.Rules.{firstOf}
 use Rattle.message.specs.Content.{Content}
 use Rattle.message.specs.Parts.{contentBy}
 use Rattle.sjoin.specs.Modes.{lettersOf, goodLetters, parametered, goodArguments}
-use Rattle.sjoin.specs.Join.{timeIn, nameIn, modesIn, argumentsIn, isTime}
-use Rattle.sjoin.proofs.Judged.{time-value, time-none, modes-parts, modes-letters, untimed, zero-time, unnamed, unfit, led}
+use Rattle.sjoin.specs.Join.{modesIn, argumentsIn, headRules}
+use Rattle.sjoin.proofs.Judged.{modes-parts, modes-letters, head-decides, unfit, led}
 use Rattle.sjoin.proofs.lead_number.Statement.{statement}
 use Rattle.sjoin.proofs.lead_number.Tie as tie
 
--- ---- what is read of the spans, at each moment: the time was read and is not 0, the name and the letters are good, the arguments were judged
-abbrev content : tie.After-param-in → Content
+-- ---- what is read of the spans, at each moment: time and name were judged, and are good, the letters are good, the arguments were judged
+abbrev content : tie.After-head-number → Content
 content c = contentBy (c .before .before .args .text .now) (c .before .before .args .m)
 
-abbrev timed : tie.After-known-told → Content
-timed c = content (c .before .before .before .before)
+abbrev headed : tie.Else1 → Content
+headed c = content (c .before)
 
-abbrev dated : tie.Else1 → Content
-dated c = timed (c .before)
-
-abbrev named : tie.Else2 → Content
-named c = dated (c .before .before .before)
-
-abbrev lettered : tie.Else3 → Content
-lettered c = named (c .before .before .before)
+abbrev lettered : tie.Else2 → Content
+lettered c = headed (c .before .before .before)
 
 abbrev argued : tie.After-good-arguments → Content
 argued c = lettered (c .before)
 
 -- ---- what is known then
-time : (c : tie.After-known-told) → decimalUpTo timeLimit (timeIn (timed c)) ≡ Value (c .before .time .given .0 .0)
-time c =
-    let parsed = c .before .before .before in
-    sym (ap (decimalUpTo timeLimit) (parsed .before .param-in .ensures .0)) ∙ sym (parsed .decimal .ensures .0) ∙ c .before .time .given .1
+head : (c : tie.Else1) → firstOf (headRules (headed c)) ≡ accepted
+head c = sym (c .before .head-number .ensures) ∙ c .if1 .left
 
-timely : (c : tie.After-known-told) → isTime (timeIn (timed c)) ≡ true
-timely c = time-value (timeIn (timed c)) _ (time c) .0
-
-after : (c : tie.Else1) → valueOf (timeIn (dated c)) ≡ 0 → ⊥
-after c e = c .if1 .left (sym (time-value (timeIn (dated c)) _ (time (c .before)) .1) ∙ e)
-
-name : (c : tie.Else2) → isChannel (nameIn (named c)) ≡ true
-name c = sym (ap isChannel (c .before .before .param-in2 .ensures .0)) ∙ sym (c .before .is-channel .ensures) ∙ not-false _ (c .if2 .left)
-
-letters : (c : tie.Else3) → goodLetters (modesIn (lettered c)) ≡ true
-letters c = sym (ap goodLetters (c .before .before .param-in3 .ensures .0)) ∙ sym (c .before .good-letters .ensures) ∙ not-false _ (c .if3 .left)
+letters : (c : tie.Else2) → goodLetters (modesIn (lettered c)) ≡ true
+letters c = sym (ap goodLetters (c .before .before .param-in .ensures .0)) ∙ sym (c .before .good-letters .ensures) ∙ not-false _ (c .if2 .left)
 
 arguments : (c : tie.After-good-arguments) → c .good-arguments .result ≡ goodArguments (parametered (lettersOf (modesIn (argued c)))) (argumentsIn (argued c))
-arguments c = c .good-arguments .ensures ∙ ap (λ (m : List ℕ). goodArguments (parametered (lettersOf m)) (argumentsIn (argued c))) (c .before .before .before .param-in3 .ensures .0)
+arguments c = c .good-arguments .ensures ∙ ap (λ (m : List ℕ). goodArguments (parametered (lettersOf m)) (argumentsIn (argued c))) (c .before .before .before .param-in .ensures .0)
 
 -- ---- the returns
-param-in-requires : tie.Need-param-in-requires
-param-in-requires c κs = search needs
-
-decimal-requires : tie.Need-decimal-requires
-decimal-requires c κs = search needs
-
-enum-known-time : tie.Need-enum-known-time
-enum-known-time c = search needs
-
-enum-told : tie.Need-enum-told
-enum-told c = search needs
+head-number-requires : tie.Need-head-number-requires
+head-number-requires c κs = search needs
 
 returns : tie.Need-returns
 returns c =
-    let parsed = c .before .before in
-    let read = parsed .before in
-    untimed (content read) (time-none (timeIn (content read)) (sym (ap (decimalUpTo timeLimit) (read .param-in .ensures .0)) ∙ sym (parsed .decimal .ensures .0) ∙ c .enum-told .given .1))
+    let e = c .before .head-number .ensures in
+    e ∙ sym (head-decides (content (c .before)) (λ z. c .if1 .taken (e ∙ z)))
 
-returns-2 : tie.Need-returns-2
-returns-2 c = let told = c .before in zero-time (timed told) (timely told) (time-value (timeIn (timed told)) _ (time told) .1 ∙ c .if1 .taken)
-
-param-in-requires-2 : tie.Need-param-in-requires-2
-param-in-requires-2 c κs = search needs
-
-is-channel-requires : tie.Need-is-channel-requires
-is-channel-requires c κs = search needs
-
-returns-3 : tie.Need-returns-3
-returns-3 c =
-    let one = c .before .before .before in
-    unnamed (dated one) (timely (one .before)) (after one) (sym (ap isChannel (c .before .before .param-in2 .ensures .0)) ∙ sym (c .before .is-channel .ensures) ∙ not-true _ (c .if2 .taken))
-
-param-in-requires-3 : tie.Need-param-in-requires-3
-param-in-requires-3 c κs = search needs
+param-in-requires : tie.Need-param-in-requires
+param-in-requires c κs = search needs
 
 good-letters-requires : tie.Need-good-letters-requires
 good-letters-requires c κs = search needs
 
-returns-4 : tie.Need-returns-4
-returns-4 c =
-    let two = c .before .before .before in
-    let one = two .before .before .before in
-    let d = named two in
-    unfit d (timely (one .before)) (after one) (name two)
-    (modes-letters d (sym (ap goodLetters (c .before .before .param-in3 .ensures .0)) ∙ sym (c .before .good-letters .ensures) ∙ not-true _ (c .if3 .taken)))
+returns-2 : tie.Need-returns-2
+returns-2 c =
+    let one = c .before .before .before in
+    let d = headed one in
+    unfit d (head one) (modes-letters d (sym (ap goodLetters (c .before .before .param-in .ensures .0)) ∙ sym (c .before .good-letters .ensures) ∙ not-true _ (c .if2 .taken)))
 
 good-arguments-requires : tie.Need-good-arguments-requires
 good-arguments-requires c κs = search needs
 
-returns-5 : tie.Need-returns-5
-returns-5 c =
+returns-3 : tie.Need-returns-3
+returns-3 c =
     let judged = c .before in
-    let three = judged .before in
-    let two = three .before .before .before in
+    let two = judged .before in
     let one = two .before .before .before in
-    let d = lettered three in
-    unfit d (timely (one .before)) (after one) (name two) (modes-parts d true false (letters three) (sym (arguments judged) ∙ not-true _ (c .if4 .taken)))
+    let d = lettered two in
+    unfit d (head one) (modes-parts d true false (letters two) (sym (arguments judged) ∙ not-true _ (c .if3 .taken)))
 
-returns-6 : tie.Need-returns-6
-returns-6 c =
+returns-4 : tie.Need-returns-4
+returns-4 c =
     let judged = c .before in
-    let three = judged .before in
-    let two = three .before .before .before in
+    let two = judged .before in
     let one = two .before .before .before in
-    let d = lettered three in
-    led d (timely (one .before)) (after one) (name two) (modes-parts d true true (letters three) (sym (arguments judged) ∙ not-false _ (c .if4 .left)))
+    let d = lettered two in
+    led d (head one) (modes-parts d true true (letters two) (sym (arguments judged) ∙ not-false _ (c .if3 .left)))
 
 pub lead-number-spec : {M : Type 1} → statement M
 lead-number-spec =
     tie.close
     (tie.spec
-    param-in-requires
-    decimal-requires
-    enum-known-time
-    enum-told
+    head-number-requires
     returns
-    returns-2
-    param-in-requires-2
-    is-channel-requires
-    returns-3
-    param-in-requires-3
+    param-in-requires
     good-letters-requires
-    returns-4
+    returns-2
     good-arguments-requires
-    returns-5
-    returns-6)
+    returns-3
+    returns-4)

@@ -10,8 +10,9 @@ use Rattle.message.specs.Content.{Content}
 use Rattle.message.specs.Parts.{contentBy}
 use Rattle.names.proofs.Channels.{channel-length}
 use Rattle.sjoin.specs.Modes.{keyLetter, limitLetter, lettersOf, hasParameter, modesByte, argumentOf}
-use Rattle.sjoin.specs.Join.{listIn, nameIn, modesIn, argumentsIn}
+use Rattle.sjoin.specs.Join.{timeIn, listIn, nameIn, modesIn, argumentsIn}
 use Rattle.sjoin.specs.Private.Scanning.{limitIn}
+use Rattle.sjoin.proofs.Judged.{time-said}
 use Rattle.sjoin.proofs.Joined.{Passes, passes, Suits, argument-suits, key-short, limit-read}
 use Rattle.sjoin.proofs.Answers.{ordered-is, made}
 use Rattle.sjoin.proofs.record_of.Statement.{statement}
@@ -38,7 +39,7 @@ name-room-requires : tie.Need-name-room-requires
 name-room-requires c κs = let s = c .before .before in omega (arith, channel-length (nameIn (content s)) (good s .name), ap (λ (l : List ℕ). length l) (c .param-in .ensures .0))
 
 time-of-requires : tie.Need-time-of-requires
-time-of-requires c κs = good (c .before .before .before) .time
+time-of-requires c κs = search needs
 
 param-in-requires-2 : tie.Need-param-in-requires-2
 param-in-requires-2 c κs = search needs
@@ -76,7 +77,7 @@ returns c =
     let named = timed .before in
     let first = named .before in
     let s = first .before .before in
-    made (content s) _ _ _ _ _ _ _ (members .ordered .result) (first .param-in .ensures .0) (named .name-room .ensures) (timed .time-of .ensures)
+    made (content s) _ _ _ _ _ _ _ (members .ordered .result) (first .param-in .ensures .0) (named .name-room .ensures) (timed .time-of .ensures ∙ time-said (timeIn (content s)) (good s .time))
     (lettered .modes-byte .ensures ∙ ap modesByte (read .param-in2 .ensures .0))
     (looked .argument .ensures) (keyed .key-room .ensures)
     (limited .limit-in .ensures ∙ ap limitIn {y = argument limitLetter s} (found .argument2 .ensures) ∙ limit-read (lettersOf (modesIn (content s))) (argument limitLetter s) (suits limitLetter s refl))

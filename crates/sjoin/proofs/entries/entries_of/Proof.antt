@@ -9,8 +9,9 @@ use borrow.Author.Needs.{needs}
 use borrow.Author.Tests.{not-true, not-false}
 use Rattle.channel.specs.Limits.{memberLimit}
 use Rattle.message.specs.declared.Span.{Span}
+use Rattle.message.proofs.Splits.{left}
 use Rattle.sjoin.specs.Entries.{isEntry, memberOf}
-use Rattle.sjoin.proofs.Listed.{Before, left, before-first, before-odd, before-room, before-next, before-fewer, before-members, before-good}
+use Rattle.sjoin.proofs.Listed.{Before, before-first, before-odd, before-room, before-next, before-fewer, before-members, before-good}
 use Rattle.sjoin.proofs.entries.entries_of.Statement.{statement}
 use Rattle.sjoin.proofs.entries.entries_of.Tie as tie
 
