@@ -55,6 +55,11 @@ static void take(relay_table *table, uint32_t link, relay_bytes line)
         print(line);
         return;
     }
+    if (answer.len == 0) {
+        printf("goes nowhere: ");
+        print(line);
+        return;
+    }
     printf("to %" PRIu32 " links, ", answer.count);
     print_links(answer.set);
     printf(": ");
@@ -78,28 +83,82 @@ static void print_channel(const relay_record *r)
 static void print_channels(const relay_table *table)
 {
     for (size_t k = 0; k < RELAY_SLOTS; k++)
-        if (table->slots[k].count != 0)
-            print_channel(&table->slots[k]);
+        if (table->head.slots[k].count != 0)
+            print_channel(&table->head.slots[k]);
 }
 
 /* A morning on the water: the channel is there, a boat comes up with it at a later time, users leave. */
-static relay_table morning(void)
+static void morning(relay_table *table)
 {
-    relay_table table = relay_empty_table();
-    printf("links: %d", relay_table_register(&table, 0));
-    printf(" %d", relay_table_register(&table, 3));
-    printf(" %d", relay_table_register(&table, 5));
-    printf(" and above 31: %d\n", relay_table_register(&table, RELAY_LINKS));
+    relay_table_clear(table);
+    printf("links: %d", relay_table_register(table, 0));
+    printf(" %d", relay_table_register(table, 3));
+    printf(" %d", relay_table_register(table, 5));
+    printf(" and above 31: %d\n", relay_table_register(table, RELAY_LINKS));
 
-    take(&table, 5, text(":2CD SJOIN 1000 #Race +k buoy @2CDAAAAAA\r\n"));
-    take(&table, 3, text(":1AB SJOIN 1200 #race +nt :@1ABAAAAAA 1ABAAAAAB\r\n"));
-    print_channels(&table);
-    take(&table, 3, text(":1ABAAAAAA part #RACE :gone home\r\n"));
-    take(&table, 3, text(":1ABAAAAAA PART #race\r\n"));
-    take(&table, 4, text(":1ABAAAAAB QUIT\r\n"));
-    take(&table, 3, text(":1ABAAAAAB QUIT\r\n"));
-    print_channels(&table);
-    return table;
+    take(table, 5, text(":2CD SJOIN 1000 #Race +k buoy @2CDAAAAAA\r\n"));
+    take(table, 3, text(":1AB SJOIN 1200 #race +nt :@1ABAAAAAA 1ABAAAAAB\r\n"));
+    print_channels(table);
+    take(table, 3, text(":1ABAAAAAA part #RACE :gone home\r\n"));
+    take(table, 3, text(":1ABAAAAAA PART #race\r\n"));
+    take(table, 4, text(":1ABAAAAAB QUIT\r\n"));
+    take(table, 3, text(":1ABAAAAAB QUIT\r\n"));
+    print_channels(table);
+}
+
+static void print_masks(const relay_table *table, size_t slot)
+{
+    printf("masks %zu:", relay_mask_count(table, slot));
+    for (size_t k = 0; k < relay_mask_count(table, slot); k++) {
+        printf(" ");
+        print(relay_mask(table, slot, k));
+    }
+    printf("\n");
+}
+
+/* Asks whether a user text is banned from #race. */
+static void ask(const relay_table *table, const char *user)
+{
+    relay_banned banned = relay_table_is_banned(table, text("#RACE"), text(user));
+    printf("%s is banned: %d, number %d\n", user, banned.yes, banned.number);
+}
+
+/* A rowdy boat is kept off: masks are added, each fold once, later ones go nowhere, and bad ones are refused. */
+static void bans(relay_table *table)
+{
+    char longest[RELAY_TEXT + 2];
+    memset(longest, 'x', sizeof longest - 1);
+    longest[sizeof longest - 1] = 0;
+    take(table, 5, text(":2CD bmask 1000 #race b :*!*@spec[1] rowdy*\r\n"));
+    take(table, 3, text(":1AB BMASK 999 #RACE b :  ROWDY*  a,:b \r\n"));
+    take(table, 3, text(":1AB BMASK 1001 #race b late\r\n"));
+    take(table, 3, text(":1AB BMASK 1000 #race e x\r\n"));
+    take(table, 3, text(":1AB BMASK 1000 #finish b x\r\n"));
+    take(table, 3, text(":1AB BMASK 1000 #race b :1 2 3 4 5 6 7 8 9 a b c d e f g h i j k l m n o p q r s t u\r\n"));
+    print_masks(table, 0);
+    print_masks(table, 1);
+    print_masks(table, RELAY_SLOTS);
+    ask(table, "joe!~joe@SPEC{1}");
+    ask(table, "Rowdy!x@harbour");
+    ask(table, "joe!~joe@harbour");
+    printf("no text of %zu bytes: %d", strlen(longest), relay_table_is_banned(table, text("#race"), text(longest)).number);
+    printf(", no such channel: %d", relay_table_is_banned(table, text("#finish"), text("joe")).number);
+    printf(", no name: %d\n", relay_table_is_banned(table, text("race"), text("joe")).number);
+}
+
+/* Masks of a table that holds anything: as many, and as long, as there is room for; and such a table is refused. */
+static void any_bytes(void)
+{
+    static relay_table any;
+    size_t length = 0;
+    memset(&any, 0xff, sizeof any);
+    for (size_t slot = 0; slot < RELAY_SLOTS; slot++)
+        for (size_t k = 0; k < relay_mask_count(&any, slot); k++)
+            length += relay_mask(&any, slot, k).len;
+    printf("any bytes: %zu masks in a slot, %zu bytes in all, beyond them %zu", relay_mask_count(&any, 15), length, relay_mask(&any, 15, 32).len);
+    printf(", refused by %d", relay_table_register(&any, 3));
+    relay_table_clear(&any);
+    printf(", cleared: %d\n", relay_table_register(&any, 3));
 }
 
 /* Takes each line that is whole with the bytes that came in by a link; what is unfinished stays in the link's feeder. */
@@ -136,26 +195,46 @@ static void pieces(relay_table *table)
 static void describe(const relay_table *table)
 {
     uint8_t out[RELAY_DESCRIPTION];
-    relay_found found = relay_find(*table, text("#RACE"));
-    relay_written written = relay_describe(table->slots[found.slot], relay_room_of(out, sizeof out));
+    relay_found found = relay_find(table->head, text("#RACE"));
+    relay_written written = relay_describe(table->head.slots[found.slot], relay_room_of(out, sizeof out));
     printf("#RACE is in slot %zu: ", found.slot);
     print(relay_bytes_of(out, written.len));
-    printf("\n#finish is there: %d, refused by %d\n", relay_table_find(table, text("#finish")) != NULL, relay_find(*table, text("#finish")).number);
-    printf("an empty slot: %d, ", relay_describe(table->slots[1], relay_room_of(out, sizeof out)).number);
+    printf("\n#finish is there: %d, refused by %d\n", relay_table_find(table, text("#finish")) != NULL, relay_find(table->head, text("#finish")).number);
+    printf("an empty slot: %d, ", relay_describe(table->head.slots[1], relay_room_of(out, sizeof out)).number);
     print_words(RELAY_NOT_WELL_FORMED);
-    printf("\na byte too little: %d\n", relay_describe(table->slots[found.slot], relay_room_of(out, written.len - 1)).number);
+    printf("\na byte too little: %d\n", relay_describe(table->head.slots[found.slot], relay_room_of(out, written.len - 1)).number);
 }
 
 /* Two relays that were apart: what one of them knows of the channel is merged into what the other knows. */
 static void merge(const relay_table *table)
 {
-    relay_table apart = relay_empty_table();
+    static relay_table apart;
+    relay_table_clear(&apart);
     relay_table_register(&apart, 0);
     take(&apart, 0, text(":3EF SJOIN 1000 #race +kl buoys 20 :+2CDAAAAAA @3EFAAAAAA\r\n"));
-    relay_record both = table->slots[0];
-    printf("merged: %d\n", relay_record_merge(&both, &apart.slots[0]));
-    print_channel(&both);
-    printf("with an empty slot: %d\n", relay_record_merge(&both, &apart.slots[1]));
+    take(&apart, 0, text(":3EF BMASK 1000 #race b :*!*@Spec{1} zoo\r\n"));
+    relay_whole_record both = relay_table_channel(table, 0), other = relay_table_channel(&apart, 0), none = relay_table_channel(&apart, 1);
+    printf("merged: %d\n", relay_record_merge(&both, &other));
+    print_channel(&both.record);
+    printf("masks %zu:", relay_list_count(both.bans.room));
+    for (size_t k = 0; k < relay_list_count(both.bans.room); k++) {
+        printf(" ");
+        print(relay_list_mask(both.bans.room, k));
+    }
+    printf("\nwith an empty slot: %d\n", relay_record_merge(&both, &none));
+}
+
+/* An earlier join empties the list, and the last user who leaves takes the channel and its list along. */
+static void emptied(relay_table *table)
+{
+    take(table, 3, text(":1AB SJOIN 900 #race + 1ABAAAAAD\r\n"));
+    print_masks(table, 0);
+    take(table, 3, text(":1AB BMASK 900 #race b x\r\n"));
+    take(table, 3, text(":1ABAAAAAD QUIT\r\n"));
+    print_masks(table, 0);
+    take(table, 3, text(":2CDAAAAAA QUIT\r\n"));
+    print_masks(table, 0);
+    print_channels(table);
 }
 
 /* The parts of a line, and the line written again in the one fixed form. */
@@ -211,10 +290,14 @@ int main(void)
         return 1;
     }
     printf("version %s\n", RELAY_VERSION);
-    relay_table table = morning();
+    static relay_table table;
+    morning(&table);
     pieces(&table);
+    bans(&table);
+    any_bytes();
     describe(&table);
     merge(&table);
+    emptied(&table);
     parts();
     names_masks_keys();
     day_log();

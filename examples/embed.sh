@@ -70,6 +70,11 @@ try 'what it prints' as_told
 # A key that is one byte shorter moves no field: it is the size of the field that tells.
 try 'a header with shorter keys is noticed' notices 'RELAY_KEY = 23' 'RELAY_KEY = 22'
 try 'a header that hands back the second of equal keys is noticed' notices 'relay_key_less(a, b) ? b : a' 'relay_key_less(b, a) ? a : b'
+try 'a header with shorter masks is noticed' notices 'RELAY_MASK = 100' 'RELAY_MASK = 99'
+try 'a header with smaller lists is noticed' notices 'RELAY_LIST = 3233' 'RELAY_LIST = 3232'
+try 'a header that leaves out the last mask is noticed' notices 'relay_at_most(RELAY_MASKS, list[0])' 'relay_at_most(RELAY_MASKS - 1, list[0])'
+try 'a header that reads bytes beyond a mask is noticed' notices 'relay_at_most(RELAY_MASK, room[0])' 'room[0]'
+try 'a header that keeps the old head is noticed' notices 'table->head = taken.head' 'taken.head = table->head'
 try 'a header with another feeder is noticed' notices 'bool dropping;' 'uint16_t dropping;'
 try 'a header whose loop ends at a line that is too long is noticed' notices 'fed->len != 0 || fed->number == RELAY_LINE_TOO_LONG' 'fed->len != 0'
 try 'the stack that the header says is enough' fits -O2

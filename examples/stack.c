@@ -14,7 +14,7 @@ enum { GUARD = 1 << 20 };
 
 static ucontext_t here, there;
 static relay_table table;
-static relay_record other;
+static relay_whole_record other;
 static uint8_t out[RELAY_DESCRIPTION];
 static char line[1024];
 static int failed;
@@ -53,7 +53,7 @@ static void join_line(int channel, int half, int time)
 
 static void registers(void)
 {
-    table = relay_empty_table();
+    relay_table_clear(&table);
     expect(relay_table_register(&table, 3), 0, "register");
     expect(relay_table_register(&table, 4), 0, "register");
     expect(relay_table_unregister(&table, 4), 0, "unregister");
@@ -66,7 +66,7 @@ static void joins(void)
             join_line(channel, half, 1000);
             take(0);
         }
-    other = table.slots[0];
+    other = relay_table_channel(&table, 0);
     join_line(0, 0, 900);
     take(0);
     join_line(0, 1, 1100);
@@ -75,11 +75,40 @@ static void joins(void)
     take(RELAY_NO_FREE_SLOT);
 }
 
+/* A BMASK that names some of a full list's masks, each of 100 bytes. */
+static void masks_line(int channel, int first, int time)
+{
+    int n = sprintf(line, ":1AB BMASK %d #%c%048d b :", time, 'a' + channel, 0);
+    for (int k = first; k < first + 4; k++)
+        n += sprintf(line + n, "%s%c%099d", k > first ? " " : "", k < 26 ? 'A' + k : '0' + k - 26, 0);
+    sprintf(line + n, "\r\n");
+}
+
+/* Full lists in every channel, and a mask more than there is room for. */
+static void masks(void)
+{
+    for (int channel = 1; channel < RELAY_SLOTS; channel++)
+        for (int first = 0; first < RELAY_MASKS; first += 4) {
+            masks_line(channel, first, 1000);
+            take(0);
+        }
+    masks_line(1, RELAY_MASKS, 1000);
+    take(RELAY_TOO_MANY_MASKS);
+    masks_line(1, RELAY_MASKS, 1001);
+    take(0);
+    expect((int)relay_mask_count(&table, 15), RELAY_MASKS, "masks");
+    expect((int)relay_mask(&table, 15, 31).len, RELAY_MASK, "a mask");
+    expect(relay_table_is_banned(&table, relay_bytes_of(table.head.slots[15].name, RELAY_NAME), text(line)).number, 0, "banned");
+    join_line(1, 0, 900);
+    take(0);
+    expect((int)relay_mask_count(&table, 1), 0, "no masks");
+}
+
 static void leaves(void)
 {
     sprintf(line, ":1ABA00000 PART #%s :gone home\r\n", "none");
     take(RELAY_NO_SUCH_CHANNEL);
-    sprintf(line, ":1ABA00000 PART %.50s\r\n", (const char *)table.slots[15].name);
+    sprintf(line, ":1ABA00000 PART %.50s\r\n", (const char *)table.head.slots[15].name);
     take(0);
     sprintf(line, ":1ABA00001 QUIT :gone home\r\n");
     take(0);
@@ -89,10 +118,12 @@ static void leaves(void)
 
 static void records(void)
 {
-    relay_bytes name = relay_bytes_of(table.slots[15].name, table.slots[15].name_len);
-    expect(relay_table_find(&table, name) == &table.slots[15], 1, "find");
-    expect(relay_describe(other, room()).number, 0, "describe");
-    expect(relay_record_merge(&other, &table.slots[0]), 0, "merge");
+    relay_bytes name = relay_bytes_of(table.head.slots[15].name, table.head.slots[15].name_len);
+    relay_whole_record first = relay_table_channel(&table, 0), full = relay_table_channel(&table, 15), same = full;
+    expect(relay_table_find(&table, name) == &table.head.slots[15], 1, "find");
+    expect(relay_describe(other.record, room()).number, 0, "describe");
+    expect(relay_record_merge(&other, &first), 0, "merge");
+    expect(relay_record_merge(&full, &same), 0, "merge with masks");
 }
 
 static void lines(void)
@@ -143,7 +174,7 @@ static void on_stack(void *stack, void (*call)(void))
 
 int main(void)
 {
-    void (*const calls[])(void) = { registers, joins, records, leaves, lines, feeds, others };
+    void (*const calls[])(void) = { registers, joins, masks, records, leaves, lines, feeds, others };
     char *memory = mmap(NULL, GUARD + RELAY_STACK, PROT_NONE, MAP_PRIVATE | MAP_ANONYMOUS, -1, 0);
     if (memory == MAP_FAILED || mprotect(memory + GUARD, RELAY_STACK, PROT_READ | PROT_WRITE) != 0) {
         printf("no memory\n");

@@ -21,6 +21,8 @@ HELP = [
     "-N        drops link N",
     "N LINE    takes LINE from link N",
     "?         prints the table",
+    "banned NAME TEXT",
+    "          says whether TEXT is banned from channel NAME",
     "help      prints this",
     "Ctrl-D    ends the program",
 ]
@@ -69,7 +71,7 @@ def piped(given, *words, **options):
 
 def test_lf_alone_is_taken_with_its_cr():
     join = b"1 :1CB SJOIN 70030 #race +n :@1CBAAAAAA"
-    out = "= 0\n- :1CB SJOIN 70030 #race +n @1CBAAAAAA\r\n70030 #race +n @1CBAAAAAA\n.\n"
+    out = "= 0\n- :1CB SJOIN 70030 #race +n @1CBAAAAAA\r\n70030 #race +n @1CBAAAAAA\n\n.\n"
     equal(typed([b"+1\n", join + b"\n", b"?\n"]), (0, out, NOTE))
     equal(typed([b"+1\n", join + b"\r\n", b"?\n"]), (0, out, NOTE))
     equal(piped(b"+1\n" + join + b"\n"), (0, "= 0\n! 5\n", ""))
@@ -80,6 +82,14 @@ def test_longest_line_that_is_typed():
     longest = opening + b"x" * (2 + 512 - len(opening) - 2)
     equal(typed([b"+1\n", longest + b"\n"]), (0, "= 0\n- " + longest.decode()[2:] + "\r\n", NOTE))
     equal(typed([b"+1\n", longest + b"x\n"]), (0, "= 0\n! 4 line over 512 bytes\n", NOTE))
+
+
+def test_questions_that_are_typed():
+    lines = [b"+1\n", b"1 :1CB SJOIN 70030 #race +n :@1CBAAAAAA\n", b"1 :1CB BMASK 70030 #race b sam*\n", b"1 :1CB BMASK 70031 #race b joe*\n"]
+    out = "= 0\n- :1CB SJOIN 70030 #race +n @1CBAAAAAA\r\n- :1CB BMASK 70030 #race b sam*\r\n-\n"
+    asked = [b"banned #race Sam\n", b"banned #race joe\r\n", b"banned #race \n", b"banned #race\n", b"banned #race " + b"s" * 512 + b"\n", b"banned #race " + b"s" * 513 + b"\n"]
+    answers = "yes\nno\nno\n! input\nno\n! 23 mask or text over 512 bytes\n"
+    equal(typed(lines + asked), (0, out + answers, NOTE))
 
 
 def test_unfinished_line_is_taken_as_it_is():
@@ -93,15 +103,16 @@ def test_help_and_empty_lines():
 
 
 def test_numbers_have_words():
-    lines = [b"+1\n", b"+32\n", b"-33\n", b"1 PING\n", b"2 PING\n", b"1 :1CBAAAAAA PART #race\n", b"1 :1CB SJOIN 0 #race + 1CBAAAAAA\n"]
+    lines = [b"+1\n", b"+32\n", b"-33\n", b"1 PING\n", b"2 PING\n", b"1 :1CBAAAAAA PART #race\n", b"1 :1CB SJOIN 0 #race + 1CBAAAAAA\n", b"banned #race sam\n"]
     words = [
         "= 0",
         "= 3 link above 31, or not registered",
         "= 3 link above 31, or not registered",
-        "! 11 command not SJOIN, PART or QUIT",
+        "! 11 command not SJOIN, PART, QUIT or BMASK",
         "! 3 link above 31, or not registered",
         "! 19 channel not in the table",
         "! 15 time is 0",
+        "! 19 channel not in the table",
     ]
     equal(typed(lines), (0, "".join(line + "\n" for line in words), NOTE))
     numbers = "".join(" ".join(line.split()[:2]) + "\n" for line in words)
@@ -127,9 +138,9 @@ def test_lines_that_the_readme_types():
     text = (ROOT / "README.md").read_text()
     block = text.split("and Ctrl-D to end:\n\n")[1].split("\n\n")[0]
     lines = [line[4:] for line in block.split("\n")]
-    asked = [line for line in lines if line[0] in "+?1"]
+    asked = [line for line in lines if line[0] in "+?1b"]
     answers = "".join(line + "\n" for line in lines if line not in asked)
-    equal(len(asked), 4)
+    equal(len(asked), 6)
     status, out, err = typed([line.encode() + b"\n" for line in asked])
     equal((status, out.replace("\r", ""), err), (0, answers, NOTE))
 

@@ -63,6 +63,10 @@ unfinished '+1\r' '! input\n'
 unfinished '+1\n' '= 0\n'
 unfinished '+1\n?' '= 0\n.\n'
 unfinished '+1\n1 ' '= 0\n! 5\n'
+unfinished 'banned' '! input\n'
+unfinished 'banned #a' '! input\n'
+unfinished 'banned #a ' '! 19\n'
+unfinished 'banned #a x\r' '! 19\n'
 unfinished '+1\n1 :1CBAAAAAA QUIT' '= 0\n! 5\n'
 unfinished '+1\n1 :1CBAAAAAA QUIT\r' '= 0\n! 5\n'
 
@@ -77,6 +81,10 @@ unfinished '+1\n1 :1CBAAAAAA QUIT\r' '= 0\n! 5\n'
     record 1 ':1CB SJOIN 70030 #penalty +n :@1CBAAAAAA'
     record 2 ':2MKAAAAAA PART #race :weighing anchor'
     record 2 ':2MKAAAAAA QUIT'
+    record 3 ':3SP SJOIN 70010 #race + :3SPAAAAAA'
+    record 1 ':1CB BMASK 70010 #race b :Rowdy*!*@* *!*@rowdy.boat'
+    record 2 ':2MK BMASK 70011 #race b *!*@*'
+    record 3 ':3SPAAAAAA QUIT :spoilsports'
 } >"$room/expected"
 $console "$room/journal" <examples/morning.txt >"$room/out"
 same "the day with a journal" "$room/out" examples/morning.out

@@ -5,15 +5,16 @@
  * Build:  rt staticlib capi                   proves the core and writes target/staticlib/libcapi.a
  *         cc -Iinclude yours.c target/staticlib/libcapi.a
  *
- * What it is. The relay holds one table: sixteen channels and the registered links, numbered 0 to 31. You hand it each line that comes
- * in by a link; it folds the line into the table and answers the line to send on, and to which links. A feeder, one for each link, makes
- * lines of the bytes that come in, however they are cut. The relay reads and writes no socket and no file, has no heap, no globals and no
- * threads: every answer depends on the arguments alone, so calls may run side by side as long as nothing that one of them writes is read
- * or written by another. Allow RELAY_STACK bytes of stack, 128 KB, for a call of any function here, its arguments and its answer
- * included; the benchmark in rust/ prints how much each takes.
+ * What it is. The relay holds one table: sixteen channels, each with its ban list, and the registered links, numbered 0 to 31. You hand
+ * it each line that comes in by a link; it folds the line into the table and answers the line to send on, and to which links. A feeder,
+ * one for each link, makes lines of the bytes that come in, however they are cut. The relay reads and writes no socket and no file, has
+ * no heap, no globals and no threads: every answer depends on the arguments alone, so calls may run side by side as long as nothing that
+ * one of them writes is read or written by another. Allow RELAY_STACK bytes of stack, 128 KB, for a call of any function here, its
+ * arguments and its answer included; the benchmark in rust/ prints how much each takes. A table, 64 KB of it, lies where you put it.
  *
  *     if (!relay_layout_matches()) abort();            -- once, before the first call
- *     relay_table table = relay_empty_table();
+ *     static relay_table table;
+ *     relay_table_clear(&table);
  *     relay_table_register(&table, 3);
  *     relay_feeder feeder = relay_empty_feeder();      -- what link 3 has sent of a line that isn't whole yet
  *
@@ -28,16 +29,18 @@
  *                 if (answer.set >> link & 1) send_to(link, out, answer.len);
  *     }
  *
- * What it promises. Any bytes, on any link, with any table, get one answer. Bad input is refused by one of the numbers below, the lowest
- * that applies; then nothing is changed: table and feeder are as before, every lent buffer too, and sets, counts and lengths are 0. (The
- * 4 that a feeder yields in the place of a line refuses that line and not the call.) What is accepted puts its output at the front of the
- * lent room and leaves the rest of the room as it was. These promises are proved of the library; this header is not part of the proof, so
- * `relay_layout_matches` compares the two.
+ * What it promises. Any bytes, on any link, with any table, get one answer. Bad input is refused by one of the numbers below, the first
+ * in their order that applies; then nothing is changed: table and feeder are as before, every lent buffer too, the ban lists byte for
+ * byte, and sets, counts and lengths are 0. (The 4 that a feeder yields in the place of a line refuses that line and not the call.) What
+ * is accepted puts its output at the front of the lent room and leaves the rest of the room as it was. These promises are proved of the
+ * library's source; this header is not part of the proof, so `relay_layout_matches` compares it with what the library says of its structs.
  *
  * What you owe it.
  *  - A pointer is never NULL, not even with the length 0 (`relay_bytes_of` and `relay_room_of` see to that), and as many bytes as the
- *    length says can be read there; of a relay_room they can be written too.
- *  - The room that a call writes doesn't overlap the bytes that it reads, and nothing else writes either during the call.
+ *    length says can be read there; of a relay_room they can be written too. The ban lists that go with a head are a plain pointer to
+ *    RELAY_BANS bytes, without a length: so many can be read there, and written where the pointer isn't one to const.
+ *  - The room that a call writes, and the lists that it may write, overlap neither each other nor the bytes that it reads, and nothing
+ *    else writes any of them during the call. So a mask of the table is copied before it goes into a line for that table.
  *  - A bool is 0 or 1, as C's own are. Everything else may hold any value: tables and feeders from disk and lengths that are too large
  *    are refused by a number.
  *
@@ -49,13 +52,14 @@
 #include <stdbool.h>
 #include <stddef.h>
 #include <stdint.h>
+#include <string.h>
 
 #ifdef __cplusplus
 extern "C" {
 #endif
 
 /* The version of the whole project, as the file VERSION has it. */
-#define RELAY_VERSION "0.3.0"
+#define RELAY_VERSION "0.4.0"
 
 /* The bytes of stack that are enough for a call. */
 #define RELAY_STACK 131072
@@ -71,6 +75,10 @@ enum {
     RELAY_USER_ID = 9,   /* the bytes of a user id */
     RELAY_MEMBERS = 64,  /* the most members of a channel */
     RELAY_SLOTS = 16,    /* the channels of a table */
+    RELAY_MASKS = 32,    /* the most masks of a channel's ban list */
+    RELAY_MASK = 100,    /* the most bytes of such a mask */
+    RELAY_LIST = 3233,   /* the bytes of a ban list */
+    RELAY_BANS = 51728,  /* the bytes of the ban lists of a table, one for each slot */
     RELAY_LINKS = 32,    /* links are numbered from 0 to one below this */
     RELAY_LOG_HEAD = 5,  /* a day-log record is this much longer than its line */
     RELAY_DESCRIPTION = 869,  /* the most bytes of a record's text: room for them is always enough */
@@ -79,9 +87,13 @@ enum {
 
 /* ---- the numbers of refusals ---- */
 
+/*
+ * Where several apply, the first in this order is given: 1 to 18, 26, 19 to 22, 27, 23 to 25. So what a line says by itself is judged
+ * before its channel is looked for, and what would result after that.
+ */
 enum {
     RELAY_ACCEPTED = 0,
-    RELAY_NOT_WELL_FORMED = 1,     /* table or record not well formed; a feeder that no bytes reach */
+    RELAY_NOT_WELL_FORMED = 1,     /* table or record not well formed, its ban lists included; a feeder that no bytes reach */
     RELAY_OUTPUT_TOO_SHORT = 2,    /* lent output under 512 bytes */
     RELAY_BAD_LINK = 3,            /* link above 31, or, of a line that is taken, not registered */
     RELAY_LINE_TOO_LONG = 4,       /* line over 512 bytes; a feeder yields it in the line's place */
@@ -91,21 +103,23 @@ enum {
     RELAY_EMPTY_PREFIX = 8,        /* prefix empty */
     RELAY_BAD_COMMAND = 9,         /* command malformed or missing */
     RELAY_TOO_MANY_PARAMS = 10,    /* a sixteenth parameter */
-    RELAY_UNKNOWN_COMMAND = 11,    /* command not SJOIN, PART or QUIT */
-    RELAY_WRONG_PARAM_COUNT = 12,  /* parameters not 4 to 6 (SJOIN), 1 to 2 (PART), 0 to 1 (QUIT) */
-    RELAY_BAD_SOURCE = 13,         /* prefix missing or not a server id (SJOIN), user id (PART, QUIT) */
+    RELAY_UNKNOWN_COMMAND = 11,    /* command not SJOIN, PART, QUIT or BMASK */
+    RELAY_WRONG_PARAM_COUNT = 12,  /* parameters not 4 to 6 (SJOIN), 1 to 2 (PART), 0 to 1 (QUIT), 4 (BMASK) */
+    RELAY_BAD_SOURCE = 13,         /* prefix missing or not a server id (SJOIN, BMASK), user id (PART, QUIT) */
     RELAY_BAD_TIME = 14,           /* time malformed or over 4294967295 */
     RELAY_ZERO_TIME = 15,          /* time is 0 */
     RELAY_BAD_NAME = 16,           /* bad channel name; names of two records that are merged differ */
     RELAY_BAD_MODES = 17,          /* bad modes, key, limit, or their number */
     RELAY_BAD_MEMBERS = 18,        /* bad member list */
-    RELAY_NO_SUCH_CHANNEL = 19,    /* channel not in the table (PART) */
+    RELAY_NO_SUCH_CHANNEL = 19,    /* channel not in the table (PART, BMASK, finding one, asking for a ban) */
     RELAY_NOT_ON_CHANNEL = 20,     /* user not in it (PART) */
     RELAY_NO_FREE_SLOT = 21,       /* new channel, and all sixteen slots used */
     RELAY_TOO_MANY_MEMBERS = 22,   /* more than 64 members would result */
     RELAY_TEXT_TOO_LONG = 23,      /* mask or text over 512 bytes */
     RELAY_UNWRITABLE = 24,         /* message that would not read back as it was, or with parts outside the lent bytes */
-    RELAY_NO_ROOM = 25             /* written line over 512 bytes; log buffer shorter than the line and 5; output shorter than a record's text */
+    RELAY_NO_ROOM = 25,            /* written line over 512 bytes; log buffer shorter than the line and 5; output shorter than a record's text */
+    RELAY_BAD_MASKS = 26,          /* type not b, no mask in the list, or one over 100 bytes (BMASK) */
+    RELAY_TOO_MANY_MASKS = 27      /* more than 32 masks would result, by BMASK or by merging */
 };
 
 /* Words for people, the rest of the room zero. */
@@ -252,10 +266,10 @@ typedef struct relay_member {
 } relay_member;
 
 /*
- * A channel. It is well formed if: the time is not 0; the name is '#' and 1 to 49 bytes other than SPACE, BELL, NUL, CR, LF and comma;
- * with mode k there is a key of 1 to 23 bytes from 33 to 126, no comma, not starting with ':', without it key_len is 0; with mode l the
- * limit is not 0, without it it is; there are 1 to 64 members, ids strictly ascending, each a digit, two of A to Z or 0 to 9, one of
- * A to Z, five of A to Z or 0 to 9, each status at most 3; and all unused room is zero.
+ * A channel, its ban list apart. It is well formed if: the time is not 0; the name is '#' and 1 to 49 bytes other than SPACE, BELL, NUL,
+ * CR, LF and comma; with mode k there is a key of 1 to 23 bytes from 33 to 126, no comma, not starting with ':', without it key_len is 0;
+ * with mode l the limit is not 0, without it it is; there are 1 to 64 members, ids strictly ascending, each a digit, two of A to Z or 0
+ * to 9, one of A to Z, five of A to Z or 0 to 9, each status at most 3; and all unused room is zero.
  */
 typedef struct relay_record {
     uint8_t name[RELAY_NAME];
@@ -269,17 +283,35 @@ typedef struct relay_record {
     size_t count;
 } relay_record;
 
+/*
+ * The masks of those who are kept off a channel: a byte with the number of masks, then room for 32 of them, each a byte with the mask's
+ * length and 100 bytes. It is well formed if there are at most 32 masks, each of 1 to 100 bytes other than SPACE, NUL, CR and LF; they
+ * ascend strictly by their folds, which are the masks in small letters as in `relay_same_name`, by the first byte that differs, unsigned,
+ * a proper beginning being smaller; and all unused room is zero. The list without masks is all zero. `relay_list_mask` and `relay_mask`
+ * read it.
+ */
+typedef struct relay_ban_list {
+    uint8_t room[RELAY_LIST];
+} relay_ban_list;
+
+/* A channel with its ban list. It is well formed if both are. */
+typedef struct relay_whole_record {
+    relay_record record;
+    relay_ban_list bans;
+} relay_whole_record;
+
 /* The merged record; the first one as given where it is refused. */
 typedef struct relay_merged {
     uint8_t number;
-    relay_record result;
+    relay_whole_record result;
 } relay_merged;
 
 /*
- * Merges two records of one channel, the first one's spelling kept. At the earlier of the two times: that record's modes, key, limit
- * and statuses, everyone of both; at equal times they are united, the greater key and the larger limit winning. Numbers 1, 16, 22.
+ * Merges two records of one channel, the first one's spelling kept. At the earlier of the two times: that record's modes, key, limit,
+ * statuses and masks, everyone of both; at equal times they are united, the greater key and the larger limit winning, and of masks with
+ * equal folds the first record's. Numbers 1, 16, 22, 27.
  */
-relay_merged relay_merge(relay_record first, relay_record second);
+relay_merged relay_merge(relay_whole_record first, relay_whole_record second);
 
 /*
  * Writes a record as a text to the front of `out`: time, name, modes, key and limit where there are any, and members, one SPACE between
@@ -294,24 +326,34 @@ typedef struct relay_links {
     uint32_t set;
 } relay_links;
 
-/*
- * All that the relay holds. It is well formed if each slot is all zero (free) or holds a well-formed record (count is not 0), and no
- * two of those have equal names. Every set of links is well formed. The empty table is all zero.
- */
-typedef struct relay_table {
+/* What of a table goes by value: the channels, their ban lists apart, and the links. */
+typedef struct relay_head {
     relay_record slots[RELAY_SLOTS];
     relay_links links;
+} relay_head;
+
+/*
+ * All that the relay holds: the head, and the ban list of slot k from byte k * RELAY_LIST on. It is well formed if each slot is all zero
+ * (free), its list too, or holds a well-formed record (count is not 0) with a well-formed list, and no two of those have equal names.
+ * Every set of links is well formed. The empty table is all zero.
+ *
+ * The library's functions take a head by value and the lists by a plain pointer to RELAY_BANS bytes, which may lie anywhere; the inline
+ * functions below take the whole by its pointer.
+ */
+typedef struct relay_table {
+    relay_head head;
+    uint8_t bans[RELAY_BANS];
 } relay_table;
 
-/* The table after, or as given where it is refused. */
+/* The head after, or as given where it is refused. */
 typedef struct relay_registered {
-    relay_table table;
+    relay_head head;
     uint8_t number;
 } relay_registered;
 
-/* The answer to a line: the table after, the length of the line to send, the links that it goes to and how many they are. */
+/* The answer to a line: the head after, the length of the line to send, the links that it goes to and how many they are. */
 typedef struct relay_taken {
-    relay_table table;
+    relay_head head;
     size_t len;
     uint32_t set;
     uint32_t count;
@@ -324,27 +366,45 @@ typedef struct relay_found {
     size_t slot;
 } relay_found;
 
-/* Every slot free, no link registered. */
-relay_table relay_empty_table(void);
+/* Whether a text is banned; no where it is refused. */
+typedef struct relay_banned {
+    uint8_t number;
+    bool yes;
+} relay_banned;
+
+/* Every slot free, no link registered; and every byte of the lists is made zero, whatever was there. */
+relay_head relay_empty_head(uint8_t *bans);
 
 /* Registers or drops a link; the channels stay, and doing so twice changes nothing more. Numbers 1, 3. */
-relay_registered relay_register(relay_table table, uint32_t link);
-relay_registered relay_unregister(relay_table table, uint32_t link);
+relay_registered relay_register(relay_head head, const uint8_t *bans, uint32_t link);
+relay_registered relay_unregister(relay_head head, const uint8_t *bans, uint32_t link);
 
 /*
- * The slot that holds the channel of a name, without regard to case. Any bytes are a name here and any table will do; where two slots
+ * The slot that holds the channel of a name, without regard to case. Any bytes are a name here and any head will do; where two slots
  * hold the name, which no well-formed table has, the lower one. Number 19.
  */
-relay_found relay_find(relay_table table, relay_bytes name);
+relay_found relay_find(relay_head head, relay_bytes name);
+
+/*
+ * Whether a text is banned from the channel of a name: whether some mask of its list matches the whole text, as `relay_match` does. The
+ * empty text is one too. Numbers 1, 16, 19, 23.
+ */
+relay_banned relay_is_banned(relay_head head, const uint8_t *bans, relay_bytes name, relay_bytes text);
 
 /*
  * Takes a line that came in by a link:
- *     :sid SJOIN time name modes [key] [limit] list     the users join, and times decide whose modes and statuses stand
+ *     :sid SJOIN time name modes [key] [limit] list     the users join, and times decide whose modes and statuses stand; an earlier
+ *                                                       time than the channel's empties its ban list
  *     :uid PART name [reason]                           the user leaves the channel
  *     :uid QUIT [reason]                                the user leaves every channel
- * and writes the line to send on to the front of `out`. It goes to every registered link but the one it came by. Numbers 1 to 22.
+ *     :sid BMASK time name b list                       the masks are added to the channel's ban list
+ * and writes the line to send on to the front of `out`. It goes to every registered link but the one it came by. A channel whose last
+ * user leaves is gone, and its list with it. A BMASK that is later than its channel is accepted and goes nowhere: nothing is changed or
+ * written, and set, count and len are 0. Numbers 1 to 22, 26, 27.
+ *
+ * The link comes last: so no pointer is parted from its length where the registers for arguments end.
  */
-relay_taken relay_process(relay_table table, uint32_t link, relay_bytes line, relay_room out);
+relay_taken relay_process(relay_head head, uint8_t *bans, relay_bytes line, relay_room out, uint32_t link);
 
 /* ---- the day log ---- */
 
@@ -444,9 +504,32 @@ static inline relay_bytes relay_greater_key(relay_bytes a, relay_bytes b)
     return relay_key_less(a, b) ? b : a;
 }
 
+/* ---- inline: the masks of a ban list ---- */
+
+static inline size_t relay_at_most(size_t most, size_t n)
+{
+    return n < most ? n : most;
+}
+
+/* How many masks a list of RELAY_LIST bytes has: at most 32, whatever the bytes. */
+static inline size_t relay_list_count(const uint8_t *list)
+{
+    return relay_at_most(RELAY_MASKS, list[0]);
+}
+
+/* The mask i of a list, counted from 0; no bytes where there is none. It lies in the list, whatever the bytes. */
+static inline relay_bytes relay_list_mask(const uint8_t *list, size_t i)
+{
+    const uint8_t *room;
+    if (i >= relay_list_count(list))
+        return relay_bytes_of(NULL, 0);
+    room = list + 1 + i * (RELAY_MASK + 1);
+    return relay_bytes_of(room + 1, relay_at_most(RELAY_MASK, room[0]));
+}
+
 /* ---- inline: a table by its pointer ---- */
 
-/* What `relay_process` answers beside the table. */
+/* What `relay_process` answers beside the head. An accepted line that goes nowhere has set, count and len 0. */
 typedef struct relay_answer {
     uint8_t number;
     uint32_t set;
@@ -454,31 +537,37 @@ typedef struct relay_answer {
     size_t len;
 } relay_answer;
 
+/* Makes any bytes the empty table: every slot free, no masks, no link registered. */
+static inline void relay_table_clear(relay_table *table)
+{
+    table->head = relay_empty_head(table->bans);
+}
+
 /* As `relay_register`; answers the number. */
 static inline uint8_t relay_table_register(relay_table *table, uint32_t link)
 {
-    relay_registered done = relay_register(*table, link);
+    relay_registered done = relay_register(table->head, table->bans, link);
     if (done.number == RELAY_ACCEPTED)
-        *table = done.table;
+        table->head = done.head;
     return done.number;
 }
 
 /* As `relay_unregister`; answers the number. */
 static inline uint8_t relay_table_unregister(relay_table *table, uint32_t link)
 {
-    relay_registered done = relay_unregister(*table, link);
+    relay_registered done = relay_unregister(table->head, table->bans, link);
     if (done.number == RELAY_ACCEPTED)
-        *table = done.table;
+        table->head = done.head;
     return done.number;
 }
 
 /* As `relay_process`. */
 static inline relay_answer relay_table_take(relay_table *table, uint32_t link, relay_bytes line, relay_room out)
 {
-    relay_taken taken = relay_process(*table, link, line, out);
+    relay_taken taken = relay_process(table->head, table->bans, line, out, link);
     relay_answer answer;
     if (taken.number == RELAY_ACCEPTED)
-        *table = taken.table;
+        table->head = taken.head;
     answer.number = taken.number;
     answer.set = taken.set;
     answer.count = taken.count;
@@ -489,12 +578,42 @@ static inline relay_answer relay_table_take(relay_table *table, uint32_t link, r
 /* The channel of a name, in the table; NULL where it isn't there. */
 static inline const relay_record *relay_table_find(const relay_table *table, relay_bytes name)
 {
-    relay_found found = relay_find(*table, name);
-    return found.number == RELAY_ACCEPTED ? &table->slots[found.slot] : NULL;
+    relay_found found = relay_find(table->head, name);
+    return found.number == RELAY_ACCEPTED ? &table->head.slots[found.slot] : NULL;
+}
+
+/* As `relay_is_banned`. */
+static inline relay_banned relay_table_is_banned(const relay_table *table, relay_bytes name, relay_bytes text)
+{
+    return relay_is_banned(table->head, table->bans, name, text);
+}
+
+/* How many masks the channel in a slot has: at most 32, whatever the table holds; 0 where there is no such slot. */
+static inline size_t relay_mask_count(const relay_table *table, size_t slot)
+{
+    return slot < RELAY_SLOTS ? relay_list_count(table->bans + slot * RELAY_LIST) : 0;
+}
+
+/* The mask i of the channel in a slot, counted from 0; no bytes where there is none. It lies in the table, whatever the table holds. */
+static inline relay_bytes relay_mask(const relay_table *table, size_t slot, size_t i)
+{
+    return slot < RELAY_SLOTS ? relay_list_mask(table->bans + slot * RELAY_LIST, i) : relay_bytes_of(NULL, 0);
+}
+
+/* A copy of the channel in a slot with its ban list; all zero, as of a free slot, where there is no such slot. */
+static inline relay_whole_record relay_table_channel(const relay_table *table, size_t slot)
+{
+    relay_whole_record channel;
+    memset(&channel, 0, sizeof channel);
+    if (slot < RELAY_SLOTS) {
+        channel.record = table->head.slots[slot];
+        memcpy(channel.bans.room, table->bans + slot * RELAY_LIST, RELAY_LIST);
+    }
+    return channel;
 }
 
 /* As `relay_merge`, into the first record; answers the number. */
-static inline uint8_t relay_record_merge(relay_record *first, const relay_record *second)
+static inline uint8_t relay_record_merge(relay_whole_record *first, const relay_whole_record *second)
 {
     relay_merged merged = relay_merge(*first, *second);
     if (merged.number == RELAY_ACCEPTED)
@@ -524,12 +643,15 @@ static inline bool relay_layout_matches(void)
         RELAY_FIELD(relay_record, name), RELAY_FIELD(relay_record, name_len), RELAY_FIELD(relay_record, time),
         RELAY_FIELD(relay_record, modes), RELAY_FIELD(relay_record, key), RELAY_FIELD(relay_record, key_len),
         RELAY_FIELD(relay_record, limit), RELAY_FIELD(relay_record, members), RELAY_FIELD(relay_record, count), sizeof(relay_record),
+        RELAY_FIELD(relay_ban_list, room), sizeof(relay_ban_list),
+        RELAY_FIELD(relay_whole_record, record), RELAY_FIELD(relay_whole_record, bans), sizeof(relay_whole_record),
         RELAY_FIELD(relay_merged, number), RELAY_FIELD(relay_merged, result), sizeof(relay_merged),
         RELAY_FIELD(relay_links, set), sizeof(relay_links),
-        RELAY_FIELD(relay_table, slots), RELAY_FIELD(relay_table, links), sizeof(relay_table),
-        RELAY_FIELD(relay_registered, table), RELAY_FIELD(relay_registered, number), sizeof(relay_registered),
-        RELAY_FIELD(relay_taken, table), RELAY_FIELD(relay_taken, len), RELAY_FIELD(relay_taken, set),
+        RELAY_FIELD(relay_head, slots), RELAY_FIELD(relay_head, links), sizeof(relay_head),
+        RELAY_FIELD(relay_registered, head), RELAY_FIELD(relay_registered, number), sizeof(relay_registered),
+        RELAY_FIELD(relay_taken, head), RELAY_FIELD(relay_taken, len), RELAY_FIELD(relay_taken, set),
         RELAY_FIELD(relay_taken, count), RELAY_FIELD(relay_taken, number), sizeof(relay_taken),
+        RELAY_FIELD(relay_banned, number), RELAY_FIELD(relay_banned, yes), sizeof(relay_banned),
         RELAY_FIELD(relay_logged, number), RELAY_FIELD(relay_logged, size), sizeof(relay_logged),
         RELAY_FIELD(relay_found, number), RELAY_FIELD(relay_found, slot), sizeof(relay_found),
         RELAY_FIELD(relay_text, bytes), RELAY_FIELD(relay_text, len), sizeof(relay_text),

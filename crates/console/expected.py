@@ -5,8 +5,8 @@
     python3 expected.py --check    only compare them; exit 1 on a difference
 
 First comes the day of `examples/morning.txt` with `examples/morning.out`, then
-the odd cases below. Every answer was written by hand from document 01 and the
-console's own description (README.md); the program has no part in it.
+the odd cases below. Every answer was written by hand from documents 01 and 02
+and the console's own description (README.md); the program has no part in it.
 """
 import pathlib
 import sys
@@ -15,6 +15,11 @@ HERE = pathlib.Path(__file__).parent
 EXAMPLES = HERE / ".." / ".." / "examples"
 
 NO_REQUEST = b"! input\n"
+YES = b"yes\n"
+NO = b"no\n"
+
+# the answer to an accepted line of which nothing goes out
+NOTHING = b"-\n"
 
 
 def refused(number):
@@ -65,6 +70,20 @@ CASES = [
         b"01 QUIT\r\n",
         b"-1 QUIT\r\n",
         b"1000000000 QUIT\r\n",
+        # a question needs both SPACEs, and its word in small letters right at the start
+        b"banned\n",
+        b"banned \n",
+        b"banned \r\n",
+        b"banned #race\n",
+        b"banned #race\r\n",
+        b"banned\t#race x\n",
+        b"bannedx #race x\n",
+        b" banned #race x\n",
+        b"Banned #race x\n",
+        b"ban #race x\n",
+        # a name of more than 512 bytes is none
+        b"banned #" + b"n" * 512 + b" x\n",
+        b"banned #" + b"n" * 5000 + b" x\n",
     ]
 ]
 
@@ -95,6 +114,76 @@ CASES += [
     (b"4 QUIT\r\n", refused(3)),
     (b"32 QUIT\r\n", refused(3)),
     (b"999999999 QUIT\r\n", refused(3)),
+]
+
+# ---- questions: the name and the text are what stands behind the first and the second SPACE, whatever bytes they are
+ROWDY = b"!deck@rowdy.boat"
+CASES += [
+    (b"banned #race sam" + ROWDY + b"\n", YES),
+    (b"banned #race sam" + ROWDY + b"\r\n", YES),
+    (b"banned #race sam" + ROWDY + b"\r\r\n", NO),
+    (b"banned #race sam" + ROWDY + b" \n", NO),
+    (b"banned #race  " + ROWDY + b"\n", YES),
+    (b"banned #race \0\xff " + ROWDY + b"\n", YES),
+    (b"banned #RACE ROWDY!x@\n", YES),
+    (b"banned #race rowdy!x\n", NO),
+    (b"banned #race \n", NO),
+    (b"banned #race \r\n", NO),
+    (b"banned #penalty sam" + ROWDY + b"\n", NO),
+    # the name is looked at before the text
+    (b"banned  \n", refused(16)),
+    (b"banned  x\n", refused(16)),
+    (b"banned race x\n", refused(16)),
+    (b"banned #" + b"n" * 50 + b" x\n", refused(16)),
+    (b"banned #" + b"n" * 511 + b" " + b"x" * 600 + b"\n", refused(16)),
+    (b"banned #" + b"n" * 49 + b" x\n", refused(19)),
+    (b"banned #none " + b"x" * 5000 + b"\n", refused(19)),
+    # 512 bytes are a text, more aren't
+    (b"banned #race " + b"x" * (512 - len(ROWDY)) + ROWDY + b"\n", YES),
+    (b"banned #race " + b"x" * (512 - len(ROWDY)) + ROWDY + b"\r\n", YES),
+    (b"banned #race " + b"x" * (513 - len(ROWDY)) + ROWDY + b"\n", refused(23)),
+    (b"banned #race " + b"x" * (513 - len(ROWDY)) + ROWDY + b"\r\n", refused(23)),
+    (b"banned #race " + b"x" * 512 + b"\r\r\n", refused(23)),
+    (b"banned #race " + b"x" * 5000 + b"\n", refused(23)),
+]
+
+
+# ---- masks: those that are there keep their spelling; a line that is later says nothing, but its masks are judged
+def numbered(numbers, length):
+    return [b"%02d" % n + b"m" * (length - 2) for n in numbers]
+
+
+def masks_line(masks):
+    return b":1CB BMASK 70010 #race b :" + b" ".join(masks) + b"\r\n"
+
+
+CASES += [
+    (b"1 :1CB BMASK 70010 #race b\r\n", refused(12)),
+    (b"1 BMASK 70010 #race b x\r\n", refused(13)),
+    (b"1 :1CB BMASK 07 #race b x\r\n", refused(14)),
+    (b"1 :1CB BMASK 0 #race b x\r\n", refused(15)),
+    (b"1 :1CB BMASK 70010 race b x\r\n", refused(16)),
+    (b"1 :1CB BMASK 70010 #none q x\r\n", refused(26)),
+    (b"1 :1CB BMASK 70010 #race B x\r\n", refused(26)),
+    (b"1 :1CB BMASK 70010 #race b : \r\n", refused(26)),
+    (b"1 :1CB BMASK 70011 #race b :x " + b"m" * 101 + b"\r\n", refused(26)),
+    (b"1 :1CB BMASK 70010 #none b x\r\n", refused(19)),
+    (b"1 :1CB BMASK 70011 #race b x\r\n", NOTHING),
+    (b"1 :1CB BMASK 4294967295 #race b :" + b" ".join(numbered(range(40), 2)) + b"\r\n", NOTHING),
+    (
+        b"1 :1CB bmask 1 #Race b :  ROWDY*!*@*  :a,b  *!*@ROWDY.boat \r\n",
+        b"0,2,3,31 :1CB BMASK 1 #Race b :  ROWDY*!*@*  :a,b  *!*@ROWDY.boat \r\n",
+    ),
+    (b"1 " + masks_line(numbered(range(30), 2)), refused(27)),
+    (b"1 " + masks_line(numbered(range(29), 2)), b"0,2,3,31 " + masks_line(numbered(range(29), 2))),
+    (b"1 " + masks_line([b"more"]), refused(27)),
+    (b"1 " + masks_line([b"rowdy*!*@*", b":A,B"]), b"0,2,3,31 " + masks_line([b"rowdy*!*@*", b":A,B"])),
+    (
+        b"?\r\n",
+        b"70000 #penalty +nt @0PDAAAAAA @0PDAAAAAB 1CBAAAAAA\n\n"
+        b"70010 #race +nkl buoy 40 @1CBAAAAAA +1CBAAAAAB\n"
+        b"*!*@rowdy.boat " + b" ".join(numbered(range(29), 2)) + b" :a,b Rowdy*!*@*\n.\n",
+    ),
 ]
 
 
@@ -130,15 +219,20 @@ CASES += [
     (b"1 :1CBAAAAAA quit :\r\n", b"- :1CBAAAAAA QUIT :\r\n"),
 ]
 
-# ---- who is left: #race is empty and its slot free, the lowest one, which the next channel takes
-PENALTY = b"70000 #penalty +nt @0PDAAAAAB\n"
-FINISH = b"80000 #finish +isl 9 1CBAAAAAC\n"
+# ---- who is left: #race is empty and its slot free, the lowest one, which the next channel takes, without masks. They go too where the time falls
+PENALTY = b"70000 #penalty +nt @0PDAAAAAB\n\n"
+FINISH = b"79999 #finish + 1CBAAAAAC\n\n"
 CASES += [
     (b"?\n", PENALTY + b".\n"),
     (
         b"1 :1CB SJOIN 80000 #finish +lsi 9 1CBAAAAAC\r\n",
         b"- :1CB SJOIN 80000 #finish +isl 9 1CBAAAAAC\r\n",
     ),
+    (b"?\n", PENALTY + b"80000 #finish +isl 9 1CBAAAAAC\n\n.\n"),
+    (b"1 :1CB BMASK 80000 #finish b late*\r\n", b"- :1CB BMASK 80000 #finish b late*\r\n"),
+    (b"banned #finish latecomer\n", YES),
+    (b"1 :1CB SJOIN 79999 #finish + 1CBAAAAAC\r\n", b"- :1CB SJOIN 79999 #finish + 1CBAAAAAC\r\n"),
+    (b"banned #finish latecomer\n", NO),
 ]
 
 # ---- the longest record: ten digits, 50 bytes of name, all modes, 23 of key, five digits, 64 operators with voice
@@ -151,10 +245,25 @@ CASES += [
     (b"1 " + FIRST, b"- " + FIRST),
     (b"1 " + SECOND, b"- " + SECOND),
     (b"1 :1CB SJOIN 4294967295 #" + b"N" * 49 + b" + 9XXA00064\r\n", refused(22)),
+]
+assert len(LONGEST) == 870
+
+# ---- and the longest list: 32 masks of 100 bytes, four a line
+MASKS = numbered(range(31), 100) + [b"*" * 49 + b"?" * 50 + b"z"]
+LISTED = [b":1CB BMASK 4294967295 #" + b"n" * 49 + b" b :" + b" ".join(MASKS[i : i + 4]) + b"\r\n" for i in range(0, 32, 4)]
+LONGEST += b" ".join(MASKS[31:] + MASKS[:31]) + b"\n"
+CASES += [(b"1 " + line, b"- " + line) for line in reversed(LISTED)]
+CASES += [
+    (b"1 :1CB BMASK 4294967295 #" + b"n" * 49 + b" b more\r\n", refused(27)),
+    (b"banned #" + b"N" * 49 + b" " + b"y" * 511 + b"Z\r\n", YES),
+    (b"banned #" + b"n" * 49 + b" " + b"z" * 511 + b"y\r\n", NO),
+    (b"banned #" + b"n" * 49 + b" " + b"y" * 512 + b"z\r\n", refused(23)),
+    (b"banned #" + b"n" * 49 + b" " + b"y" * 600 + b"z\n", refused(23)),
+    (b"banned #" + b"n" * 49 + b" " + b"y" * 5000 + b"z\n", refused(23)),
     # the last line is unfinished, and taken as it is
     (b"?", PENALTY + FINISH + LONGEST + b".\n"),
 ]
-assert len(LONGEST) == 870
+assert len(LONGEST) == 870 + 3232
 
 
 def made():

@@ -19,6 +19,11 @@ SPACE after it,
     thin    the same, with an output of 511 bytes lent
     harm    nothing: the first slot's name is cut to one byte, so that the
             table isn't well formed
+    blot    nothing: the last byte of the first slot's ban list is made 1, so
+            that the table isn't well formed
+    bans    a channel's name, a SPACE and a text
+    meld    nothing: the records of the first two slots, the second under the
+            first one's name, are merged with their ban lists
 
 For a line that is read, `stdout` has
 
@@ -39,8 +44,13 @@ and for one that isn't, `refused K` with its number. For the others it has
 
     match Y         or `refused K`
 
-The last six words are steps of a relay, whose table goes from one to the
-next. `link`, `drop`, `take` and `thin` are answered by
+    banned Y        or `refused K`
+
+    done            or `refused K`, and then the merged record, or the first
+                    one, as a slot of the table is shown
+
+The words from `over` to `blot` are steps of a relay, whose table goes from one
+to the next. `link`, `drop`, `take` and `thin` are answered by
 
     done            or `refused K`
 
@@ -59,12 +69,14 @@ not:
                     once for each used slot; the modes as their byte, key and
                     limit only if there is one
     member U S      once for each member of the slot: user id and status
+    mask M          once for each mask of the slot's ban list
 
 An empty line follows each record's.
 
-What is below is made from the text of document 01 alone ("Reading one line",
-"Names and ids", "SJOIN", "What goes out", "The numbers a caller may get"). It
-shares nothing with the program that it judges.
+What is below is made from the text of document 01 ("Reading one line",
+"Names and ids", "SJOIN", "What goes out", "The numbers a caller may get") and
+of document 02, section 2, alone. It shares nothing with the program that it
+judges.
 """
 
 import argparse
@@ -79,9 +91,14 @@ STDIN = FOLDER / "stdin"
 STDOUT = FOLDER / "stdout"
 
 LINE, NAME, SAME, MASK = b"line", b"name", b"same", b"mask"
-OVER, LINK, DROP, HARM = b"over", b"link", b"drop", b"harm"
+OVER, LINK, DROP = b"over", b"link", b"drop"
+HARM, BLOT = b"harm", b"blot"
 TAKE, THIN = b"take", b"thin"
-STEPS = (OVER, LINK, DROP, HARM, TAKE, THIN)
+BANS, MELD = b"bans", b"meld"
+STEPS = (OVER, LINK, DROP, HARM, BLOT, TAKE, THIN)
+
+# Directives that have a word's name, and are followed by what is tried.
+PLAIN = (NAME, SAME, MASK, OVER, LINK, DROP, HARM, BLOT, BANS, MELD)
 
 # How many bytes of output are lent.
 LENT = {TAKE: 600, THIN: 511}
@@ -172,9 +189,9 @@ def entry_record(entry: bytes) -> Record:
         return Record(LINE, filled(*arguments.split(SPACE, 2), CR_LF))
     if directive == b"@fill-lf":
         return Record(LINE, filled(*arguments.split(SPACE, 2), LF))
-    if directive == b"@fill-mask":
-        return Record(MASK, filled_pair(arguments) + LF)
-    if directive[1:] in (NAME, SAME, MASK, OVER, LINK, DROP, HARM):
+    if directive in (b"@fill-mask", b"@fill-bans"):
+        return Record(directive[-4:], filled_pair(arguments) + LF)
+    if directive[1:] in PLAIN:
         return Record(directive[1:], unescape(arguments) + LF)
     link, _, rest = arguments.partition(SPACE)
     line = taken_line(directive, rest)
@@ -319,7 +336,10 @@ SHORTEST_OUTPUT = 512
 
 
 class Channel(NamedTuple):
-    """A channel's record. `members` gives each user id its status."""
+    """A channel's record with its ban list, the masks in their order.
+
+    `members` gives each user id its status.
+    """
 
     name: bytes
     time: int
@@ -327,20 +347,27 @@ class Channel(NamedTuple):
     key: Optional[bytes]
     limit: Optional[int]
     members: Dict[bytes, int]
+    masks: Tuple[bytes, ...] = ()
 
 
 class Table(NamedTuple):
-    """The registered links, and the slots, a free one being None."""
+    """The registered links, and the slots, a free one being None.
+
+    `blotted` says that unused room of the first slot's ban list isn't zero.
+    """
 
     links: FrozenSet[int]
     slots: Tuple[Optional[Channel], ...]
+    blotted: bool = False
 
 
 EMPTY = Table(frozenset(), SLOTS * (None,))
 
 
 def check_table(table: Table) -> None:
-    """Refuse a table that isn't well formed: here only a name can be bad."""
+    """Refuse a table that isn't well formed, by a name or by a blot."""
+    if table.blotted:
+        raise Refused(1)
     for channel in filter(None, table.slots):
         if not CHANNEL.fullmatch(channel.name):
             raise Refused(1)
@@ -477,7 +504,7 @@ def merged(old: Channel, new: Channel) -> Channel:
     if new.time > old.time:
         return old._replace(members=members)
     if new.time < old.time:
-        return new._replace(name=old.name, members=members)
+        return new._replace(name=old.name, members=members, masks=())
     return old._replace(
         modes=old.modes | new.modes,
         key=max(old.key or b"", new.key or b"") or None,
@@ -523,6 +550,76 @@ def take_join(table: Table, message: Message) -> Tuple[Table, Message]:
     return with_slot(table, place, result), sent
 
 
+# --- Ban lists --------------------------------------------------------------
+
+LONGEST_MASK = 100
+MOST_MASKS = 32
+
+
+def with_masks(masks: Iterable[bytes], more: Iterable[bytes]) -> Tuple[bytes, ...]:
+    """Add masks to others, each fold once in its first spelling, or refuse."""
+    spellings: Dict[bytes, bytes] = {}
+    for mask in [*masks, *more]:
+        spellings.setdefault(mask.translate(FOLD), mask)
+    if len(spellings) > MOST_MASKS:
+        raise Refused(27)
+    return tuple(spellings[fold] for fold in sorted(spellings))
+
+
+def take_masks(table: Table, message: Message) -> Tuple[Table, Optional[Message]]:
+    """Return the table after a BMASK and what goes out, or refuse it.
+
+    Nothing goes out of one that is later than its channel.
+    """
+    if len(message.parameters) != 4:
+        raise Refused(12)
+    if not SERVER_ID.fullmatch(message.prefix or b""):
+        raise Refused(13)
+    time, name, kind, text = message.parameters
+    when = number(time, LATEST_TIME, 14)
+    if when == 0:
+        raise Refused(15)
+    if not CHANNEL.fullmatch(name):
+        raise Refused(16)
+    masks = [mask for mask in text.split(SPACE) if mask]
+    if kind != b"b" or not masks or max(map(len, masks)) > LONGEST_MASK:
+        raise Refused(26)
+    place = slot_of(table, name)
+    if place is None:
+        raise Refused(19)
+    channel = table.slots[place]
+    if when > channel.time:
+        return table, None
+    result = channel._replace(masks=with_masks(channel.masks, masks))
+    return with_slot(table, place, result), message
+
+
+def banned(table: Table, name: bytes, text: bytes) -> bool:
+    """Tell whether a text is banned from a channel, or refuse the question."""
+    check_table(table)
+    if not CHANNEL.fullmatch(name):
+        raise Refused(16)
+    place = slot_of(table, name)
+    if place is None:
+        raise Refused(19)
+    if len(text) > LONGEST_TEXT:
+        raise Refused(23)
+    return any(matches(mask, text) for mask in table.slots[place].masks)
+
+
+def melded(table: Table) -> Channel:
+    """Merge the second slot's record into the first one's, or refuse it."""
+    first, second = table.slots[:2]
+    if first is None or second is None or table.blotted:
+        raise Refused(1)
+    if not CHANNEL.fullmatch(first.name):
+        raise Refused(1)
+    result = merged(first, second)
+    if first.time == second.time:
+        return result._replace(masks=with_masks(first.masks, second.masks))
+    return result._replace(masks=min(first, second, key=lambda c: c.time).masks)
+
+
 # --- PART, QUIT, and taking a line ------------------------------------------
 
 
@@ -557,7 +654,12 @@ def take_quit(table: Table, message: Message) -> Tuple[Table, Message]:
     return table, message
 
 
-COMMANDS = {b"SJOIN": take_join, b"PART": take_part, b"QUIT": take_quit}
+COMMANDS = {
+    b"SJOIN": take_join,
+    b"PART": take_part,
+    b"QUIT": take_quit,
+    b"BMASK": take_masks,
+}
 
 
 class Taken(NamedTuple):
@@ -569,7 +671,7 @@ class Taken(NamedTuple):
 
 
 def take(table: Table, link: int, line: bytes, lent: int) -> Taken:
-    """Take a line from a link, or refuse it with the lowest number."""
+    """Take a line from a link, or refuse it with the first number in order."""
     check_table(table)
     if lent < SHORTEST_OUTPUT:
         raise Refused(2)
@@ -580,6 +682,8 @@ def take(table: Table, link: int, line: bytes, lent: int) -> Taken:
     if command not in COMMANDS:
         raise Refused(11)
     after, sent = COMMANDS[command](table, message)
+    if sent is None:
+        return Taken(after, frozenset(), b"")
     return Taken(after, table.links - {link}, write(sent._replace(command=command)))
 
 
@@ -641,7 +745,8 @@ def slot_report(place: int, channel: Channel) -> List[bytes]:
     if channel.limit is not None:
         parts.append(b"limit %d" % channel.limit)
     members = sorted(channel.members.items())
-    return [SPACE.join(parts)] + [b"member %s %d" % member for member in members]
+    report = [SPACE.join(parts)] + [b"member %s %d" % member for member in members]
+    return report + [b"mask " + mask for mask in channel.masks]
 
 
 def table_report(table: Table) -> List[bytes]:
@@ -684,12 +789,28 @@ def step(table: Table, record: Record) -> Tuple[Table, List[bytes]]:
         return take_step(table, record)
     if record.word in (LINK, DROP):
         return link_step(table, record)
+    if record.word == BLOT:
+        return table._replace(blotted=True), []
     return (EMPTY if record.word == OVER else harmed(table)), []
 
 
-def answers(record: Record) -> List[bytes]:
-    """Return the output lines for a record that no table is needed for."""
+def meld_report(table: Table) -> List[bytes]:
+    """Return the output lines for a merge, the first record if it's refused."""
     try:
+        outcome, result = b"done", melded(table)
+    except Refused as refusal:
+        outcome, result = refused(refusal), table.slots[0]
+    return [outcome] + (slot_report(0, result) if result else [])
+
+
+def answers(table: Table, record: Record) -> List[bytes]:
+    """Return the output lines for a record that leaves the table alone."""
+    if record.word == MELD:
+        return meld_report(table)
+    try:
+        if record.word == BANS:
+            name, _, text = record.text[: -len(LF)].partition(SPACE)
+            return [answer(b"banned", banned(table, name, text))]
         return report(record)
     except Refused as refusal:
         return [refused(refusal)]
@@ -703,7 +824,7 @@ def outputs(records: Iterable[Record]) -> Iterable[bytes]:
             table, lines = step(table, record)
             lines += table_report(table)
         else:
-            lines = answers(record)
+            lines = answers(table, record)
         yield LF.join(lines) + LF + LF
 
 

@@ -1,7 +1,9 @@
 //! Links the core's static library, which `rt staticlib capi` writes. Another folder can be named by
 //! the variable RELAY_LIB_DIR. RELAY_EARLIER_LIB names the file of an earlier library, which is
-//! linked beside it for the benchmark, its symbols renamed. It may lack the feeder's functions.
+//! linked beside it for the benchmark, its symbols renamed. It may lack the feeder's functions, and
+//! its tables may have no ban lists, which the option earlier_without_lists tells the crate.
 
+use std::collections::BTreeSet;
 use std::env;
 use std::ffi::OsString;
 use std::path::{Path, PathBuf};
@@ -11,6 +13,7 @@ use std::process::Command;
 const PREFIX: &str = "earlier_";
 
 fn main() {
+    println!("cargo::rustc-check-cfg=cfg(earlier_without_lists)");
     let folder = variable("RELAY_LIB_DIR").map_or_else(default_folder, PathBuf::from);
     let library = folder.join("libcapi.a");
     if !library.exists() {
@@ -29,6 +32,9 @@ fn main() {
             let earlier = Path::new(&earlier);
             link_aligned(&library, "capi", "");
             link_aligned(earlier, "earlier_capi", PREFIX);
+            if !has(earlier, "relay_is_banned") {
+                println!("cargo::rustc-cfg=earlier_without_lists");
+            }
             (PREFIX, if has(earlier, "relay_feed") { PREFIX } else { "" })
         }
     };
@@ -71,10 +77,11 @@ fn link(from: &Path, folder: &Path, name: &str) {
 /// declares.
 fn link_aligned(library: &Path, name: &str, prefix: &str) {
     let folder = PathBuf::from(env::var_os("OUT_DIR").expect("cargo sets it"));
-    let names = include_str!("src/ffi.rs").split('"').filter(|word| word.starts_with("relay_"));
+    let words = include_str!("src/ffi.rs").split('"');
+    let names: BTreeSet<&str> = words.filter(|word| word.starts_with("relay_")).collect();
     let status = Command::new("objcopy")
         .arg("--set-section-alignment=.text.*=64")
-        .args(names.map(|name| format!("--redefine-sym={name}={prefix}{name}")))
+        .args(names.iter().map(|name| format!("--redefine-sym={name}={prefix}{name}")))
         .args([library, &folder.join(format!("lib{name}.a"))])
         .status()
         .expect("objcopy, of the binutils, can be run");

@@ -6,6 +6,7 @@ use lib.ListN.{length}
 use Rattle.names.specs.Names.{nameLimit, userIdLength}
 use Rattle.message.specs.Grammar.{lineLimit, paramLimit}
 use Rattle.channel.specs.Limits.{memberLimit, keyLimit, slotCount}
+use Rattle.bans.specs.Limits.{listSize}
 use Rattle.wording.specs.Wording.{textLimit}
 
 -- a type: its size and its alignment in bytes
@@ -82,23 +83,33 @@ channel =
     ∷ long
     ∷ []
 
+-- BanList: its room
+abbrev pub banList : List Kind
+banList = array listSize byte ∷ []
+
+-- WholeRecord: the record, then its ban list
+abbrev pub wholeRecord : List Kind
+wholeRecord = struct channel ∷ struct banList ∷ []
+
 abbrev pub links : List Kind
 links = word ∷ []
 
-abbrev pub table : List Kind
-table = array slotCount (struct channel) ∷ struct links ∷ []
+-- Head: the slots, then the links
+abbrev pub head : List Kind
+head = array slotCount (struct channel) ∷ struct links ∷ []
 
--- a number, then what an answer tells: of LineRead, Written, Logged a count of things or bytes, of Match a yes, of Merged a record, of ChannelFound a place
+-- a number, then what an answer tells: of LineRead, Written, Logged a count of things or bytes, of Match and Banned a yes, of Merged a record with its list, of
+-- ChannelFound a place
 abbrev pub numbered : Kind → List Kind
 numbered k = byte ∷ k ∷ []
 
--- Registered: the table, then its number
+-- Registered: the head, then its number
 abbrev pub registered : List Kind
-registered = struct table ∷ byte ∷ []
+registered = struct head ∷ byte ∷ []
 
--- Taken: the table, the length of what was written, the links and how many they are, then its number
+-- Taken: the head, the length of what was written, the links and how many they are, then its number
 abbrev pub taken : List Kind
-taken = struct table ∷ long ∷ word ∷ word ∷ byte ∷ []
+taken = struct head ∷ long ∷ word ∷ word ∷ byte ∷ []
 
 -- Text: the room for the words, then their length
 abbrev pub text : List Kind
@@ -123,11 +134,14 @@ numbers =
     ++ numbersOf (numbered byte)
     ++ numbersOf member
     ++ numbersOf channel
-    ++ numbersOf (numbered (struct channel))
+    ++ numbersOf banList
+    ++ numbersOf wholeRecord
+    ++ numbersOf (numbered (struct wholeRecord))
     ++ numbersOf links
-    ++ numbersOf table
+    ++ numbersOf head
     ++ numbersOf registered
     ++ numbersOf taken
+    ++ numbersOf (numbered byte)
     ++ numbersOf (numbered long)
     ++ numbersOf (numbered long)
     ++ numbersOf text

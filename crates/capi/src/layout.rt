@@ -5,7 +5,7 @@ ghost use lib.ListN.{getD};
 ghost use Rattle.capi.specs.Layout.{layout};
 
 // How many numbers there are, this one counted.
-const COUNT: usize = 118;
+const COUNT: usize = 131;
 
 // The number k, or 0 past the last: how many there are after it, then of each struct the place and the size of each field, and its own size.
 pub fn number(k: usize) -> usize
@@ -15,7 +15,7 @@ pub fn number(k: usize) -> usize
         return 0;
     }
     let numbers = [
-        117usize,
+        130usize,
         0, // Span.start
         8,
         8, // Span.end
@@ -71,25 +71,33 @@ pub fn number(k: usize) -> usize
         752, // Record.count
         8,
         760, // Record
+        0, // BanList.room
+        3233,
+        3233, // BanList
+        0, // WholeRecord.record
+        760,
+        760, // WholeRecord.bans
+        3233,
+        4000, // WholeRecord
         0, // Merged.number
         1,
         8, // Merged.result
-        760,
-        768, // Merged
+        4000,
+        4008, // Merged
         0, // Links.set
         4,
         4, // Links
-        0, // Table.slots
+        0, // Head.slots
         12160,
-        12160, // Table.links
+        12160, // Head.links
         4,
-        12168, // Table
-        0, // Registered.table
+        12168, // Head
+        0, // Registered.head
         12168,
         12168, // Registered.number
         1,
         12176, // Registered
-        0, // Taken.table
+        0, // Taken.head
         12168,
         12168, // Taken.len
         8,
@@ -100,6 +108,11 @@ pub fn number(k: usize) -> usize
         12184, // Taken.number
         1,
         12192, // Taken
+        0, // Banned.number
+        1,
+        1, // Banned.yes
+        1,
+        2, // Banned
         0, // Logged.number
         1,
         8, // Logged.size

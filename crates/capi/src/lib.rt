@@ -1,7 +1,7 @@
 // The relay for programs in C and Rust: what they need of it under C names, each answer with its promise as the core gives them, but for the reader's
-// answer and the place of a channel, which are structs here, a record's text, which has its numbers here, and the choice of a key. The header include/relay.h declares these functions and says what a caller must know.
-// Structs go in and come back by value. An exported function can't return a reference, so the header makes the parts of a line from `relay_parts`, and
-// hands back the greater of two keys by `relay_key_less`.
+// answer and the place of a channel, which are structs here, a record's text, which has its numbers here, and the choice of a key. The header include/relay.h
+// declares these functions and says what a caller must know. Structs go in and come back by value; the ban lists of a table, which are too large for that, are lent, as one pointer to an array of them all. An exported
+// function can't return a reference, so the header makes the parts of a line from `relay_parts`, and hands back the greater of two keys by `relay_key_less`.
 mod layout;
 
 ghost use mathlib.Core.Path.{_≡_};
@@ -19,16 +19,20 @@ ghost use Rattle.names.specs.Fold.{sameName};
 ghost use Rattle.glob.specs.Mask.{matchAnswer};
 ghost use Rattle.channel.specs.Record.{decode};
 ghost use Rattle.merging.specs.Merging.{mergeAnswer};
-ghost use Rattle.table.specs.Table.{emptyTable, registerAnswer, unregisterAnswer};
+ghost use Rattle.table.specs.Network.{headOf, tableWith};
+ghost use Rattle.table.specs.Table.{emptyTable, registerAnswer, unregisterAnswer, registeredOf};
+ghost use Rattle.table.specs.Banned.{bannedAnswer};
 ghost use Rattle.telling.specs.Telling.{described};
 ghost use Rattle.relay.specs.Arrival.{arrival};
-ghost use Rattle.relay.specs.Relay.{processAnswer, sent};
+ghost use Rattle.relay.specs.Relay.{processAnswer, takenOf, sent};
 ghost use Rattle.journal.specs.Journal.{logRules, recordOf, loggedAnswer};
 ghost use Rattle.wording.specs.Wording.{textOf};
 ghost use Rattle.capi.specs.Reading.{readAnswer};
 ghost use Rattle.capi.specs.Finding.{heldAt, findAnswer};
 ghost use Rattle.capi.specs.Describing.{describeRules};
 ghost use Rattle.capi.specs.Layout.{layout as layoutOf};
+use bans::BanList;
+use bans::WholeRecord;
 use channel::Record;
 use feed::Fed;
 use feed::Feeder;
@@ -43,9 +47,10 @@ use refusal::NO_ROOM;
 use refusal::NO_SUCH_CHANNEL;
 use refusal::NOT_WELL_FORMED;
 use relay::Taken;
+use table::Banned;
+use table::Head;
 use table::Registered;
 use table::Slot;
-use table::Table;
 use wording::Text;
 use writer::Written;
 
@@ -146,9 +151,9 @@ pub extern "C" fn relay_key_less(a: &[u8], b: &[u8]) -> bool
     }
 }
 
-// Two records of one channel merged.
+// Two records of one channel merged, with their ban lists.
 #[no_mangle]
-pub extern "C" fn relay_merge(a: Record, b: Record) -> Merged
+pub extern "C" fn relay_merge(a: WholeRecord, b: WholeRecord) -> Merged
     ensures { λ r. ⌜ r ≡ mergeAnswer a b ⌝ }
 {
     merging::merge(a, b)
@@ -179,28 +184,29 @@ pub extern "C" fn relay_describe(r: Record, out: &mut [u8]) -> Written
     }
 }
 
-// Every slot free, no link registered.
+// Every slot free, no link registered; and every byte of the lists is made zero.
 #[no_mangle]
-pub extern "C" fn relay_empty_table() -> Table
-    ensures { λ r. ⌜ r ≡ emptyTable ⌝ }
+pub extern "C" fn relay_empty_head(bans: &mut [u8; BanList::BANS]) -> Head
+    ensures answer { λ r. ⌜ r ≡ headOf emptyTable ⌝ }
+    ensures lists { λ _. ⌜ now (bans .exit) ≡ emptyTable .bans ⌝ }
 {
-    Table::empty()
+    Head::empty(bans)
 }
 
-// The table with a link registered.
+// The head with a link registered.
 #[no_mangle]
-pub extern "C" fn relay_register(t: Table, link: u32) -> Registered
-    ensures { λ r. ⌜ r ≡ registerAnswer t link ⌝ }
+pub extern "C" fn relay_register(t: Head, bans: &[u8; BanList::BANS], link: u32) -> Registered
+    ensures { λ r. ⌜ r ≡ registeredOf (registerAnswer (tableWith t (now (bans .entry))) link) ⌝ }
 {
-    table::register(t, link)
+    table::register(t, bans, link)
 }
 
-// The table with a link dropped.
+// The head with a link dropped.
 #[no_mangle]
-pub extern "C" fn relay_unregister(t: Table, link: u32) -> Registered
-    ensures { λ r. ⌜ r ≡ unregisterAnswer t link ⌝ }
+pub extern "C" fn relay_unregister(t: Head, bans: &[u8; BanList::BANS], link: u32) -> Registered
+    ensures { λ r. ⌜ r ≡ registeredOf (unregisterAnswer (tableWith t (now (bans .entry))) link) ⌝ }
 {
-    table::unregister(t, link)
+    table::unregister(t, bans, link)
 }
 
 // Where the channel is that a slot which a name uses holds.
@@ -225,7 +231,7 @@ fn held_at(slot: Slot) -> ChannelFound
 
 // The slot that holds the channel of a name.
 #[no_mangle]
-pub extern "C" fn relay_find(t: Table, name: &[u8]) -> ChannelFound
+pub extern "C" fn relay_find(t: Head, name: &[u8]) -> ChannelFound
     ensures { λ r. ⌜ r ≡ findAnswer (t .slots) (now (name .entry)) ⌝ }
 {
     let found = table::find(t, name);
@@ -233,13 +239,35 @@ pub extern "C" fn relay_find(t: Table, name: &[u8]) -> ChannelFound
     held_at(slot)
 }
 
-// Takes a line that came from a link: the table after, and the line that goes out at the front of the output.
+// Whether a text is banned from the channel of a name.
 #[no_mangle]
-pub extern "C" fn relay_process(t: Table, link: u32, line: &[u8], out: &mut [u8]) -> Taken
-    ensures answer { λ r. ⌜ r ≡ processAnswer t (arrival link (now (line .entry))) (length (now (out .entry))) ⌝ }
-    ensures output { λ _. ⌜ now (out .exit) ≡ front (sent t (arrival link (now (line .entry))) (length (now (out .entry)))) (now (out .entry)) ⌝ }
+pub extern "C" fn relay_is_banned(
+    t: Head,
+    bans: &[u8; BanList::BANS],
+    name: &[u8],
+    text: &[u8],
+) -> Banned
+    ensures { λ r. ⌜ r ≡ bannedAnswer (tableWith t (now (bans .entry))) (now (name .entry)) (now (text .entry)) ⌝ }
 {
-    relay::process(t, link, line, out)
+    table::is_banned(t, bans, name, text)
+}
+
+// Takes a line that came from a link: the head after, the lent lists after, and the line that goes out at the front of the output. The link comes last: behind the
+// answer's place five registers are left, for the lists, the line and the output. Were the link among them, this language would pass the output's length alone on
+// the stack, but C would pass pointer and length there.
+#[no_mangle]
+pub extern "C" fn relay_process(
+    t: Head,
+    bans: &mut [u8; BanList::BANS],
+    line: &[u8],
+    out: &mut [u8],
+    link: u32,
+) -> Taken
+    ensures answer { λ r. ⌜ r ≡ takenOf (processAnswer (tableWith t (now (bans .entry))) (arrival link (now (line .entry))) (length (now (out .entry)))) ⌝ }
+    ensures lists { λ _. ⌜ now (bans .exit) ≡ processAnswer (tableWith t (now (bans .entry))) (arrival link (now (line .entry))) (length (now (out .entry))) .table .bans ⌝ }
+    ensures output { λ _. ⌜ now (out .exit) ≡ front (sent (tableWith t (now (bans .entry))) (arrival link (now (line .entry))) (length (now (out .entry)))) (now (out .entry)) ⌝ }
+{
+    relay::process(t, bans, link, line, out)
 }
 
 // Writes the day-log record of a line to the front of the log.

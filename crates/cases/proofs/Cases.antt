@@ -24,12 +24,16 @@ use Rattle.channel.specs.Key.{isKey}
 use Rattle.channel.specs.Record.{encode, decode}
 use Rattle.channel.specs.WellFormed.{goodTime, goodSettings, goodKey, goodLimit, goodMember, goodMembers, channelTests, inRoom, clear, wellFormed}
 use Rattle.channel.specs.Standing.{counts, settingsAt, standing}
+use Rattle.bans.specs.Masks.{maskCount, usedRooms, masks}
+use Rattle.bans.specs.WellFormed.{wellFormedList}
+use Rattle.bans.specs.Slots.{emptyList}
+use Rattle.bans.specs.Records.{wellFormedWhole}
 use Rattle.merging.specs.Settings.{greater, joinSettings}
-use Rattle.merging.specs.Merging.{merge, mergeRules, mergeAnswer}
+use Rattle.merging.specs.Merging.{merge, mergedMasks, mergedWhole, mergeRules, mergeAnswer}
 use Rattle.cases.specs.Cases.{Case, reads, gets, equals, matches, keys, keyed, holds, cases}
 
 pub cases-hold : all holds cases ≡ true
-unfolding cases holds all sameBy samePrefix sameContent readingOf answer numberFor contentOf contentIn isRead lineRules bodyRules firstOf endsLine bodyOf isPlain startsWith within word spaces prefix prefixEnd commandStart command commandEnd isCommand isLetter isDigit rest params sameName fold matchAnswer matchRules mask.matches afterRun firstThen matchesByte mergeAnswer mergeRules keyed wellFormed inRoom clear channelTests goodTime goodSettings goodKey goodLimit goodMember goodMembers isChannel isNameByte isKey isKeyByte isUserId isServerId isIdByte hasBit ascends encode decode padded withMode merge settingsAt standing counts greater joinSettings compare unite put insert
+unfolding cases holds all sameBy samePrefix sameContent readingOf answer numberFor contentOf contentIn isRead lineRules bodyRules firstOf endsLine bodyOf isPlain startsWith within word spaces prefix prefixEnd commandStart command commandEnd isCommand isLetter isDigit rest params sameName fold matchAnswer matchRules mask.matches afterRun firstThen matchesByte mergeAnswer mergeRules mergedMasks mergedWhole keyed emptyList wellFormedWhole wellFormedList masks usedRooms maskCount wellFormed inRoom clear channelTests goodTime goodSettings goodKey goodLimit goodMember goodMembers isChannel isNameByte isKey isKeyByte isUserId isServerId isIdByte hasBit ascends encode decode padded withMode merge settingsAt standing counts greater joinSettings compare unite put insert
 cases-hold = refl
 
 -- ---- the same cases with wrong answers
@@ -58,5 +62,5 @@ wrong =
     ∷ []
 
 wrong-fail : all (λ c. not (holds c)) wrong ≡ true
-unfolding wrong holds all sameBy samePrefix sameContent readingOf answer numberFor contentOf contentIn isRead lineRules bodyRules firstOf endsLine bodyOf isPlain startsWith within word spaces prefix prefixEnd commandStart command commandEnd isCommand isLetter isDigit rest params sameName fold matchAnswer matchRules mask.matches afterRun firstThen matchesByte mergeAnswer mergeRules keyed wellFormed inRoom clear channelTests goodTime goodSettings goodKey goodLimit goodMember goodMembers isChannel isNameByte isKey isKeyByte isUserId isServerId isIdByte hasBit ascends encode decode padded withMode merge settingsAt standing counts greater joinSettings compare unite put insert
+unfolding wrong holds all sameBy samePrefix sameContent readingOf answer numberFor contentOf contentIn isRead lineRules bodyRules firstOf endsLine bodyOf isPlain startsWith within word spaces prefix prefixEnd commandStart command commandEnd isCommand isLetter isDigit rest params sameName fold matchAnswer matchRules mask.matches afterRun firstThen matchesByte mergeAnswer mergeRules mergedMasks mergedWhole keyed emptyList wellFormedWhole wellFormedList masks usedRooms maskCount wellFormed inRoom clear channelTests goodTime goodSettings goodKey goodLimit goodMember goodMembers isChannel isNameByte isKey isKeyByte isUserId isServerId isIdByte hasBit ascends encode decode padded withMode merge settingsAt standing counts greater joinSettings compare unite put insert
 wrong-fail = refl

@@ -14,10 +14,12 @@ use Rattle.glob.specs.Mask.{star, question, matchAnswer}
 use Rattle.message.specs.Content.{Content}
 use Rattle.message.specs.Reading.{crlf, numberOf, countOf, readingOf, contentOf}
 use Rattle.writer.specs.Form.{sameContent}
-use Rattle.channel.specs.declared.Record.{Record}
 use Rattle.channel.specs.Modes.{keyMode, withMode}
 use Rattle.channel.specs.Channel.{member}
 use Rattle.channel.specs.Record.{encode, decode}
+use Rattle.bans.specs.declared.WholeRecord.{WholeRecord}
+use Rattle.bans.specs.Slots.{emptyList}
+use Rattle.bans.specs.Records.{whole}
 use Rattle.merging.specs.declared.Merged.{Merged}
 use Rattle.merging.specs.Merging.{mergeAnswer}
 
@@ -47,18 +49,21 @@ answers line number count = eqb (numberOf (readingOf line)) number && eqb (count
 abbrev pub matched : Match → Bool → Bool
 matched m expected = eqb (m .number) accepted && Bool·beq (m .yes) expected
 
--- `#a`, time 1, k with a key, member 1ABAAAAAA
-unfoldable pub keyed : List ℕ → Record
-keyed key = encode (record {
-  name = 35 ∷ 97 ∷ [];
-  time = 1;
-  settings = record { modes = withMode 0 keyMode; key = key; limit = 0 };
-  members = member (49 ∷ 65 ∷ 66 ∷ 65 ∷ 65 ∷ 65 ∷ 65 ∷ 65 ∷ 65 ∷ []) 0 ∷ [];
-})
+-- `#a`, time 1, k with a key, member 1ABAAAAAA, no bans
+unfoldable pub keyed : List ℕ → WholeRecord
+keyed key =
+    whole
+    (encode (record {
+      name = 35 ∷ 97 ∷ [];
+      time = 1;
+      settings = record { modes = withMode 0 keyMode; key = key; limit = 0 };
+      members = member (49 ∷ 65 ∷ 66 ∷ 65 ∷ 65 ∷ 65 ∷ 65 ∷ 65 ∷ 65 ∷ []) 0 ∷ [];
+    }))
+    emptyList
 
 -- a merge that isn't refused, and the key of its record
 abbrev pub merged : Merged → List ℕ → Bool
-merged m key = eqb (m .number) accepted && same (decode (m .result) .settings .key) key
+merged m key = eqb (m .number) accepted && same (decode (m .result .«record») .settings .key) key
 
 unfoldable pub holds : Case → Bool
 holds (reads text c) = answers (lineOf text) accepted (length (c .params)) && sameContent (contentOf (lineOf text)) c

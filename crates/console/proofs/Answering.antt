@@ -5,7 +5,7 @@ use mathlib.Core.Bool.{Bool, true, false, cond}
 use mathlib.Core.List.{List, [], _∷_, _++_, map}
 use native.Mathlib.Numerals.{add-one}
 use native.Mathlib.Omega.{arith}
-use lib.ListN.{length, take, drop, length-append, length-drop, length-take}
+use lib.ListN.{length, take, drop, getD, length-append, length-drop, length-take, drop-of-length-le}
 use lib.Seq.{take-append-seam}
 use borrow.Author.Tests.{ne-eqb, eqb-false, ltb-true}
 use Rattle.refusal.specs.Rules.{emitted}
@@ -17,7 +17,7 @@ use Rattle.octets.specs.Decimals.{digitsOf}
 use Rattle.octets.specs.Room.{part, putAt, endOf, front}
 use Rattle.octets.specs.Private.Additions.{Adds}
 use Rattle.octets.proofs.Digits.{digits-ten, digits-within}
-use Rattle.laws.proofs.Lists.{nil-length}
+use Rattle.laws.proofs.Lists.{nil-length, drop-step}
 use Rattle.octets.proofs.Room.{part-front, end-fits, put-behind, holds-nothing}
 use Rattle.links.specs.Links.{linkCount, isLink, linksFrom, linksIn}
 use Rattle.message.specs.Grammar.{lineLimit}
@@ -106,6 +106,17 @@ prefixed-links-step set k h =
 pub prefixed-links-past : (set k : ℕ) → linkCount ≤ k → prefixedLinks set k ≡ []
 unfolding linksFrom prefixed
 prefixed-links-past set k h = let n : linkCount - k ≡ 0 = omega arith in rw n
+
+-- ---- texts, one by one
+-- the one at a place comes first of those from there on, a mark before each
+pub prefixed-step : (mark : ℕ) (l : List (List ℕ)) (i : ℕ) → i < length l → prefixed mark (drop i l) ≡ (mark ∷ getD l i []) ++ prefixed mark (drop (i + 1) l)
+unfolding prefixed
+prefixed-step mark l i h = rw (drop-step l i [] h)
+
+-- past the last there is none
+pub prefixed-past : (mark : ℕ) (l : List (List ℕ)) (i : ℕ) → length l ≤ i → prefixed mark (drop i l) ≡ []
+unfolding prefixed
+prefixed-past mark l i h = rw (drop-of-length-le l {i = i} h)
 
 -- ---- the links of a set
 pub set-none : (set : ℕ) → length (linksIn set) ≡ 0 → comma ∷ linksText set ≡ comma ∷ noLink

@@ -1,5 +1,5 @@
 -- Laws of requests: what each test of an input line says of what it asks for. Assumes nothing.
-use Prim.Native.Nat.{ℕ, zero, suc, _+_, _-_, _≤_}
+use Prim.Native.Nat.{ℕ, zero, suc, _+_, _-_, _≤_, _<_}
 use mathlib.Core.Path.{_≡_, refl, sym, ap, _∙_}
 use mathlib.Core.Bool.{Bool, true, false, cond}
 use mathlib.Core.Logic.{_⊎_, inl, inr}
@@ -8,23 +8,27 @@ use native.Mathlib.Nat.{zero-add}
 use native.Mathlib.Omega.{arith}
 use lib.ListN.{length, take, drop, getD, length-drop}
 use lib.Dec.{eqb}
-use borrow.Author.Tests.{eq-eqb, ne-eqb, lt-ltb, le-ltb, eqb-true}
+use borrow.Author.Tests.{eq-eqb, ne-eqb, lt-ltb, le-ltb, le-leb, lt-leb, eqb-true}
 use Rattle.octets.specs.declared.Decimal.{Decimal}
 use Rattle.octets.specs.declared.Decimal.the-variants.{Value, Malformed}
 use Rattle.octets.specs.Bytes.{lf, cr, space, isDigit, within}
 use Rattle.laws.specs.Lists.{isNil, all}
 use Rattle.octets.specs.Decimals.{isDecimal, decimalUpTo}
 use Rattle.octets.specs.Room.{part}
+use Rattle.octets.specs.Order.{compare}
+use Rattle.octets.specs.Search.{before}
+use Rattle.octets.specs.declared.Order.{Order}
 use Rattle.laws.proofs.Lists.{nil-length}
 use Rattle.octets.proofs.Room.{part-front, part-back}
+use Rattle.octets.proofs.Search.{before-within}
 use Rattle.message.specs.declared.Span.{Span}
 use Rattle.message.specs.Grammar.{word, spaces}
 use Rattle.message.specs.Words.{nextWord}
 use Rattle.message.proofs.Runs.{word-front, word-in, start-in}
 use Rattle.message.proofs.Splits.{next-found}
 use Rattle.console.specs.declared.requests.Request.{Request}
-use Rattle.console.specs.declared.requests.Request.the-variants.{Register, Unregister, Take, Channels, Unknown}
-use Rattle.console.specs.Requests.{plus, minus, question, ended, linkIn, numbered, takingIn, requestIn}
+use Rattle.console.specs.declared.requests.Request.the-variants.{Register, Unregister, Take, Banned, Channels, Unknown}
+use Rattle.console.specs.Requests.{plus, minus, question, ended, linkIn, numbered, takingIn, bannedWord, bannedLength, nameRoom, questionIn, questioned, wordedIn, requestIn}
 
 -- ---- the end of a line passed over
 module _ (s : List ℕ) where
@@ -148,6 +152,34 @@ module _ (s : List ℕ) (w : Span) (is : w ≡ nextWord s 0) where
             rw (lt-ltb (length (word s)) (length s) (omega (arith, word-in s, behind)), sym (ap linkIn text) ∙ e)
         go (inr f) = f .0
 
+-- ---- a question
+module _ (s behind : List ℕ) (n : ℕ) (is : behind ≡ part s bannedLength (length s)) (counts : n ≡ length (before space behind)) where
+  rest-behind : behind ≡ drop bannedLength s
+  rest-behind = is ∙ part-back s bannedLength (length s) (omega arith)
+
+  -- no SPACE follows the name
+  pub question-open : n ≡ length behind → Unknown ≡ questionIn s
+  unfolding questionIn
+  question-open e = rw (← rest-behind, ← counts, le-ltb n (length behind) (omega arith))
+
+  module _ (more : n ≡ length behind → ⊥) where
+    inside : n < length behind
+    inside = omega (arith, before-within space behind, counts, more)
+
+    -- one does, and the name is too long, or isn't
+    pub question-long : nameRoom < n → Unknown ≡ questionIn s
+    unfolding questionIn
+    question-long h = rw (← rest-behind, ← counts, lt-ltb n (length behind) inside, lt-leb n nameRoom h)
+
+    pub question-asks : n ≤ nameRoom → Banned (bannedLength + n) (bannedLength + n + 1) ≡ questionIn s
+    unfolding questionIn
+    question-asks h = rw (← rest-behind, ← counts, lt-ltb n (length behind) inside, le-leb n nameRoom h)
+
+-- the first word decides whether it is one
+pub worded-asks : (s p : List ℕ) → p ≡ part s 0 bannedLength → (o : Order) → o ≡ compare p bannedWord → questioned o (questionIn s) (takingIn s) ≡ wordedIn s
+unfolding wordedIn
+worded-asks s p is o e = rw (e, is, part-front s bannedLength)
+
 -- ---- by the first byte
 rest-is : (b : ℕ) (s : List ℕ) → part (b ∷ s) 1 (length (b ∷ s)) ≡ s
 rest-is b s = part-back (b ∷ s) 1 (length (b ∷ s)) (omega arith)
@@ -164,7 +196,7 @@ request-is : (s : List ℕ) → (length s ≡ 0 → ⊥)
     → requestIn s
     ≡ cond (eqb (getD s 0 0) plus) (numbered Register (linkIn (rest s)))
     (cond (eqb (getD s 0 0) minus) (numbered Unregister (linkIn (rest s)))
-    (cond (eqb (getD s 0 0) question) (cond (isNil (rest s)) Channels Unknown) (takingIn s)))
+    (cond (eqb (getD s 0 0) question) (cond (isNil (rest s)) Channels Unknown) (wordedIn s)))
 unfolding requestIn
 request-is [] some = absurd (some refl)
 request-is (b ∷ s) some = rw (rest-is b s)
@@ -182,5 +214,5 @@ module _ (s : List ℕ) (some : length s ≡ 0 → ⊥) where
       pub asks-channels : getD s 0 0 ≡ question → cond (isNil (rest s)) Channels Unknown ≡ requestIn s
       asks-channels e = rw (request-is s some, e)
 
-      pub asks-line : (getD s 0 0 ≡ question → ⊥) → takingIn s ≡ requestIn s
-      asks-line not-asking = rw (request-is s some, ne-eqb (getD s 0 0) plus not-plus, ne-eqb (getD s 0 0) minus not-minus, ne-eqb (getD s 0 0) question not-asking)
+      pub asks-worded : (getD s 0 0 ≡ question → ⊥) → wordedIn s ≡ requestIn s
+      asks-worded not-asking = rw (request-is s some, ne-eqb (getD s 0 0) plus not-plus, ne-eqb (getD s 0 0) minus not-minus, ne-eqb (getD s 0 0) question not-asking)

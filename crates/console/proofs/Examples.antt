@@ -1,29 +1,35 @@
--- Requests and answers as computed from their definitions, and an instance that meets the premise of `kept-line`. Assumes nothing.
+-- Requests and answers as computed from their definitions, and instances that meet the premises of `kept-line` and `kept-question`. Assumes nothing.
 use Prim.Native.Nat.{ℕ}
 use mathlib.Core.Path.{_≡_, refl}
 use mathlib.Core.Bool.{true, false}
 use mathlib.Core.List.{List, [], _∷_, map}
 use Rattle.octets.specs.Bytes.{cr, lf, space, isDigit, within}
 use Rattle.octets.specs.Order.{compare}
+use Rattle.octets.specs.Room.{part}
+use Rattle.octets.specs.Search.{before}
 use Rattle.laws.specs.Bits.{hasBit}
 use Rattle.laws.specs.Lists.{all, startsWith, prefixed, separated}
 use Rattle.octets.specs.Decimals.{leadsWithZero, isDecimal, valueFrom, valueUpTo, decimalUpTo, digitsUpTo, digitsOf}
 use Rattle.links.specs.Links.{linksFrom}
 use Rattle.message.specs.Grammar.{word}
+use Rattle.table.specs.Network.{Table}
+use Rattle.table.specs.Banned.{bannedAnswer}
 use Rattle.wording.specs.Wording.{bytesOf, table, wordsIn}
-use Rattle.console.specs.declared.requests.Request.the-variants.{Register, Unregister, Take, Channels, Unknown, Help, Nothing}
+use Rattle.console.specs.declared.requests.Request.the-variants.{Register, Unregister, Take, Banned, Channels, Unknown, Help, Nothing}
 use Rattle.console.specs.Lines.{kept, firstLine}
-use Rattle.console.specs.Requests.{plus, minus, question, ended, takingIn, requestIn, lineFrom}
+use Rattle.console.specs.Requests.{plus, minus, question, ended, takingIn, questionIn, wordedIn, requestIn, lineFrom, nameIn, textIn}
 use Rattle.console.specs.Answers.{spaced, numberedText, linksText, relayedText}
 use Rattle.console.specs.Typing.{typed, typedIn}
 use Rattle.console.proofs.Keeping.{kept-line}
+use Rattle.console.proofs.Questioned.{kept-question}
 
 -- ---- requests
 -- `31 X`, with CR LF
 line : List ℕ
 line = 51 ∷ 49 ∷ space ∷ 88 ∷ cr ∷ lf ∷ []
 
--- `+31`; `+31` with CR LF; `+01`; `-0` unfinished; `-1` with CR and no LF; `?` with CR LF; `??`; `31 X`; ` 31`; `31`; nothing but LF
+-- `+31`; `+31` with CR LF; `+01`; `-0` unfinished; `-1` with CR and no LF; `?` with CR LF; `??`; `31 X`; ` 31`; `31`; nothing but LF; questions with a text and
+-- without, one about no name, and one without its second SPACE
 asked : map requestIn (
     (plus ∷ 51 ∷ 49 ∷ lf ∷ [])
     ∷ (plus ∷ 51 ∷ 49 ∷ cr ∷ lf ∷ [])
@@ -36,9 +42,13 @@ asked : map requestIn (
     ∷ (space ∷ 51 ∷ 49 ∷ lf ∷ [])
     ∷ (51 ∷ 49 ∷ lf ∷ [])
     ∷ (lf ∷ [])
+    ∷ bytesOf "banned #a x y\n"
+    ∷ bytesOf "banned #a \n"
+    ∷ bytesOf "banned  x\n"
+    ∷ bytesOf "banned #a\n"
     ∷ [])
-    ≡ Register 31 ∷ Register 31 ∷ Unknown ∷ Unregister 0 ∷ Unknown ∷ Channels ∷ Unknown ∷ Take 31 3 ∷ Unknown ∷ Unknown ∷ Unknown ∷ []
-unfolding line requestIn ended takingIn word decimalUpTo isDecimal all isDigit within leadsWithZero startsWith valueUpTo valueFrom
+    ≡ Register 31 ∷ Register 31 ∷ Unknown ∷ Unregister 0 ∷ Unknown ∷ Channels ∷ Unknown ∷ Take 31 3 ∷ Unknown ∷ Unknown ∷ Unknown ∷ Banned 9 10 ∷ Banned 9 10 ∷ Banned 7 8 ∷ Unknown ∷ []
+unfolding line requestIn wordedIn compare questionIn before ended takingIn word decimalUpTo isDecimal all isDigit within leadsWithZero startsWith valueUpTo valueFrom bytesOf
 asked = refl
 
 -- the link's line is what stands behind the SPACE, in what is kept too
@@ -47,8 +57,18 @@ unfolding line lineFrom
 taken = refl
 
 still : lineFrom 3 (kept line) ≡ lineFrom 3 line
-unfolding line requestIn ended takingIn word decimalUpTo isDecimal all isDigit within leadsWithZero startsWith valueUpTo valueFrom
+unfolding line requestIn wordedIn compare ended takingIn word decimalUpTo isDecimal all isDigit within leadsWithZero startsWith valueUpTo valueFrom
 still = kept-line line 31 3 refl
+
+-- the name and the text of a question
+about : (nameIn 9 (bytesOf "banned #a x y\r\n") ≡ bytesOf "#a") × (textIn 10 (bytesOf "banned #a x y\r\n") ≡ bytesOf "x y")
+unfolding nameIn textIn part ended bytesOf
+about = (refl, refl)
+
+-- and what is kept of it gets the answer that it gets
+answered : (t : Table) → bannedAnswer t (nameIn 9 (kept (bytesOf "banned #a x\n"))) (textIn 10 (kept (bytesOf "banned #a x\n"))) ≡ bannedAnswer t (nameIn 9 (bytesOf "banned #a x\n")) (textIn 10 (bytesOf "banned #a x\n"))
+unfolding requestIn wordedIn compare questionIn before bytesOf
+answered t = kept-question t (bytesOf "banned #a x\n") 9 10 refl
 
 -- ---- lines: the first ends with its LF
 first : firstLine (65 ∷ lf ∷ 66 ∷ lf ∷ []) ≡ 65 ∷ lf ∷ []

@@ -2,6 +2,7 @@
 mod Splitting
 mod Asking
 mod Keeping
+mod Questioned
 mod Answering
 mod Examples
 mod Typing

@@ -12,7 +12,7 @@ abbrev pub recordRoom : ℕ
 recordRoom = 517
 
 abbrev pub typedRoom : ℕ
-typedRoom = 525
+typedRoom = 575
 
 -- The buffer begins with w, and n is where w ends.
 pub record AtFront (out : List ℕ) (n : ℕ) (w : List ℕ) : Type 0 where

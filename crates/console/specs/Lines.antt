@@ -7,9 +7,9 @@ use lib.Dec.{eqb}
 use Rattle.octets.specs.Bytes.{lf}
 use Rattle.console.specs.declared.lines.Pending.{Pending}
 
--- the most bytes that are kept of an input line: a number of nine digits, a SPACE, and 513 bytes
+-- the most bytes that are kept of an input line: `banned`, a SPACE, 50 bytes, a SPACE, 513 bytes, and CR LF
 abbrev pub inputLimit : ℕ
-inputLimit = 523
+inputLimit = 573
 
 abbrev pub kept : List ℕ → List ℕ
 kept s = take inputLimit s

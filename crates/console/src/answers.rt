@@ -21,6 +21,8 @@ use links::has_link;
 use octets::decimals::put_decimal;
 use octets::part;
 use octets::put;
+use refusal::ACCEPTED;
+use table::Banned;
 use wording::words;
 
 // Room for any answer, and for any channel of the table.
@@ -74,10 +76,21 @@ pub(crate) fn say_refused(number: u8, worded: bool) -> bool {
     say_numbered(b'!', number, worded)
 }
 
+// The answer to a question whether a text is banned.
+pub(crate) fn say_banned(answer: Banned, worded: bool) -> bool {
+    if answer.number != ACCEPTED {
+        return say_refused(answer.number, worded);
+    }
+    if answer.yes {
+        return print(b"yes\n");
+    }
+    print(b"no\n")
+}
+
 // The answer to `help`.
 pub(crate) fn say_help() -> bool {
     print(
-        b"+N        registers link N\n-N        drops link N\nN LINE    takes LINE from link N\n?         prints the table\nhelp      prints this\nCtrl-D    ends the program\n",
+        b"+N        registers link N\n-N        drops link N\nN LINE    takes LINE from link N\n?         prints the table\nbanned NAME TEXT\n          says whether TEXT is banned from channel NAME\nhelp      prints this\nCtrl-D    ends the program\n",
     )
 }
 
@@ -130,10 +143,13 @@ fn put_relayed(set: u32, line: &[u8], out: &mut [u8]) -> usize
     put(out, spaced, line)
 }
 
-// The answer to a line that is accepted.
+// The answer to a line that is accepted. One of which nothing goes out has no link, and no line.
 pub(crate) fn say_relayed(set: u32, line: &[u8]) -> bool
     requires { ⌜ length (now line) ≤ lineLimit ⌝ }
 {
+    if line.len() == 0 {
+        return print(b"-\n");
+    }
     let mut text = [0u8; ROOM];
     let n = put_relayed(set, line, &mut text);
     print(part(&text, 1, n))

@@ -10,8 +10,9 @@ use octets::part;
 use octets::place_of;
 use octets::put;
 
-// The most bytes that are kept of an input line: a number of nine digits, a SPACE, and of the line behind them one byte more than the relay takes.
-pub(crate) const INPUT_LIMIT: usize = 523;
+// The most bytes that are kept of an input line. A number of nine digits, a SPACE, and of the line behind them one byte more than the relay takes are 523; a
+// question needs more: `banned`, a SPACE, a name of 50 bytes, a SPACE, a text of one byte more than is matched, and CR LF.
+pub(crate) const INPUT_LIMIT: usize = 573;
 
 // The line under way: what is kept of its bytes so far.
 pub(crate) struct Pending {

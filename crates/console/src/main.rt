@@ -1,5 +1,6 @@
 // The relay on standard input and output, for a person at a terminal, a script, or socat. Input, a line each: `+N` registers link N, `-N` drops it, `N `
-// and the bytes up to and including LF are a line from link N, and `?` asks for the table. Each gets its answer before the next one is looked at.
+// and the bytes up to and including LF are a line from link N, `?` asks for the table, and `banned NAME TEXT` whether a text is banned from a channel. Each gets
+// its answer before the next one is looked at.
 // With an argument, the day-log record of each accepted line is appended to the file of that name before the line is answered. What makes the program stop
 // is said on standard error in a line that begins with 'relay: ', by which bin/relay knows, since a program of this language has no exit status.
 mod answers;
@@ -8,11 +9,13 @@ mod lines;
 mod listing;
 mod requests;
 
+use answers::say_banned;
 use answers::say_done;
 use answers::say_help;
 use answers::say_input;
 use answers::say_refused;
 use answers::say_relayed;
+use bans::BanList;
 use daylog::Journal;
 use daylog::keep;
 use daylog::open_journal;
@@ -29,19 +32,23 @@ use refusal::ACCEPTED;
 use relay::process;
 use requests::Request;
 use requests::line_from;
+use requests::name_in;
 use requests::put_typed;
 use requests::request_in;
+use requests::text_in;
 use requests::typed_request;
-use table::Table;
+use table::Head;
+use table::is_banned;
 use table::register;
 use table::unregister;
 
 // Room for a line that was typed.
-const TYPED: usize = 525;
+const TYPED: usize = 575;
 
-// What is kept from one read to the next: the table, the line under way, the journal, whether the input is typed, and whether the program goes on.
+// What is kept from one read to the next, the ban lists apart, which are lent: the table's head, the line under way, the journal, whether the input is typed,
+// and whether the program goes on.
 struct Session {
-    table: Table,
+    head: Head,
     pending: Pending,
     journal: Journal,
     typed: bool,
@@ -57,9 +64,9 @@ fn went(written: bool) -> bool {
 }
 
 // A line came from a link. An accepted one is in the journal before it is answered, or the program stops.
-fn take(mut s: Session, link: u32, line: &[u8]) -> Session {
+fn take(mut s: Session, bans: &mut [u8; BanList::BANS], link: u32, line: &[u8]) -> Session {
     let mut out = [0u8; LINE_LIMIT];
-    let taken = process(s.table, link, line, &mut out);
+    let taken = process(s.head, bans, link, line, &mut out);
     if taken.number != ACCEPTED {
         s.more = went(say_refused(taken.number, s.typed));
         return s;
@@ -68,29 +75,38 @@ fn take(mut s: Session, link: u32, line: &[u8]) -> Session {
         s.more = false;
         return s;
     }
-    let table = taken.table;
-    s.table = table;
+    let head = taken.head;
+    s.head = head;
     s.more = went(say_relayed(taken.set, part(&out, 0, taken.len)));
     s
 }
 
 // Answers an input line: a whole one, or the last one, which is taken as it is.
-fn respond(mut s: Session, request: Request, input: &[u8]) -> Session {
+fn respond(
+    mut s: Session,
+    bans: &mut [u8; BanList::BANS],
+    request: Request,
+    input: &[u8],
+) -> Session {
     match request {
         Request::Register(link) => {
-            let r = register(s.table, link);
-            let table = r.table;
-            s.table = table;
+            let r = register(s.head, bans, link);
+            let head = r.head;
+            s.head = head;
             s.more = went(say_done(r.number, s.typed));
         }
         Request::Unregister(link) => {
-            let r = unregister(s.table, link);
-            let table = r.table;
-            s.table = table;
+            let r = unregister(s.head, bans, link);
+            let head = r.head;
+            s.head = head;
             s.more = went(say_done(r.number, s.typed));
         }
-        Request::Take(link, start) => return take(s, link, line_from(input, start)),
-        Request::Channels => s.more = went(say_channels(s.table)),
+        Request::Take(link, start) => return take(s, bans, link, line_from(input, start)),
+        Request::Banned(end, start) => {
+            let answer = is_banned(s.head, bans, name_in(input, end), text_in(input, start));
+            s.more = went(say_banned(answer, s.typed));
+        }
+        Request::Channels => s.more = went(say_channels(s.head, bans)),
         Request::Unknown => s.more = went(say_input()),
         Request::Help => s.more = went(say_help()),
         Request::Nothing => return s,
@@ -99,61 +115,61 @@ fn respond(mut s: Session, request: Request, input: &[u8]) -> Session {
 }
 
 // Answers a line that was typed, whose CR may be missing.
-fn respond_typed(s: Session, line: Pending) -> Session {
+fn respond_typed(s: Session, bans: &mut [u8; BanList::BANS], line: Pending) -> Session {
     let mut text = [0u8; TYPED];
     let n = put_typed(line, &mut text);
     let taken = part(&text, 0, n);
-    respond(s, typed_request(taken), taken)
+    respond(s, bans, typed_request(taken), taken)
 }
 
 // The line under way is at its end: it is answered, and the next one begins.
-fn finish(mut s: Session) -> Session {
+fn finish(mut s: Session, bans: &mut [u8; BanList::BANS]) -> Session {
     let line = s.pending;
     let bytes = line.bytes;
     let none = Pending::empty();
     s.pending = none;
     if s.typed {
-        return respond_typed(s, line);
+        return respond_typed(s, bans, line);
     }
     let input = part(&bytes, 0, line.len);
-    respond(s, request_in(input), input)
+    respond(s, bans, request_in(input), input)
 }
 
 // Bytes of the line under way, up to its LF or the end of what was read.
-fn take_part(mut s: Session, bytes: &[u8]) -> Session {
+fn take_part(mut s: Session, bans: &mut [u8; BanList::BANS], bytes: &[u8]) -> Session {
     let line = extended(s.pending, bytes);
     s.pending = line;
     if ends_in_lf(bytes) {
-        return finish(s);
+        return finish(s, bans);
     }
     s
 }
 
 // A piece of the input, which may begin and end anywhere in a line.
-fn take_piece(start: Session, piece: &[u8]) -> Session {
+fn take_piece(start: Session, bans: &mut [u8; BanList::BANS], piece: &[u8]) -> Session {
     let mut s = start;
     let mut at = 0;
     while at < piece.len() && s.more {
         let end = line_end(piece, at);
-        s = take_part(s, part(piece, at, end));
+        s = take_part(s, bans, part(piece, at, end));
         at = end;
     }
     s
 }
 
 // The input is at its end. A line that is under way is taken as it is.
-fn close(start: Session) -> Session {
+fn close(start: Session, bans: &mut [u8; BanList::BANS]) -> Session {
     let mut s = start;
     let line = s.pending;
     if line.len != 0 {
-        s = finish(s);
+        s = finish(s, bans);
     }
     s.more = false;
     s
 }
 
 // One read. Where it fails the program stops: what is under way isn't the last line, but a torn one.
-fn step(mut s: Session) -> Session {
+fn step(mut s: Session, bans: &mut [u8; BanList::BANS]) -> Session {
     let mut piece = [0u8; 4096];
     let got = libc::read(STDIN_FILENO, &mut piece);
     if got < 0 {
@@ -162,10 +178,10 @@ fn step(mut s: Session) -> Session {
         return s;
     }
     if got == 0 {
-        return close(s);
+        return close(s, bans);
     }
     let n = io::count(got, &piece);
-    take_piece(s, &piece[..n])
+    take_piece(s, bans, &piece[..n])
 }
 
 // Whether the input is typed, at a terminal. If so, whoever types is told how to begin.
@@ -181,8 +197,9 @@ fn is_typed() -> bool {
 fn main() {
     let journal = open_journal();
     let typed = is_typed();
+    let mut bans = [0u8; BanList::BANS];
     let mut s = Session {
-        table: Table::empty(),
+        head: Head::empty(&mut bans),
         pending: Pending::empty(),
         journal,
         typed,
@@ -190,7 +207,7 @@ fn main() {
     };
     let mut turns = u64::MAX;
     while turns > 0 && s.more {
-        s = step(s);
+        s = step(s, &mut bans);
         turns -= 1;
     }
 }

@@ -4,7 +4,7 @@ ghost use mathlib.Core.Bool.{cond};
 ghost use lib.ListN.{length};
 ghost use Rattle.laws.specs.Lists.{isNil};
 ghost use Rattle.console.specs.declared.requests.Request.the-variants.{Register, Unregister, Channels, Unknown};
-ghost use Rattle.console.specs.Requests.{ended as endedOf, linkIn, numbered, takingIn, requestIn, lineFrom};
+ghost use Rattle.console.specs.Requests.{ended as endedOf, linkIn, numbered, takingIn, questionIn, wordedIn, requestIn, lineFrom, nameIn, textIn};
 ghost use Rattle.console.specs.Typing.{typed, typedIn};
 ghost use Rattle.console.specs.Lines.{heldIn};
 ghost use Rattle.console.specs.Buffers.{typedRoom, AtFront};
@@ -16,6 +16,7 @@ use octets::Order;
 use octets::compare;
 use octets::decimals::decimal;
 use octets::part;
+use octets::place_of;
 use octets::put;
 
 // The largest number that nine digits write.
@@ -24,12 +25,19 @@ const LINK_LIMIT: u32 = 999999999;
 // The most bytes that are taken of a link's line: one more than the relay takes.
 const TAKEN: usize = 513;
 
-// What is asked, and of which link. The line that came from a link stands in the input line, from a place on. Only a line that was typed asks for help, or
-// for nothing.
+// The bytes before the name that is asked about: `banned` and a SPACE.
+const ASKING: usize = 7;
+
+// The most bytes of a name that is asked about. It is far more than a name has, and less than is kept of an input line.
+const NAME_ROOM: usize = 512;
+
+// What is asked, and of which link. The line that came from a link stands in the input line, from a place on; of a question, the name ends at the first
+// place, and the text begins at the second. Only a line that was typed asks for help, or for nothing.
 pub(crate) enum Request {
     Register(u32),
     Unregister(u32),
     Take(u32, usize),
+    Banned(usize, usize),
     Channels,
     Unknown,
     Help,
@@ -101,6 +109,32 @@ fn taking(input: &[u8]) -> Request
     }
 }
 
+// Behind `banned` and a SPACE, a name, a SPACE, and a text.
+fn asking(input: &[u8]) -> Request
+    ensures { λ r. ⌜ r ≡ questionIn (now (input .entry)) ⌝ }
+{
+    let behind = part(input, ASKING, input.len());
+    let n = place_of(behind, b' ');
+    if n == behind.len() {
+        return Request::Unknown;
+    }
+    if NAME_ROOM < n {
+        return Request::Unknown;
+    }
+    Request::Banned(ASKING + n, ASKING + n + 1)
+}
+
+// A question about a ban, or a link's line.
+fn worded(input: &[u8]) -> Request
+    ensures { λ r. ⌜ r ≡ wordedIn (now (input .entry)) ⌝ }
+{
+    match compare(part(input, 0, ASKING), b"banned ") {
+        Order::Same => asking(input),
+        Order::Less => taking(input),
+        Order::More => taking(input),
+    }
+}
+
 // What the input line asks for.
 pub(crate) fn request_in(input: &[u8]) -> Request
     ensures { λ r. ⌜ r ≡ requestIn (now (input .entry)) ⌝ }
@@ -119,7 +153,7 @@ pub(crate) fn request_in(input: &[u8]) -> Request
     if first == b'?' {
         return listing(ended(part(input, 1, n)));
     }
-    taking(input)
+    worded(input)
 }
 
 // The line that came from a link, which stands in the input line from a place on: of a longer one the first bytes, which are one more than the relay takes.
@@ -127,6 +161,20 @@ pub(crate) fn line_from(input: &[u8], start: usize) -> &[u8]
     ensures { λ r. ⌜ now r ≡ lineFrom start (now (input .entry)) ⌝ }
 {
     part(part(input, start, input.len()), 0, TAKEN)
+}
+
+// The name that is asked about, which ends at a place.
+pub(crate) fn name_in(input: &[u8], end: usize) -> &[u8]
+    ensures { λ r. ⌜ now r ≡ nameIn end (now (input .entry)) ⌝ }
+{
+    part(input, ASKING, end)
+}
+
+// The text that is asked about, which begins at a place, without the end of the line.
+pub(crate) fn text_in(input: &[u8], start: usize) -> &[u8]
+    ensures { λ r. ⌜ now r ≡ textIn start (now (input .entry)) ⌝ }
+{
+    ended(part(input, start, input.len()))
 }
 
 // A line as it is taken that was typed: with CR LF, where it ends with LF.

@@ -6,7 +6,7 @@ use lib.ListN.{length}
 use Rattle.refusal.specs.Numbers.{accepted}
 use Rattle.refusal.proofs.Rules.{first-listed}
 use Rattle.octets.specs.Room.{front}
-use Rattle.table.specs.declared.Table.{Table}
+use Rattle.table.specs.Network.{Table}
 use Rattle.relay.specs.Arrival.{Arrival}
 use Rattle.relay.specs.Relay.{processRules, refused, processAnswer, sent}
 use Rattle.relay.proofs.Taking.{rules-ascend}

@@ -1,12 +1,12 @@
 -- Our taking and our merging meet demand 3: good lines merged in their order come to their plain record, which doesn't depend on their order or on repeats, and
 -- merging two plain records gives that of all the lines. Assumes nothing.
 use Prim.Native.Nat.{ℕ, _≤_}
-use mathlib.Core.Path.{_≡_, refl, sym, ap, _∙_}
+use mathlib.Core.Path.{_≡_, refl, sym, ap, ap₂, _∙_}
 use mathlib.Core.Bool.{Bool, true, false, cond}
 use mathlib.Core.Logic.{_⊎_, inl, inr}
 use mathlib.Core.List.{List, [], _∷_, _++_, map, map-append, List·Memᴰ, List·Memᴰ·head, List·Memᴰ·tail, List·Memᴰ·not-nil, List·Memᴰ·append-cases, Memᴰ·append-left, Memᴰ·append-right}
 use native.Mathlib.Omega.{arith}
-use lib.ListN.{length}
+use lib.ListN.{length, getD, set}
 use borrow.Author.Tests.{eqb-true}
 use Rattle.refusal.specs.Numbers.{accepted}
 use Rattle.laws.specs.Lists.{padded}
@@ -15,19 +15,22 @@ use Rattle.laws.proofs.Joins.{within-map}
 use Rattle.names.specs.Fold.{fold, sameName}
 use Rattle.names.specs.Names.{nameLimit}
 use Rattle.names.proofs.Folds.{folds-name, length-folds}
-use Rattle.channel.specs.declared.Record.{Record}
 use Rattle.channel.specs.Limits.{memberLimit}
 use Rattle.channel.specs.Channel.{Channel}
 use Rattle.channel.specs.Record.{encode, emptyRecord}
 use Rattle.channel.proofs.Proper.{Proper}
+use Rattle.bans.specs.declared.WholeRecord.{WholeRecord}
+use Rattle.bans.specs.Slots.{emptyList}
+use Rattle.bans.specs.Records.{whole}
+use Rattle.bans.proofs.Slots.{lists-empty}
 use Rattle.merging.specs.declared.Merged.{Merged}
 use Rattle.merging.specs.Merging.{merge, mergeAnswer}
 use Rattle.merging.specs.Plain.{everyone, plain}
 use Rattle.merging.proofs.Plains.{length-everyone, everyone-same, plain-name, length-plain, merge-plain, spelled, plain-same}
 use Rattle.merging.proofs.Merges.{folded, folded-plain}
 use Rattle.merging.proofs.Answers.{answer-encoded}
-use Rattle.table.specs.declared.Table.{Table}
-use Rattle.convergence.specs.Demands.{Join, Empty, numberAt, isGood, goodLines, tableAfter, channelOf, Kept, plainRecord, holding, firstSlot, Among, Alike, Demand3}
+use Rattle.table.specs.Network.{Table, Network, networkOf, listIn}
+use Rattle.convergence.specs.Demands.{Join, Empty, numberAt, isGood, goodLines, tableAfter, channelOf, Kept, plainRecord, plainWhole, holding, firstSlot, Among, Alike, Demand3}
 use Rattle.convergence.specs.Ours.{ours, ourMerging}
 use Rattle.convergence.proofs.Folding.{good, after, Sound, line-is, walked}
 
@@ -59,24 +62,28 @@ holds-plain start [] p = refl
 holds-plain start (l ∷ s) p = rw (folds-plain l s p)
 
 -- ---- the first slot
-first-plain : (start : Table) (lines : List (List ℕ)) → Empty start → firstSlot (holding start lines) ≡ plainRecord lines
+first-empty : (start : Table) → Empty start → listIn (networkOf start) 0 ≡ emptyList
+first-empty start empty = ap (λ (n : Network). listIn n 0) empty ∙ ap (λ (s : List ℕ). record { room = s }) (lists-empty 0 (omega arith))
+
+-- where the plain record is held, the first slot has it
+pub first-plain : (start : Table) (lines : List (List ℕ)) → Empty start → firstSlot (holding start lines) ≡ plainWhole lines
 unfolding holding plainRecord
-first-plain start [] empty = rw empty
-first-plain start (l ∷ s) empty = rw empty
+first-plain start [] empty = ap₂ whole (ap (λ (n : Network). getD (n .slots) 0 emptyRecord) empty) (first-empty start empty)
+first-plain start (l ∷ s) empty = ap₂ whole (ap (λ (n : Network). getD (set (n .slots) 0 (encode (plain (channelOf l) (map channelOf s)))) 0 emptyRecord) empty) (first-empty start empty)
 
 module _ (start : Table) (empty : Empty start) (js : List Join) (kept : Kept (goodLines start js)) where
   leaves : tableAfter ours start js ≡ holding start (goodLines start js)
   leaves = walked start empty js kept .1 ∙ holds-plain start (goodLines start js) (good-proper start empty js)
 
-  first-after : firstSlot (tableAfter ours start js) ≡ plainRecord (goodLines start js)
+  first-after : firstSlot (tableAfter ours start js) ≡ plainWhole (goodLines start js)
   first-after = ap firstSlot leaves ∙ first-plain start (goodLines start js) empty
 
 -- ---- the same good lines
-alike-refl : (r : Record) → Alike r r
-alike-refl r = record { name = refl; nameLen = refl; time = refl; modes = refl; key = refl; keyLen = refl; limit = refl; members = refl; count = refl }
+alike-refl : (w : WholeRecord) → Alike w w
+alike-refl w = record { name = refl; nameLen = refl; time = refl; modes = refl; key = refl; keyLen = refl; limit = refl; members = refl; count = refl; bans = refl }
 
 -- a channel under another spelling of its name
-respelled : (name : List ℕ) (c : Channel) → map fold name ≡ map fold (c .name) → Alike (encode (spelled name c)) (encode c)
+respelled : (name : List ℕ) (c : Channel) → map fold name ≡ map fold (c .name) → Alike (whole (encode (spelled name c)) emptyList) (whole (encode c) emptyList)
 unfolding encode spelled
 respelled name c e = record {
   name = map-padded fold 0 nameLimit name ∙ ap (padded nameLimit (fold 0)) e ∙ sym (map-padded fold 0 nameLimit (c .name));
@@ -88,11 +95,12 @@ respelled name c e = record {
   limit = refl;
   members = refl;
   count = refl;
+  bans = refl;
 }
 
-same-alike : (s t : List (List ℕ)) → Kept s → Among s t → Among t s → Alike (plainRecord s) (plainRecord t)
+same-alike : (s t : List (List ℕ)) → Kept s → Among s t → Among t s → Alike (plainWhole s) (plainWhole t)
 unfolding plainRecord
-same-alike [] [] k h i = alike-refl emptyRecord
+same-alike [] [] k h i = alike-refl (whole emptyRecord emptyList)
 same-alike [] (l ∷ t) k h i = absurd (List·Memᴰ·not-nil (i l (List·Memᴰ·head refl)))
 same-alike (l ∷ s) [] k h i = absurd (List·Memᴰ·not-nil (h l (List·Memᴰ·head refl)))
 same-alike (l ∷ s) (j ∷ t) k h i =
@@ -122,7 +130,7 @@ kept-left s t k = record {
 
 -- what merging the records of two lists of lines answers
 merged : (m n : List ℕ) (s t : List (List ℕ)) → Proper-all s → Proper-all t → Sound m (map channelOf s) → Sound n (map channelOf t) → Kept (s ++ t) → (s ≡ [] → ⊥) → (t ≡ [] → ⊥)
-    → mergeAnswer (plainRecord s) (plainRecord t) ≡ record { number = accepted; result = plainRecord (s ++ t) }
+    → mergeAnswer (plainWhole s) (plainWhole t) ≡ record { number = accepted; result = plainWhole (s ++ t) }
 unfolding plainRecord
 merged m n [] t p q h i k e f = absurd (e refl)
 merged m n (l ∷ s) [] p q h i k e f = absurd (f refl)
@@ -130,7 +138,7 @@ merged m n (l ∷ s) (j ∷ t) p q h i k e f =
     answer-encoded a b a-proper b-proper named few ∙ ap answered is
   where
     answered : Channel → Merged
-    answered c = record { number = accepted; result = encode c }
+    answered c = record { number = accepted; result = whole (encode c) emptyList }
 
     a : Channel
     a = plain (channelOf l) (map channelOf s)

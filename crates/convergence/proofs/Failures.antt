@@ -12,39 +12,41 @@ use borrow.Author.Tests.{eq-eqb, eqb-true, eqb-false}
 use Rattle.refusal.specs.Numbers.{accepted, notWellFormed}
 use Rattle.refusal.proofs.Rules.{stop}
 use Rattle.laws.specs.Bits.{hasBit}
+use Rattle.laws.specs.Lists.{all, sameBy}
+use Rattle.laws.proofs.Lists.{all-replicate}
 use Rattle.octets.specs.Bytes.{capital}
-use Rattle.laws.specs.Lists.{all}
 use Rattle.octets.specs.Order.{compare}
 use Rattle.ascending.specs.Ascending.{insert, put, unite}
-use Rattle.laws.proofs.Lists.{all-replicate}
+use Rattle.links.specs.Links.{hasLink, setBelow, lessLink, relaySet, linksFrom, linksIn}
 use Rattle.message.specs.Reading.{contentOf}
-use Rattle.channel.specs.declared.Record.{Record}
 use Rattle.channel.specs.Limits.{slotCount}
 use Rattle.channel.specs.Record.{encode, emptyRecord}
 use Rattle.channel.specs.WellFormed.{wellFormed}
 use Rattle.channel.proofs.Examples.{2cd, 1ab, stored, incoming}
 use Rattle.channel.proofs.Blank.{empty-free}
+use Rattle.bans.specs.declared.WholeRecord.{WholeRecord}
+use Rattle.bans.specs.WellFormed.{wellFormedList}
+use Rattle.bans.specs.Slots.{emptyList}
+use Rattle.bans.specs.Records.{whole, wellFormedWhole}
 use Rattle.merging.specs.declared.Merged.{Merged}
 use Rattle.merging.specs.Merging.{mergeRules}
 use Rattle.merging.specs.Plain.{earliest, entries, everyone}
 use Rattle.merging.proofs.Plains.{plain-time}
-use Rattle.links.specs.Links.{hasLink, setBelow, lessLink, relaySet, linksFrom, linksIn}
-use Rattle.table.specs.declared.Table.{Table}
-use Rattle.table.specs.Network.{networkOf, withNetwork, withSlots}
+use Rattle.table.specs.Network.{Table, networkOf, withNetwork, withSlots}
 use Rattle.table.specs.Table.{isFree}
 use Rattle.table.proofs.Alone.{free-slot}
 use Rattle.table.proofs.Changing.{well-used}
 use Rattle.telling.specs.Telling.{sjoin}
-use Rattle.relay.specs.declared.Taken.{Taken}
 use Rattle.relay.specs.Arrival.{arrival}
-use Rattle.relay.specs.Relay.{networkBy}
+use Rattle.relay.specs.Relay.{networkBy, Outcome}
 use Rattle.relay.proofs.Answering.{answer-accepted}
 use Rattle.relay.proofs.Taking.{network-joined}
 use Rattle.relay.proofs.Joined.{command-join, opened}
-use Rattle.convergence.specs.Demands.{Taking, Merging, ruled, ruledMerge, Merges, Accepts, Demand2, Join, goodLines, takeJoin, tableAfter, channelOf, Kept, plainRecord, holding, firstSlot, Demand3}
+use Rattle.convergence.specs.Demands.{Taking, Merging, ruled, ruledMerge, Merges, Accepts, Demand2, Join, goodLines, takeJoin, tableAfter, channelOf, Kept, plainRecord, plainWhole, holding, firstSlot, isLateMask, Demand3}
 use Rattle.convergence.specs.Ours.{ours}
 use Rattle.convergence.specs.Useless.{refusing, constant, unaltering, firstOnly, countedAs, firstRecord, neverRefusing}
-use Rattle.convergence.proofs.Demand3.{demand3}
+use Rattle.convergence.proofs.Demand2.{goes}
+use Rattle.convergence.proofs.Demand3.{first-plain, demand3}
 use Rattle.convergence.proofs.Lines.{earlier, later, earlier-command, later-command, room, start, earlierFrom, laterFrom, earlier-tells, later-tells, earlier-number, later-number, stored-race, incoming-race, kept-by, not-none}
 
 -- ---- the lines are good: links 0, 3 and 5 are registered
@@ -86,7 +88,7 @@ both-kept = kept-by (later ∷ earlier ∷ []) (incoming ∷ stored ∷ []) (rw 
 
 -- ---- the time in the first slot
 abbrev firstTime : Table → ℕ
-firstTime t = firstSlot t .time
+firstTime t = firstSlot t .«record» .time
 
 start-time : firstTime (start links) ≡ 0
 unfolding emptyRecord encode
@@ -160,7 +162,7 @@ pub refusing-fails : Demand2 refusing → ⊥
 refusing-fails = fails-2 refusing 3 later refusing-later
 
 -- ---- a constant answer: whatever it is, it is wrong for one of two lines
-module _ (answer : Taken) (after : List ℕ) where
+module _ (answer : Outcome) (after : List ℕ) where
   -- `later` isn't taken as demand 2 says, or `earlier` isn't
   pub constant-line : Fails2 (constant answer after) 3 later ⊎ Fails2 (constant answer after) 0 earlier
   constant-line = go (eqb (firstTime (answer .table)) 1200) refl
@@ -226,7 +228,7 @@ next-used = rw (taken-network 3 later later-command, later-tells)
 first-takes : takeJoin firstOnly (start links) (laterFrom 3) .table ≡ next
 first-takes =
     ap (λ (free : Bool). cond free (ours (start links) (arrival 3 later) room) (unaltering (start links) (arrival 3 later) room) .0 .table) start-free
-    ∙ ap (λ (a : Taken). a .table) (answer-accepted (start links) (arrival 3 later) (length room) (later-number links 3 on-3))
+    ∙ ap (λ (a : Outcome). a .table) (answer-accepted (start links) (arrival 3 later) (length room) (later-number links 3 on-3))
 
 first-leaves : takeJoin firstOnly next (earlierFrom 0) .table ≡ next
 first-leaves = ap (λ (free : Bool). cond free (ours next (arrival 0 earlier) room) (unaltering next (arrival 0 earlier) room) .0 .table) next-used
@@ -256,13 +258,19 @@ no-other : length (linksIn (relaySet (start 1 .links) 0)) ≡ 0
 unfolding relaySet lessLink setBelow linksFrom hasBit
 no-other = refl
 
+-- `later` is no BMASK
+later-relayed : (set link : ℕ) → isLateMask (start set) (arrival link later) ≡ false
+unfolding sameBy
+later-relayed set link = rw later-command
+
 module _ (n : ℕ) (d : Demand2 (countedAs n)) where
   counts : (set link : ℕ) → hasLink set link ≡ true → n ≡ length (linksIn (relaySet (start set .links) link))
   counts set link on =
       let good = later-number set link on in
       sym (ap (λ (k : ℕ). cond (eqb k accepted) n 0) good)
-      ∙ d (start set) (arrival link later) room good .count
-      ∙ ap (λ (a : Taken). length (linksIn (a .set))) (answer-accepted (start set) (arrival link later) (length room) good)
+      ∙ d (start set) (arrival link later) room good .relays (later-relayed set link) .count
+      ∙ ap (λ (a : Outcome). length (linksIn (a .set))) (answer-accepted (start set) (arrival link later) (length room) good)
+      ∙ ap (λ (b : Bool). length (linksIn (cond b (relaySet (start set .links) link) 0))) (goes (start set) (arrival link later) room good false (later-relayed set link))
 
 -- A relay that answers the same count of links to every accepted line doesn't meet demand 2.
 pub counted-fails : (n : ℕ) → Demand2 (countedAs n) → ⊥
@@ -270,10 +278,10 @@ counted-fails n d = omega (arith, counts n d links 3 on-3 ∙ two-others, counts
 
 -- ---- a merging that answers its first record, whatever the taking
 -- for the records of `later` and of `earlier` it doesn't answer the record of both lines
-pub first-record : firstRecord (plainRecord (later ∷ [])) (plainRecord (earlier ∷ [])) ≡ record { number = accepted; result = plainRecord (later ∷ earlier ∷ []) } → ⊥
+pub first-record : firstRecord (plainWhole (later ∷ [])) (plainWhole (earlier ∷ [])) ≡ record { number = accepted; result = plainWhole (later ∷ earlier ∷ []) } → ⊥
 unfolding earliest
 first-record e =
-    let f : plainRecord (later ∷ []) .time ≡ plainRecord (later ∷ earlier ∷ []) .time = ap (λ (m : Merged). m .result .time) e in
+    let f : plainRecord (later ∷ []) .time ≡ plainRecord (later ∷ earlier ∷ []) .time = ap (λ (m : Merged). m .result .«record» .time) e in
     omega (arith, f, record-time later [], record-time later (earlier ∷ []), later-time, earlier-time)
 
 -- A merging that answers its first record doesn't meet demand 3, whatever the taking.
@@ -282,12 +290,16 @@ unfolding holding
 first-record-fails taking d =
     let left = d .leaves (start links) (laterFrom 3 ∷ []) refl (rw later-good later-kept) ∙ ap (holding (start links)) later-good in
     let answer = d .merges (start links) (start links) (laterFrom 3 ∷ []) (earlierFrom 0 ∷ []) refl refl (not-none later-good) (not-none earlier-good) (rw (later-good, earlier-good) both-kept) in
-    first-record (sym (ap answered (ap firstSlot left)) ∙ answer ∙ ap₂ (λ (s t : List (List ℕ)). answered (plainRecord (s ++ t))) later-good earlier-good)
+    first-record (sym (ap answered (ap firstSlot left ∙ first-plain (start links) (later ∷ []) refl)) ∙ answer ∙ ap₂ (λ (s t : List (List ℕ)). answered (plainWhole (s ++ t))) later-good earlier-good)
   where
-    answered : Record → Merged
+    answered : WholeRecord → Merged
     answered r = record { number = accepted; result = r }
 
 -- ---- a merging that never refuses: it meets demand 3, so that more is to be asked of a merging
+-- no channel, and no masks
+abbrev pub none : WholeRecord
+none = whole emptyRecord emptyList
+
 -- With our taking, the merging that never refuses meets demand 3.
 pub never-refusing-meets : Demand3 ours neverRefusing
 never-refusing-meets = record {
@@ -298,7 +310,7 @@ never-refusing-meets = record {
 }
   where
     unrefused : Merged → Merged
-    unrefused m = record { number = accepted; result = cond (eqb (m .number) accepted) (m .result) emptyRecord }
+    unrefused m = record { number = accepted; result = cond (eqb (m .number) accepted) (m .result) none }
 
 -- no channel merged with no channel is to be refused: a well-formed record has members
 empty-ill : wellFormed emptyRecord ≡ false
@@ -309,14 +321,14 @@ empty-ill = go (wellFormed emptyRecord) refl
     go false e = refl
 
 -- the rules refuse two empty records as not well formed
-pub empty-number : ruledMerge emptyRecord emptyRecord ≡ notWellFormed
-unfolding mergeRules
-empty-number = stop _ _ (ap (λ (t : Bool). not (t && wellFormed emptyRecord)) empty-ill)
+pub empty-number : ruledMerge none none ≡ notWellFormed
+unfolding mergeRules wellFormedWhole
+empty-number = stop _ _ (ap (λ (t : Bool). not ((t && wellFormedList (emptyList .room)) && (t && wellFormedList (emptyList .room)))) empty-ill)
 
 -- and so don't accept them
-pub empty-refused : ruledMerge emptyRecord emptyRecord ≡ accepted → ⊥
+pub empty-refused : ruledMerge none none ≡ accepted → ⊥
 empty-refused e = omega (arith, e, empty-number)
 
 -- The merging that never refuses isn't as `Merges` asks.
 pub never-refusing-fails : Merges neverRefusing → ⊥
-never-refusing-fails m = empty-refused (sym (ap (λ (a : Merged). a .number) (m .refuses emptyRecord emptyRecord empty-refused)))
+never-refusing-fails m = empty-refused (sym (ap (λ (a : Merged). a .number) (m .refuses none none empty-refused)))

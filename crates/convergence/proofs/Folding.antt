@@ -21,22 +21,22 @@ use Rattle.channel.specs.Channel.{Channel, byId}
 use Rattle.channel.specs.Record.{encode, decode, emptyRecord}
 use Rattle.channel.proofs.Records.{decode-encode}
 use Rattle.channel.proofs.Proper.{Proper, proper-fits, encode-well}
+use Rattle.bans.specs.Slots.{listAt, emptyLists}
+use Rattle.bans.proofs.Slots.{lists-empty}
 use Rattle.merging.specs.Merging.{merge}
 use Rattle.merging.specs.Plain.{everyone}
 use Rattle.merging.proofs.Proper.{proper-merge}
 use Rattle.merging.proofs.Plains.{length-everyone}
 use Rattle.merging.proofs.Merges.{folded, folded-name, folded-snoc, length-folded}
-use Rattle.table.specs.declared.Table.{Table}
 use Rattle.table.specs.declared.Slot.the-variants.{Held, Free}
-use Rattle.table.specs.Network.{Network, networkOf, withNetwork, withSlots}
+use Rattle.table.specs.Network.{Table, Network, networkOf, withNetwork, withSlots}
 use Rattle.table.specs.Table.{goodTable}
 use Rattle.table.specs.Slots.{slotFor}
 use Rattle.table.proofs.Alone.{free-good, free-slot, alone-good, held-first, encoded-holds}
 use Rattle.telling.specs.Telling.{sjoin}
-use Rattle.relay.specs.declared.Taken.{Taken}
 use Rattle.relay.specs.Arrival.{said}
 use Rattle.relay.specs.Sjoin.{joined}
-use Rattle.relay.specs.Relay.{networkBy}
+use Rattle.relay.specs.Relay.{networkBy, Outcome}
 use Rattle.relay.proofs.Results.{free-rules}
 use Rattle.relay.proofs.Taking.{network-joined}
 use Rattle.relay.proofs.Answering.{answer-refused, answer-accepted}
@@ -69,15 +69,20 @@ shares (l ∷ s) k c m = let (line, i, e) = Memᴰ·of-map channelOf (l ∷ s) m
 
 module _ (start : Table) (empty : Empty start) where
   -- ---- the table so far
+  -- no join adds a mask
+  no-masks : start .bans ≡ emptyLists
+  no-masks = ap (λ (n : Network). n .bans) empty
+
   one-slot : (r : Record) → set (start .slots) 0 r ≡ r ∷ replicate (slotCount - 1) emptyRecord
-  one-slot r = rw empty
+  one-slot r = ap (λ (n : Network). set (n .slots) 0 r) empty
 
   after-good : (name : List ℕ) (q : List Channel) → Sound name q → goodTable (after start q) ≡ true
   after-good name [] h = free-good start empty
-  after-good name (l ∷ s) h = alone-good (encode (folded l s)) (encode-well (folded l s) (h .0)) (after start (l ∷ s)) (slotCount - 1) (one-slot (encode (folded l s)))
+  after-good name (l ∷ s) h =
+      alone-good (encode (folded l s)) (encode-well (folded l s) (h .0)) (after start (l ∷ s)) (slotCount - 1) (omega arith) (one-slot (encode (folded l s))) no-masks
 
   new-slot : (name : List ℕ) → slotFor (start .slots) name ≡ Free 0
-  new-slot name = rw empty (free-slot name (slotCount - 1))
+  new-slot name = ap (λ (n : Network). slotFor (n .slots) name) empty ∙ free-slot name (slotCount - 1)
 
   held-slot : (l c : Channel) (s : List Channel) → Proper (folded l s) → map fold (l .name) ≡ map fold (c .name) → slotFor (after start (l ∷ s) .slots) (c .name) ≡ Held 0
   held-slot l c s p e =
@@ -138,7 +143,7 @@ module _ (start : Table) (empty : Empty start) where
         join-entered (j .arrival) (j .reads) t (after-good name (l ∷ s) h) (length (j .output)) (sym (start-number j) ∙ g) ∙ merge-room (networkOf t) k 0 at room,
         ap (withNetwork start)
             (joins (networkOf t) j (p .0)
-            ∙ merged (networkOf t) k 0 at
+            ∙ merged (networkOf t) k 0 at (ap (λ (b : List ℕ). listAt b 0) no-masks ∙ lists-empty 0 (omega arith))
             ∙ ap (λ (c : Channel). withSlots (networkOf t) (set (t .slots) 0 (encode c))) is
             ∙ ap (withSlots (networkOf start)) (set-set (start .slots) 0 _ _)),
         (rw (folded-snoc l k s) (proper-merge (folded l s) k (h .0) (p .1) (rw (← folded-snoc l k s) few)), h .1, h .2),
@@ -178,13 +183,13 @@ module _ (start : Table) (empty : Empty start) where
           let room : length (everyone ((q ++ k ∷ []) ++ good start js)) ≤ memberLimit = rw same (f .1) in
           let w = step name q j h g (f .0 k (List·Memᴰ·head refl)) (omega (arith, length-everyone (q ++ k ∷ []) (good start js), room)) in
           let t = answer-accepted (after start q) (j .arrival) (length (j .output)) (w .0) in
-          onward name j js q (q ++ k ∷ []) (good start js) (k ∷ good start js) (ap (λ (a : Taken). a .number) t ∙ sym g) (ap (λ (a : Taken). a .table) t ∙ w .1) same
+          onward name j js q (q ++ k ∷ []) (good start js) (k ∷ good start js) (ap (λ (a : Outcome). a .number) t ∙ sym g) (ap (λ (a : Outcome). a .table) t ∙ w .1) same
           (ih (q ++ k ∷ []) (w .2) (λ c i. f .0 c (List·Memᴰ·tail i), room))
       go false e ih f =
           let g : numberAt start j ≡ accepted → ⊥ = eqb-false (numberAt start j) accepted e in
           let same : numberAt (after start q) j ≡ numberAt start j = bad-number name q h j g in
           let t = sym (answer-refused (after start q) (j .arrival) (length (j .output)) _ refl (λ z. g (sym same ∙ z))) in
-          onward name j js q q (good start js) (good start js) (ap (λ (a : Taken). a .number) t ∙ same) (ap (λ (a : Taken). a .table) t) refl (ih q h f)
+          onward name j js q q (good start js) (good start js) (ap (λ (a : Outcome). a .number) t ∙ same) (ap (λ (a : Outcome). a .table) t) refl (ih q h f)
 
   -- ---- the whole list
   -- Where the good lines keep to one channel and to 64 users, each join is answered its number at the start, and the table left holds the good lines, merged in

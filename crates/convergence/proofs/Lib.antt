@@ -6,6 +6,7 @@ pub mod Demand3
 pub mod Merges
 pub mod Only
 mod Failures
+mod Banning
 mod Witnesses
 mod Folding
 mod Lines

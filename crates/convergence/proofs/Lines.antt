@@ -22,15 +22,14 @@ use Rattle.message.specs.Grammar.{lineLimit, word, spaces, prefix, prefixEnd, c
 use Rattle.message.specs.Content.{contentIn, prefixIs}
 use Rattle.message.specs.Words.{wordsAt}
 use Rattle.message.specs.Reading.{crlf, endsLine, bodyOf, bodyRules, lineRules, numberFor, isRead, contentOf}
-use Rattle.channel.specs.Limits.{memberLimit, slotCount}
+use Rattle.channel.specs.Limits.{memberLimit}
 use Rattle.channel.specs.Modes.{withMode, placeAmong}
 use Rattle.channel.specs.Key.{isKey}
 use Rattle.channel.specs.Channel.{Channel, member}
-use Rattle.channel.specs.Record.{emptyRecord}
 use Rattle.channel.proofs.Examples.{2cd, 1ab, stored, incoming}
 use Rattle.merging.specs.Plain.{everyone}
 use Rattle.links.specs.Links.{hasLink, links}
-use Rattle.table.specs.declared.Table.{Table}
+use Rattle.table.specs.Network.{Table, tableOf, emptyNetwork}
 use Rattle.sjoin.specs.Modes.{once, goodLetters, modesByte, parametered, isLimit, goodArgument, goodArguments, argumentOf, isModes}
 use Rattle.sjoin.specs.Entries.{past, idOf, statusOf, isEntry, memberOf, goodEntries}
 use Rattle.sjoin.specs.Join.{argumentsIn, goodCount, isTime, joinRules, channelIn}
@@ -116,7 +115,7 @@ length-room = length-replicate {A = ℕ} lineLimit 0
 
 -- an empty table with these links
 abbrev pub start : ℕ → Table
-start set = record { slots = replicate slotCount emptyRecord; links = links set }
+start set = tableOf emptyNetwork (links set)
 
 -- the join of a line by a link, with that output
 abbrev pub from : (l : List ℕ) → IsJoin l → ℕ → Join
@@ -170,7 +169,8 @@ untimedFrom = from untimed untimed-is
 abbrev pub unreadFrom : ℕ → Join
 unreadFrom = from unread unread-is
 
-roomy : ltb (length room) lineLimit ≡ false
+-- and it is enough
+pub roomy : ltb (length room) lineLimit ≡ false
 roomy = rw length-room
 
 -- the number of a join at the start: that of its line on a registered link

@@ -4,15 +4,14 @@ use mathlib.Core.Path.{_≡_}
 use borrow.Author.Tests.{ne-eqb}
 use Rattle.refusal.specs.Numbers.{accepted}
 use Rattle.refusal.proofs.Rules.{first-listed}
-use Rattle.channel.specs.declared.Record.{Record}
-use Rattle.channel.specs.Record.{encode, decode}
-use Rattle.merging.specs.Merging.{merge, mergeRules, mergeAnswer}
+use Rattle.bans.specs.declared.WholeRecord.{WholeRecord}
+use Rattle.merging.specs.Merging.{mergedWhole, mergeRules, mergeAnswer}
 use Rattle.merging.proofs.Rules.{rules-ascend}
 use Rattle.convergence.specs.Demands.{ruledMerge, Listed, Merges}
 use Rattle.convergence.specs.Ours.{ourMerging}
 
-module _ (a b : Record) where
-  accepts : ruledMerge a b ≡ accepted → ourMerging a b ≡ record { number = accepted; result = encode (merge (decode a) (decode b)) }
+module _ (a b : WholeRecord) where
+  accepts : ruledMerge a b ≡ accepted → ourMerging a b ≡ record { number = accepted; result = mergedWhole a b }
   unfolding mergeAnswer
   accepts e = rw e
 

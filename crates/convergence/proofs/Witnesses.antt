@@ -12,14 +12,16 @@ use Rattle.laws.specs.Lists.{sameBy}
 use Rattle.octets.specs.Order.{compare}
 use Rattle.ascending.specs.Ascending.{insert, put, unite}
 use Rattle.channel.specs.Channel.{Channel, member}
-use Rattle.channel.specs.Record.{encode, decode, emptyRecord}
+use Rattle.channel.specs.Record.{encode}
 use Rattle.channel.specs.Modes.{withMode}
 use Rattle.channel.specs.Standing.{counts, settingsAt, bare, standing}
 use Rattle.channel.specs.Members.{statusIn}
 use Rattle.channel.proofs.Examples.{2cd, 1ab, stored, incoming}
 use Rattle.merging.specs.declared.Merged.{Merged}
 use Rattle.merging.specs.Settings.{greater, joinSettings}
-use Rattle.merging.specs.Merging.{merge, mergeAnswer}
+use Rattle.bans.specs.Slots.{emptyList}
+use Rattle.bans.specs.Records.{whole}
+use Rattle.merging.specs.Merging.{mergedWhole, mergeAnswer}
 use Rattle.merging.specs.Plain.{earliest, entries, everyone, statusAt, plain}
 use Rattle.links.specs.Links.{hasLink}
 use Rattle.table.specs.Network.{networkOf, withNetwork, withSlots}
@@ -31,7 +33,7 @@ use Rattle.convergence.proofs.Demand1.{demand1}
 use Rattle.convergence.proofs.Demand2.{demand2}
 use Rattle.convergence.proofs.Demand3.{demand3}
 use Rattle.convergence.proofs.Merges.{merges}
-use Rattle.convergence.proofs.Failures.{empty-number, empty-refused}
+use Rattle.convergence.proofs.Failures.{none, empty-number, empty-refused}
 use Rattle.convergence.proofs.Lines.{earlier, later, equal, unread, third, room, start, earlierFrom, laterFrom, equalFrom, unreadFrom, untimedFrom, later-is, earlier-tells, later-tells, equal-tells, off-link, earlier-number, later-number, equal-number, unread-number, untimed-number, stored-race, incoming-race, third-race, kept-by, not-none}
 
 -- ---- two starts: links 0, 3 and 5, and links 0, 1 and 2
@@ -103,20 +105,20 @@ unfolding holding plainRecord
 js-left = demand3 .leaves (start 41) js refl js-kept ∙ rw (js-good, later-tells, earlier-tells, equal-tells, js-plain)
 
 -- with no good join all is as at the start
-none : List Join
-none = unreadFrom 3 ∷ laterFrom 7 ∷ []
+bad : List Join
+bad = unreadFrom 3 ∷ laterFrom 7 ∷ []
 
-none-good : goodLines (start 41) none ≡ []
-unfolding goodLines none
-none-good = rw (unread-number 41 3 (on-first .1), off-link 41 7 later later-is (on-first .3))
+bad-good : goodLines (start 41) bad ≡ []
+unfolding goodLines bad
+bad-good = rw (unread-number 41 3 (on-first .1), off-link 41 7 later later-is (on-first .3))
 
-none-kept : Kept (goodLines (start 41) none)
+bad-kept : Kept (goodLines (start 41) bad)
 unfolding everyone entries unite
-none-kept = rw none-good (kept-by [] [] refl tt (omega arith))
+bad-kept = rw bad-good (kept-by [] [] refl tt (omega arith))
 
-none-left : tableAfter ours (start 41) none ≡ start 41
+bad-left : tableAfter ours (start 41) bad ≡ start 41
 unfolding holding
-none-left = demand3 .leaves (start 41) none refl none-kept ∙ rw none-good
+bad-left = demand3 .leaves (start 41) bad refl bad-kept ∙ rw bad-good
 
 -- ---- the same good lines in another order, one of them twice, from another start
 ks : List Join
@@ -169,7 +171,7 @@ apart-plain : plain incoming (third ∷ stored ∷ []) ≡ after
 unfolding plain earliest counts settingsAt bare standing everyone entries statusIn statusAt sameBy insert put unite compare greater joinSettings withMode stored incoming third after 1ab 2cd
 apart-plain = refl
 
-apart : mergeAnswer (firstSlot (tableAfter ours (start 41) first)) (firstSlot (tableAfter ours (start 7) second)) ≡ record { number = accepted; result = encode after }
+apart : mergeAnswer (firstSlot (tableAfter ours (start 41) first)) (firstSlot (tableAfter ours (start 7) second)) ≡ record { number = accepted; result = whole (encode after) emptyList }
 unfolding plainRecord
 apart =
     demand3 .merges (start 41) (start 7) first second refl refl (not-none first-good) (not-none second-good) apart-kept ∙ rw (first-good, second-good, later-tells, earlier-tells, equal-tells, apart-plain)
@@ -179,8 +181,8 @@ apart-accepted : ruledMerge (firstSlot (tableAfter ours (start 41) first)) (firs
 unfolding mergeAnswer
 apart-accepted = ap (λ (m : Merged). m .number) apart
 
-apart-merged : encode (merge (decode (firstSlot (tableAfter ours (start 41) first))) (decode (firstSlot (tableAfter ours (start 7) second)))) ≡ encode after
+apart-merged : mergedWhole (firstSlot (tableAfter ours (start 41) first)) (firstSlot (tableAfter ours (start 7) second)) ≡ whole (encode after) emptyList
 apart-merged = ap (λ (m : Merged). m .result) (sym (merges .accepts _ _ apart-accepted) ∙ apart)
 
-empty-merge : mergeAnswer emptyRecord emptyRecord ≡ record { number = notWellFormed; result = emptyRecord }
-empty-merge = merges .refuses emptyRecord emptyRecord empty-refused ∙ ap (λ (n : ℕ). record { number = n; result = emptyRecord }) empty-number
+empty-merge : mergeAnswer none none ≡ record { number = notWellFormed; result = none }
+empty-merge = merges .refuses none none empty-refused ∙ ap (λ (n : ℕ). record { number = n; result = none }) empty-number

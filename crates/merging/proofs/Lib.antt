@@ -5,6 +5,7 @@ pub mod Plains
 pub mod Merges
 pub mod Answers
 mod Settings
+mod Masks
 mod Rooms
 mod OnePass
 mod Examples

@@ -5,9 +5,12 @@ use mathlib.Core.Bool.{true}
 use mathlib.Core.List.{[], _∷_, List·Memᴰ, List·Memᴰ·head, List·Memᴰ·tail, List·Memᴰ·not-nil}
 use native.Mathlib.Omega.{arith}
 use lib.ListN.{length}
+use Rattle.refusal.specs.Numbers.{accepted}
+use Rattle.refusal.specs.Rules.{firstOf}
 use Rattle.octets.specs.Bytes.{within}
 use Rattle.laws.specs.Lists.{sameBy, padded}
 use Rattle.octets.specs.Order.{compare}
+use Rattle.octets.specs.Room.{part}
 use Rattle.ascending.specs.Ascending.{insert, put, unite}
 use Rattle.laws.proofs.Joins.{Within}
 use Rattle.names.specs.Fold.{fold, sameName}
@@ -22,14 +25,18 @@ use Rattle.channel.proofs.Fields.{peopled}
 use Rattle.channel.proofs.Proper.{Proper}
 use Rattle.channel.proofs.Examples.{2cd, 1ab, stored, incoming}
 use Rattle.channel.proofs.Witnesses.{second, lines, proper, stored-in, incoming-in, second-in, incoming-later, well}
+use Rattle.bans.specs.declared.WholeRecord.{WholeRecord}
+use Rattle.bans.specs.Masks.{maskIn, roomOf, chunks, rooms, maskCount, usedRooms, masks, encodeList}
+use Rattle.bans.specs.Slots.{listWith, emptyList}
+use Rattle.bans.specs.Records.{whole}
 use Rattle.merging.specs.Settings.{greater, joinSettings}
-use Rattle.merging.specs.Merging.{merge, mergeAnswer, combined}
+use Rattle.merging.specs.Merging.{merge, answerOf, combined, mergedMasks, mergeAnswer}
 use Rattle.merging.specs.Plain.{earliest, entries, everyone, statusAt, plain}
-use Rattle.merging.proofs.Rules.{merge-later, merge-equal, merge-earlier, later-keeps, later-none}
+use Rattle.merging.proofs.Rules.{merge-later, merge-equal, merge-earlier, later-keeps, later-none, masks-later, masks-equal, masks-earlier}
 use Rattle.merging.proofs.Proper.{proper-merge, merge-well}
 use Rattle.merging.proofs.Plains.{everyone-same, merge-plain, plain-single, spelled, plain-same}
 use Rattle.merging.proofs.Merges.{InOrder, folded, merge-comm, merge-self, folded-plain, merge-assoc, length-folded}
-use Rattle.merging.proofs.Answers.{combined-merge}
+use Rattle.merging.proofs.Answers.{combined-merge, answer-encoded}
 
 -- each has its members in order
 in-order : (c : Channel) → List·Memᴰ c lines → InOrder c
@@ -113,6 +120,32 @@ unfolding merge standing counts bare insert put unite compare encode decode padd
 merged-well = merge-well (encode stored) (encode incoming) (well stored stored-in) (well incoming incoming-in) (omega arith)
 
 -- two such records merged without a test
-untested : combined (encode stored) (encode incoming) ≡ mergeAnswer (encode stored) (encode incoming)
-unfolding sameName fold sameBy within encode decode padded stored incoming
-untested = combined-merge (encode stored) (encode incoming) (well stored stored-in) (well incoming incoming-in) refl
+untested : combined (encode stored) (encode incoming) ≡ answerOf accepted (encode (merge stored incoming))
+unfolding firstOf merge settingsAt standing counts bare insert put unite compare greater joinSettings encode decode padded stored incoming 1ab 2cd
+untested = combined-merge (encode stored) (encode incoming) (well incoming incoming-in)
+
+-- without masks none result
+without-masks : mergeAnswer (whole (encode stored) emptyList) (whole (encode incoming) emptyList) ≡ record { number = accepted; result = whole (encode (merge stored incoming)) emptyList }
+unfolding sameName fold sameBy within stored incoming
+without-masks = answer-encoded stored incoming (proper stored stored-in) (proper incoming incoming-in) refl few
+
+-- ---- ban lists, of masks of one byte
+-- the stored record with A and b
+abbrev held : WholeRecord
+held = whole (encode stored) (listWith ((65 ∷ []) ∷ (98 ∷ []) ∷ []))
+
+-- a record with a and c
+abbrev banning : Channel → WholeRecord
+banning c = whole (encode c) (listWith ((97 ∷ []) ∷ (99 ∷ []) ∷ []))
+
+list-stays : mergedMasks held (banning incoming) ≡ (65 ∷ []) ∷ (98 ∷ []) ∷ []
+unfolding encode masks maskIn part roomOf padded chunks rooms maskCount usedRooms encodeList
+list-stays = masks-later held (banning incoming) incoming-later
+
+list-united : mergedMasks held (banning second) ≡ (65 ∷ []) ∷ (98 ∷ []) ∷ (99 ∷ []) ∷ []
+unfolding encode masks maskIn part roomOf padded chunks rooms maskCount usedRooms encodeList unite put insert compare fold within stored second
+list-united = masks-equal held (banning second) refl
+
+list-taken : mergedMasks (banning incoming) held ≡ (65 ∷ []) ∷ (98 ∷ []) ∷ []
+unfolding encode masks maskIn part roomOf padded chunks rooms maskCount usedRooms encodeList
+list-taken = masks-earlier (banning incoming) held incoming-later

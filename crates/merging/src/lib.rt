@@ -1,5 +1,7 @@
-// Two records of one channel merged by the rules of SJOIN (document 01, 'SJOIN'), and the greater of two keys. Any records are taken: `merge` refuses those that
-// aren't well formed, and `combine`, which doesn't test them, answers them by the definition that its contract cites.
+// Two records of one channel merged by the rules of SJOIN (document 01, 'SJOIN'), with their ban lists (document 02, §2), and the greater of two keys. Any records
+// are taken: `merge` refuses those that aren't well formed, and `combine`, which doesn't test them and leaves lists out, answers them by the definition that its
+// contract cites.
+mod lists;
 mod sides;
 mod uniting;
 
@@ -7,9 +9,12 @@ ghost use mathlib.Core.Path.{_≡_};
 ghost use mathlib.Core.Bool.{cond};
 ghost use Rattle.octets.specs.Order.{compare as compareOf, isLess};
 ghost use Rattle.merging.specs.Merging.{answerOf, mergeAnswer, combined};
+ghost use Rattle.merging.specs.Private.Answers.{refusedBy};
+use bans::WholeRecord;
+use bans::is_whole;
 use channel::Record;
-use channel::is_well_formed;
 use channel::members::within;
+use lists::merged_list;
 use names::equal;
 use octets::Order;
 use octets::compare;
@@ -17,6 +22,7 @@ use octets::part;
 use refusal::ACCEPTED;
 use refusal::BAD_NAME;
 use refusal::NOT_WELL_FORMED;
+use refusal::TOO_MANY_MASKS;
 use refusal::TOO_MANY_MEMBERS;
 use sides::earlier;
 use sides::front;
@@ -25,35 +31,58 @@ use sides::greatest;
 use sides::larger;
 use uniting::united;
 
-// The number of a refusal, or ACCEPTED, and the merged record, or the first one as given.
+// The number of a refusal, or ACCEPTED, and the merged record with its list, or the first one as given.
 #[repr(C)]
 pub struct Merged {
+    pub number: u8,
+    pub result: WholeRecord,
+}
+
+// The number of a refusal, or ACCEPTED, and the merged record, or the first one as given.
+pub struct Combined {
     pub number: u8,
     pub result: Record,
 }
 
-// Two records of one channel merged by the rules of SJOIN, the first one's spelling kept. Refused where either isn't well formed, where their names
-// differ, and where more members would result than a record has room for.
-pub fn merge(a: Record, b: Record) -> Merged
+// Two records of one channel merged by the rules of SJOIN, the first one's spelling kept: at equal times their lists are united, else the earlier one's stands.
+// Refused where either isn't well formed, where their names differ, and where more members or masks would result than there is room for.
+pub fn merge(a: WholeRecord, b: WholeRecord) -> Merged
     ensures { λ r. ⌜ r ≡ mergeAnswer a b ⌝ }
 {
-    if !is_well_formed(a) {
+    if !is_whole(a) {
         return refused(NOT_WELL_FORMED, a);
     }
-    if !is_well_formed(b) {
+    if !is_whole(b) {
         return refused(NOT_WELL_FORMED, a);
     }
-    let name = a.name;
-    let other = b.name;
-    if !equal(part(&name, 0, a.name_len), part(&other, 0, b.name_len)) {
+    let first = a.record;
+    let second = b.record;
+    let name = first.name;
+    let other = second.name;
+    if !equal(
+        part(&name, 0, first.name_len),
+        part(&other, 0, second.name_len),
+    ) {
         return refused(BAD_NAME, a);
     }
-    combine(a, b)
+    let both = combine(first, second);
+    let number = both.number;
+    if number != ACCEPTED {
+        return refused(number, a);
+    }
+    let lists = merged_list(first.time, a.bans, second.time, b.bans);
+    if lists.full {
+        return refused(TOO_MANY_MASKS, a);
+    }
+    let record = both.result;
+    let bans = lists.list;
+    let result = WholeRecord { record, bans };
+    Merged { number, result }
 }
 
 // Two records merged that are known to be well formed and of one channel: neither is tested again. Refused where more members would result than a record has
 // room for. Any others are taken too: of counts and lengths only what there is room for counts, and members are united as they stand.
-pub fn combine(a: Record, b: Record) -> Merged
+pub fn combine(a: Record, b: Record) -> Combined
     ensures { λ r. ⌜ r ≡ combined a b ⌝ }
 {
     let time = earlier(a.time, b.time);
@@ -65,7 +94,7 @@ pub fn combine(a: Record, b: Record) -> Merged
     let n = within(b.count);
     let all = united(members, m, first, others, n, second);
     if Record::MEMBERS < all.count {
-        return refused(TOO_MANY_MEMBERS, a);
+        return unmerged(TOO_MANY_MEMBERS, a);
     }
     let x = given_if(first, a.modes, a.key_len, a.limit);
     let y = given_if(second, b.modes, b.key_len, b.limit);
@@ -77,7 +106,7 @@ pub fn combine(a: Record, b: Record) -> Merged
     let spelling = name.bytes;
     let bytes = key.bytes;
     let list = all.list;
-    Merged {
+    Combined {
         number: ACCEPTED,
         result: Record {
             name: spelling,
@@ -104,9 +133,16 @@ pub fn greater_key<'a>(a: &'a [u8], b: &'a [u8]) -> &'a [u8]
     }
 }
 
-// A refused merge answers its first record as given.
-fn refused(number: u8, a: Record) -> Merged
-    ensures { λ r. ⌜ r ≡ answerOf number a ⌝ }
+// A refused merge answers its first record as given, with its list.
+fn refused(number: u8, a: WholeRecord) -> Merged
+    ensures { λ r. ⌜ r ≡ refusedBy number a ⌝ }
 {
     Merged { number, result: a }
+}
+
+// The same of records without lists.
+fn unmerged(number: u8, a: Record) -> Combined
+    ensures { λ r. ⌜ r ≡ answerOf number a ⌝ }
+{
+    Combined { number, result: a }
 }

@@ -2,14 +2,14 @@
 -- give the first that applies. Most ask only that no number is `accepted`. Assumes nothing.
 use Prim.Native.Nat.{ℕ, suc, _≤_, _<_}
 use mathlib.Core.Path.{_≡_, refl, sym, ap, _∙_}
-use mathlib.Core.Bool.{Bool, true, false, true≢false, not, _&&_}
+use mathlib.Core.Bool.{Bool, true, false, true≢false, not, cond, _&&_}
 use mathlib.Core.Logic.{_⊎_, inl, inr}
 use mathlib.Core.List.{List, [], _∷_, _++_, List·Memᴰ, List·Memᴰ·cases-cons, List·Memᴰ·not-nil, List·Memᴰ·head, List·Memᴰ·tail}
 use native.Mathlib.Omega.{arith}
 use lib.ListN.{length}
 use lib.Dec.{eqb, leb, ltb}
 use borrow.Author.Tests.{ne-eqb, eqb-true, eqb-false, leb-true, ltb-true}
-use Rattle.refusal.specs.Numbers.{accepted, order}
+use Rattle.refusal.specs.Numbers.{accepted, badMembers, tooManyMembers, noRoom, badMasks, tooManyMasks, order}
 use Rattle.refusal.specs.Rules.{Rule, firstOf, emitted, placeIn, rank, ascendFrom, ascend}
 
 -- ---- one rule
@@ -109,9 +109,19 @@ abbrev increasing : ℕ → List ℕ → Bool
 increasing n [] = true
 increasing n (m ∷ l) = ltb n m && increasing m l
 
--- In document 01 the order is that of the numbers themselves: the first that applies is "the lowest".
-order-increases : increasing accepted order ≡ true
+-- the numbers of a list that document 01 has
+abbrev firstPaper : List ℕ → List ℕ
+firstPaper [] = []
+firstPaper (m ∷ l) = cond (leb m noRoom) (m ∷ firstPaper l) (firstPaper l)
+
+-- Of document 01's numbers the order is that of the numbers themselves: the first that applies is "the lowest".
+order-increases : increasing accepted (firstPaper order) ≡ true
 order-increases = refl
+
+-- 26 comes after 18, and 27 after 22 (document 02, §2).
+order-bans : (rank badMasks ≡ suc (rank badMembers)) × (rank tooManyMasks ≡ suc (rank tooManyMembers))
+unfolding placeIn
+order-bans = (refl, refl)
 
 -- ---- rules in the order of their numbers
 -- what the check says of the first rule, and of the others

@@ -1,4 +1,4 @@
--- The numbers of document 01's table, under the names that src/lib.rt gives them there with the table's words.
+-- The numbers of document 01's table and of 02's requests, under the names that src/lib.rt gives them there with the papers' words.
 -- A contract that cites one here and a function that answers the constant agree, or the function isn't proved.
 use Prim.Native.Nat.{ℕ}
 use mathlib.Core.List.{List, [], _∷_}
@@ -81,7 +81,14 @@ unwritable = 24
 abbrev pub noRoom : ℕ
 noRoom = 25
 
--- The fixed list, in the order in which the numbers are looked for: where more than one applies, the first in this list is given. In document 01 that is "the lowest".
+abbrev pub badMasks : ℕ
+badMasks = 26
+
+abbrev pub tooManyMasks : ℕ
+tooManyMasks = 27
+
+-- The fixed list, in the order in which the numbers are looked for: where more than one applies, the first in this list is given. In document 01 that is "the
+-- lowest"; document 02 puts numbers between those.
 abbrev pub order : List ℕ
 order =
     notWellFormed
@@ -102,10 +109,12 @@ order =
     ∷ badName
     ∷ badModes
     ∷ badMembers
+    ∷ badMasks
     ∷ noSuchChannel
     ∷ notOnChannel
     ∷ noFreeSlot
     ∷ tooManyMembers
+    ∷ tooManyMasks
     ∷ textTooLong
     ∷ unwritable
     ∷ noRoom

@@ -34,13 +34,13 @@ pub const BAD_COMMAND: u8 = 9;
 // a sixteenth parameter
 pub const TOO_MANY_PARAMS: u8 = 10;
 
-// command not one of the three
+// command not one of the three, nor of those that 02 adds
 pub const UNKNOWN_COMMAND: u8 = 11;
 
-// parameters not 4 to 6 (SJOIN), 1 to 2 (PART), 0 to 1 (QUIT)
+// parameters not 4 to 6 (SJOIN), 1 to 2 (PART), 0 to 1 (QUIT), 4 (BMASK)
 pub const WRONG_PARAM_COUNT: u8 = 12;
 
-// prefix missing or not a server id (SJOIN), user id (others)
+// prefix missing or not a server id (SJOIN, BMASK), user id (PART, QUIT)
 pub const BAD_SOURCE: u8 = 13;
 
 // time malformed or too large
@@ -58,7 +58,7 @@ pub const BAD_MODES: u8 = 17;
 // bad member list
 pub const BAD_MEMBERS: u8 = 18;
 
-// channel not in the table (PART)
+// channel not in the table (PART, BMASK, a question about a ban, a channel looked for)
 pub const NO_SUCH_CHANNEL: u8 = 19;
 
 // user not in it (PART)
@@ -78,3 +78,9 @@ pub const UNWRITABLE: u8 = 24;
 
 // written line over 512 bytes; log buffer shorter than the line and 5
 pub const NO_ROOM: u8 = 25;
+
+// a BMASK's type or mask list is bad (02 §2); after 18
+pub const BAD_MASKS: u8 = 26;
+
+// more than 32 masks would result (02 §2); after 22
+pub const TOO_MANY_MASKS: u8 = 27;

@@ -1,8 +1,8 @@
 -- The answer to a line, by the rule that refuses it, or by the change that it is judged to be where none does. Assumes nothing.
+use Prim.Native.Nat.{ℕ, _≤_}
 use mathlib.Core.Path.{_≡_, ap, _∙_}
 use mathlib.Core.Bool.{true, _&&_}
 use mathlib.Core.List.{List, []}
-use Prim.Native.Nat.{ℕ, _≤_}
 use native.Mathlib.Omega.{arith}
 use lib.ListN.{length}
 use borrow.Author.Tests.{ne-eqb, not-false, ltb-false}
@@ -11,21 +11,21 @@ use Rattle.refusal.specs.Rules.{firstOf}
 use Rattle.refusal.proofs.Rules.{first-none, emitted-none, emitted-all}
 use Rattle.laws.specs.Bits.{hasBit}
 use Rattle.laws.proofs.Bools.{and-left}
+use Rattle.links.specs.Links.{isLink, linksIn}
 use Rattle.message.specs.Grammar.{lineLimit}
 use Rattle.message.specs.Reading.{messageOf}
 use Rattle.message.proofs.Readings.{read-small}
-use Rattle.links.specs.Links.{isLink, relaySet, linksIn}
-use Rattle.table.specs.declared.Table.{Table}
-use Rattle.table.specs.Network.{networkOf, withNetwork}
+use Rattle.table.specs.declared.Head.{Head}
+use Rattle.table.specs.Network.{Table, Network, headOf, networkOf}
 use Rattle.table.specs.Table.{goodTable}
 use Rattle.relay.specs.declared.Change.{Change}
 use Rattle.relay.specs.declared.Taken.{Taken}
-use Rattle.relay.specs.Arrival.{Arrival}
-use Rattle.relay.specs.Relay.{meaningIn, takenRules, networkBy, messageBy, relayed, processRules, refused, taken, processAnswer, sent}
-use Rattle.relay.specs.Private.Acting.{doneBy, writtenBy}
+use Rattle.relay.specs.Arrival.{Arrival, said}
+use Rattle.relay.specs.Relay.{meaningIn, takenRules, networkBy, goesBy, messageBy, relayed, processRules, refused, taken, processAnswer, takenOf, sent}
+use Rattle.relay.specs.Private.Acting.{headWith, doneBy, writtenBy, sentTo}
 use Rattle.relay.proofs.Judgements.{Does}
 use Rattle.relay.proofs.Taking.{rules-none, relayed-reads}
-use Rattle.relay.proofs.Acted.{sends-it}
+use Rattle.relay.proofs.Acted.{sends-it, goes-to}
 
 module _ (t : Table) (a : Arrival) (n : ℕ) where
   -- ---- a rule refuses it
@@ -71,16 +71,23 @@ module _ (t : Table) (a : Arrival) (n : ℕ) where
     -- ---- the change is made
     module _ (j : Change) (d : Does (meaningIn a) (networkOf t) a j) where
       -- the answer with the change made is the one to give
-      pub answer-taken : (number set count len : ℕ) (table : Table) → number ≡ accepted → table ≡ withNetwork t (doneBy (j .deed) j (networkOf t)) → set ≡ relaySet (t .links) (a .link)
-          → count ≡ length (linksIn set) → len ≡ length (relayed (networkOf t) a)
-          → _≡_ {A = Taken} (record { number = number; table = table; set = set; count = count; len = len }) (processAnswer t a n)
+      pub answer-taken : (number set count len : ℕ) (head : Head) → number ≡ accepted → head ≡ headWith (headOf t) (doneBy (j .deed) j (said a) (networkOf t) .slots)
+          → set ≡ sentTo (j .sending) (t .links) (a .link) → count ≡ length (linksIn set) → len ≡ length (relayed (networkOf t) a)
+          → _≡_ {A = Taken} (record { number = number; head = head; set = set; count = count; len = len }) (takenOf (processAnswer t a n))
+      unfolding processAnswer networkBy goesBy
+      answer-taken number set count len head e f g h i =
+          let to = g ∙ goes-to (j .sending) j (said a) _ _ (d .sends) (t .links) (a .link) in
+          rw (none, e, f ∙ ap (λ (x : Network). headWith (headOf t) (x .slots)) (d .network), h, to, i)
+
+      -- so are the ban lists
+      pub bans-taken : doneBy (j .deed) j (said a) (networkOf t) .bans ≡ processAnswer t a n .table .bans
       unfolding processAnswer networkBy
-      answer-taken number set count len table e f g h i = rw (none, e, f ∙ ap (withNetwork t) (d .network), h, g, i)
+      bans-taken = rw none (ap (λ (x : Network). x .bans) (d .network))
 
       -- the line that is written is the one that goes out
       pub written-line : (out : List ℕ) → length out ≡ n → writtenBy (j .sending) j (a .line) (messageOf (a .line)) out ≡ relayed (networkOf t) a
-      unfolding messageBy
+      unfolding messageBy goesBy
       written-line out h =
           let read = rules-none (networkOf t) a (passed .2) .0 in
           let short = relayed-reads (networkOf t) a (passed .2) (passed .0) .short in
-          sends-it (a .line) read out (omega (arith, h, passed .1)) (j .sending) j (messageBy (networkOf t) a) (d .sends) (omega (arith, short, read-small (a .line) read))
+          sends-it (a .line) read out (omega (arith, h, passed .1)) (j .sending) j (goesBy (networkOf t) a) (messageBy (networkOf t) a) (d .sends) (omega (arith, short, read-small (a .line) read))

@@ -10,16 +10,14 @@ use Rattle.refusal.specs.Rules.{_when_, firstOf, ascendFrom, placeIn}
 use Rattle.refusal.proofs.Rules.{stop}
 use Rattle.laws.specs.Lists.{same}
 use Rattle.octets.proofs.Bytes.{same-true}
-use Rattle.message.specs.Content.{Content}
-use Rattle.table.specs.Network.{Network}
 use Rattle.relay.specs.declared.Command.{Command}
-use Rattle.relay.specs.declared.Command.the-variants.{Sjoin, Part, Quit, Unknown}
-use Rattle.relay.specs.Arrival.{Arrival, said}
+use Rattle.relay.specs.declared.Command.the-variants.{Sjoin, Part, Quit, Bmask, Unknown}
 use Rattle.relay.specs.Commands.{meaningOf, commandAmong}
 use Rattle.relay.proofs.Lawful.{Lawful}
 use Rattle.relay.proofs.Sjoin as joining
 use Rattle.relay.proofs.Part as parting
 use Rattle.relay.proofs.Quit as quitting
+use Rattle.relay.proofs.Bmask as masking
 
 -- ---- any other
 -- it is refused, whatever it says
@@ -44,6 +42,7 @@ pub lawful : (k : Command) → Lawful k
 lawful Sjoin = joining.lawful
 lawful Part = parting.lawful
 lawful Quit = quitting.lawful
+lawful Bmask = masking.lawful
 lawful Unknown = strange
 
 -- ---- the word

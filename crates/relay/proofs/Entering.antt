@@ -12,57 +12,55 @@ use Rattle.laws.specs.Bits.{hasBit}
 use Rattle.message.specs.Grammar.{lineLimit}
 use Rattle.message.specs.Reading.{lineRules, numberFor, isRead}
 use Rattle.message.proofs.Readings.{rules-numbered, number-none, refused-number}
+use Rattle.links.specs.declared.Links.{Links}
 use Rattle.links.specs.Links.{linkCount}
 use Rattle.links.proofs.Sets.{linked}
-use Rattle.table.specs.declared.Table.{Table}
-use Rattle.table.specs.Network.{Network, networkOf}
-use Rattle.table.specs.Table.{goodTable}
+use Rattle.table.specs.Network.{Table, Network, networkOf}
 use Rattle.relay.specs.Arrival.{Arrival}
-use Rattle.relay.specs.Relay.{meaningIn, takenRules, entryRules, processRules}
-use Rattle.relay.specs.Private.Commands.{enteredBy}
+use Rattle.relay.specs.Relay.{meaningIn, takenRules, entryRules, enteringRules, processRules}
 
 -- ---- table, output and link
-module _ (good : Bool) (set link n : ℕ) where
+module _ (good : Bool) (links : Links) (link n : ℕ) where
   -- the table isn't well formed
-  pub entry-ill-formed : good ≡ false → firstOf (enteredBy good n set link) ≡ notWellFormed
+  pub entry-ill-formed : good ≡ false → firstOf (entryRules good n links link) ≡ notWellFormed
   entry-ill-formed g = stop _ _ (ap not g)
 
   module _ (g : good ≡ true) where
     -- the output is too short
-    pub entry-short : n < lineLimit → firstOf (enteredBy good n set link) ≡ outputTooShort
+    pub entry-short : n < lineLimit → firstOf (entryRules good n links link) ≡ outputTooShort
     entry-short h = skip _ _ (ap not g) ∙ stop _ _ (lt-ltb n lineLimit h)
 
-    module _ (h : lineLimit ≤ n) (s : set < 2 ^ linkCount) where
+    module _ (h : lineLimit ≤ n) (s : links .set < 2 ^ linkCount) where
       -- the link is left
-      entry-link : firstOf (enteredBy good n set link) ≡ firstOf (badLink when not (hasBit set link) ∷ [])
-      entry-link = skip _ _ (ap not g) ∙ skip _ _ (le-ltb n lineLimit h) ∙ ap (λ (t : Bool). firstOf (badLink when not t ∷ [])) (linked set link s)
+      entry-link : firstOf (entryRules good n links link) ≡ firstOf (badLink when not (hasBit (links .set) link) ∷ [])
+      entry-link = skip _ _ (ap not g) ∙ skip _ _ (le-ltb n lineLimit h) ∙ ap (λ (t : Bool). firstOf (badLink when not t ∷ [])) (linked (links .set) link s)
 
       -- the link isn't registered
-      pub entry-unlinked : hasBit set link ≡ false → firstOf (enteredBy good n set link) ≡ badLink
+      pub entry-unlinked : hasBit (links .set) link ≡ false → firstOf (entryRules good n links link) ≡ badLink
       entry-unlinked l = entry-link ∙ stop _ _ (ap not l)
 
       -- nothing to refuse
-      pub entry-passes : hasBit set link ≡ true → firstOf (enteredBy good n set link) ≡ accepted
+      pub entry-passes : hasBit (links .set) link ≡ true → firstOf (entryRules good n links link) ≡ accepted
       entry-passes l = entry-link ∙ skip _ _ (ap not l) ∙ first-nil
 
   -- where none applies, the table is well formed
-  pub entry-good : firstOf (enteredBy good n set link) ≡ accepted → good ≡ true
+  pub entry-good : firstOf (entryRules good n links link) ≡ accepted → good ≡ true
   entry-good e = not-false _ (first-none _ _ (λ z. omega arith) e .0)
 
 -- those numbers come first
 module _ (t : Table) (a : Arrival) (n : ℕ) where
   abbrev pub entry : ℕ
-  entry = firstOf (entryRules t a n)
+  entry = firstOf (enteringRules t a n)
 
   -- one of them decides
   pub entry-refuses : (entry ≡ accepted → ⊥) → firstOf (processRules t a n) ≡ entry
   unfolding processRules
-  entry-refuses ne = append-some (takenRules (networkOf t) a) (entryRules t a n) ne
+  entry-refuses ne = append-some (takenRules (networkOf t) a) (enteringRules t a n) ne
 
   -- none applies: the line's own decide
   pub enters : entry ≡ accepted → firstOf (processRules t a n) ≡ firstOf (takenRules (networkOf t) a)
   unfolding processRules
-  enters e = append-none (takenRules (networkOf t) a) (entryRules t a n) refl e
+  enters e = append-none (takenRules (networkOf t) a) (enteringRules t a n) refl e
 
 -- ---- the reader's numbers
 module _ (a : Arrival) where

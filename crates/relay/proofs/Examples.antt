@@ -1,12 +1,11 @@
--- Document 01's whole case: an SJOIN with a later time for `#Race`, from link 3 of 0, 3 and 5; and a PART and a QUIT of its member. What each comes to as computed
--- from the definitions, and so witnesses for the premises of the theorems about taking a line, and what these say. Assumes nothing.
+-- Document 01's whole case, an SJOIN with a later time for `#Race` from link 3 of 0, 3 and 5, and a PART, a QUIT and two BMASKs: what each comes to by the
+-- definitions, witnesses so for the premises of the laws of taking a line, and what these say. That no list has masks yet is known by law. Assumes nothing.
 use Prim.Native.Nat.{ℕ, _-_}
 use mathlib.Core.Path.{_≡_, refl, ap, _∙_}
-use mathlib.Core.Bool.{true, false, not, _&&_}
-use mathlib.Core.List.{List, [], _∷_, List·Memᴰ·head, List·Memᴰ·tail, List·Memᴰ·not-nil}
+use mathlib.Core.Bool.{Bool, true, false, not, cond}
+use mathlib.Core.List.{List, [], _∷_, _++_}
 use native.Mathlib.Omega.{arith}
 use lib.ListN.{length, replicate}
-use lib.Dec.{ltb}
 use Rattle.refusal.specs.Numbers.{accepted}
 use Rattle.refusal.specs.Rules.{firstOf}
 use Rattle.refusal.proofs.Rules.{skip, first-nil}
@@ -18,7 +17,7 @@ use Rattle.ascending.specs.Ascending.{insert, put, unite, ascends}
 use Rattle.octets.specs.Decimals.{leadsWithZero, isDecimal, valueFrom, digitsUpTo, digitsOf}
 use Rattle.names.specs.Fold.{fold, sameName}
 use Rattle.names.specs.Names.{isChannel, isServerId, isUserId}
-use Rattle.links.specs.Links.{isLink, links, setBelow, lessLink, relaySet, linksFrom, linksIn}
+use Rattle.links.specs.Links.{links, setBelow, lessLink, relaySet, linksFrom, linksIn}
 use Rattle.message.specs.Grammar.{lineLimit, word, spaces, prefix, prefixEnd, commandStart, command, commandEnd, isCommand, rest, params}
 use Rattle.message.specs.Content.{contentIn, prefixIs}
 use Rattle.message.specs.Words.{wordsAt}
@@ -32,42 +31,53 @@ use Rattle.channel.specs.Channel.{Channel, member}
 use Rattle.channel.specs.Record.{encode, decode, emptyRecord}
 use Rattle.channel.specs.Members.{hasMember, others, withMembers, without}
 use Rattle.channel.specs.Standing.{counts, settingsAt, bare, standing}
-use Rattle.channel.specs.WellFormed.{goodTime, goodSettings, goodKey, goodLimit, goodMember, goodMembers, channelTests, inRoom, clear, wellFormed, isBlank}
+use Rattle.channel.specs.WellFormed.{goodTime, goodSettings, goodKey, goodLimit, goodMember, goodMembers, channelTests, inRoom, clear, wellFormed}
 use Rattle.channel.proofs.Fields.{peopled}
 use Rattle.channel.proofs.Examples.{2cd, 1ab, stored}
+use Rattle.bans.specs.Masks.{isMask, masks}
+use Rattle.bans.specs.Slots.{listAt, listWith, emptyList, emptyLists}
+use Rattle.bans.proofs.Slots.{list-there, empty-size, lists-empty, empty-masks, stored-same}
 use Rattle.merging.specs.Settings.{greater, joinSettings}
 use Rattle.merging.specs.Merging.{merge}
-use Rattle.table.specs.declared.Table.{Table}
-use Rattle.table.specs.Table.{goodSlot, holds, alike, distinct, goodNetwork, goodTable}
-use Rattle.table.specs.Network.{networkOf}
+use Rattle.table.specs.Network.{Table, Network, networkOf, withBans, emptiedIf, withList, withNetwork}
+use Rattle.table.specs.Table.{holds, goodNetwork, goodTable}
 use Rattle.table.specs.Slots.{slotIn, firstAt, freeSlot, slotFor, placeOf, slotRules}
+use Rattle.table.proofs.Alone.{alone-good}
 use Rattle.sjoin.specs.Modes.{once, goodLetters, modesByte, parametered, goodArguments, argumentOf, isModes}
 use Rattle.sjoin.specs.Entries.{past, idOf, statusOf, isEntry, memberOf, goodEntries}
 use Rattle.sjoin.specs.Join.{argumentsIn, goodCount, joinRules, channelIn, isTime}
+use Rattle.bmask.specs.Masks.{goodMasks, bmaskRules}
 use Rattle.telling.specs.Telling.{lettersFrom, entryOf, paramsOf}
 use Rattle.retelling.specs.Retelling.{Reads}
-use Rattle.relay.specs.declared.Taken.{Taken}
 use Rattle.relay.specs.declared.Command.the-variants.{Sjoin}
 use Rattle.relay.specs.Arrival.{Arrival, arrival}
-use Rattle.relay.specs.Sjoin.{resulting, joinedRules, joined, outgoing}
+use Rattle.relay.specs.Leaving.{isLast, leftLists}
+use Rattle.relay.specs.Sjoin.{resulting, joinedRules, isEarlier, joined, outgoing}
 use Rattle.relay.specs.Part.{partRules, partedRules, parted}
 use Rattle.relay.specs.Quit.{quitRules, quitted}
+use Rattle.relay.specs.Bmask.{isLater, masksWith, maskedRules, masked}
 use Rattle.relay.specs.Commands.{commandAmong, commandIn}
-use Rattle.relay.specs.Relay.{takenRules, entryRules, networkBy, messageBy, relayed, processRules, processAnswer}
+use Rattle.relay.specs.Relay.{takenRules, enteringRules, networkBy, goesBy, messageBy, relayed, processAnswer}
+use Rattle.relay.proofs.Entering.{enters}
 use Rattle.relay.proofs.Results.{OneChanged}
 use Rattle.relay.proofs.Taking.{taken-good, relayed-reads, join-one, after-alone}
+use Rattle.relay.proofs.Answering.{answer-accepted}
 
 -- the first slot holds the record
 race : Record → List Record
 race r = r ∷ replicate (slotCount - 1) emptyRecord
 
--- links 0, 3 and 5
+-- links 0, 3 and 5, and no masks
 water : Table
-water = record { slots = race (encode stored); links = links 41 }
+water = record { slots = race (encode stored); links = links 41; bans = emptyLists }
 
 -- a line from link 3
 abbrev from3 : List ℕ → Arrival
 from3 line = arrival 3 line
+
+-- no rule of the line refuses it
+abbrev Accepted : List ℕ → Type 0
+Accepted line = firstOf (takenRules (networkOf water) (from3 line)) ≡ accepted
 
 -- `:1AB SJOIN 1200 #race +nt :@1ABAAAAAA 1ABAAAAAB`
 joining : List ℕ
@@ -81,60 +91,139 @@ parting = 58 ∷ 50 ∷ 67 ∷ 68 ∷ 65 ∷ 65 ∷ 65 ∷ 65 ∷ 65 ∷ 65 ∷ 
 quitting : List ℕ
 quitting = 58 ∷ 50 ∷ 67 ∷ 68 ∷ 65 ∷ 65 ∷ 65 ∷ 65 ∷ 65 ∷ 65 ∷ 32 ∷ 81 ∷ 85 ∷ 73 ∷ 84 ∷ 32 ∷ 58 ∷ crlf
 
--- ---- what they come to
-water-good : goodTable water ≡ true
-unfolding water race stored 2cd withMode emptyRecord encode decode padded goodNetwork all goodSlot isBlank wellFormed inRoom clear channelTests goodTime goodSettings goodKey goodLimit goodMembers goodMember isChannel isNameByte isPlain isKey isKeyByte startsWith within hasBit isUserId isServerId isDigit isIdByte ascends distinct alike holds sameName sameBy fold
-water-good = refl
+-- the masks `Loud*` and `*!*@rowdy`
+loud : List ℕ
+loud = 76 ∷ 111 ∷ 117 ∷ 100 ∷ 42 ∷ []
 
-accepts : (firstOf (takenRules (networkOf water) (from3 joining)) ≡ accepted) × (firstOf (takenRules (networkOf water) (from3 parting)) ≡ accepted) × (firstOf (takenRules (networkOf water) (from3 quitting)) ≡ accepted)
+rowdy : List ℕ
+rowdy = 42 ∷ 33 ∷ 42 ∷ 64 ∷ 114 ∷ 111 ∷ 119 ∷ 100 ∷ 121 ∷ []
+
+-- `:1AB WORD 100B #race b :Loud* *!*@rowdy`, the word and the time's last byte being given
+telling : List ℕ → ℕ → List ℕ
+telling word last =
+    58 ∷ 49 ∷ 65 ∷ 66 ∷ 32 ∷ word ++ (32 ∷ 49 ∷ 48 ∷ 48 ∷ last ∷ 32 ∷ 35 ∷ 114 ∷ 97 ∷ 99 ∷ 101 ∷ 32 ∷ 98 ∷ 32 ∷ 58 ∷ loud ++ (32 ∷ rowdy ++ crlf))
+
+-- `bmask` at the time 1000, and at the time 1001
+masking : List ℕ
+masking = telling (98 ∷ 109 ∷ 97 ∷ 115 ∷ 107 ∷ []) 48
+
+later : List ℕ
+later = telling (98 ∷ 109 ∷ 97 ∷ 115 ∷ 107 ∷ []) 49
+
+-- ---- what they come to
+stored-well : wellFormed (encode stored) ≡ true
+unfolding stored 2cd withMode encode decode padded wellFormed inRoom clear channelTests goodTime goodSettings goodKey goodLimit goodMembers goodMember isChannel isNameByte isPlain isKey isKeyByte startsWith within hasBit isUserId isServerId isDigit isIdByte ascends all
+stored-well = refl
+
+water-good : goodTable water ≡ true
+unfolding water race
+water-good = alone-good (encode stored) stored-well water (slotCount - 1) (omega arith) refl refl
+
+-- the first list has no masks, so those of the line are all, in folded order
+no-masks : masks (listAt emptyLists 0) ≡ []
+no-masks = ap masks (lists-empty 0 (omega arith)) ∙ empty-masks
+
+both-masks : masksWith (networkOf water) (contentOf masking) ≡ rowdy ∷ loud ∷ []
+unfolding water race stored 2cd masking telling loud rowdy masksWith wordsAt contentOf contentIn isRead numberFor lineRules bodyRules firstOf endsLine sameBy bodyOf all isPlain startsWith prefix word prefixEnd commandStart spaces command isCommand isLetter within commandEnd rest params slotFor firstAt freeSlot holds sameName fold emptyRecord encode decode padded withMode insert put unite compare
+both-masks = rw no-masks
+
+accepts : Accepted joining × Accepted parting × Accepted quitting
 unfolding water race stored 2cd joining parting quitting takenRules slotRules commandAmong capital joinRules goodCount prefixIs isTime isDecimal leadsWithZero valueFrom isDigit isChannel isNameByte isServerId isUserId isIdByte isModes goodLetters once parametered goodArguments argumentsIn placeAmong goodEntries isEntry idOf past wordsAt contentOf contentIn isRead numberFor lineRules bodyRules firstOf endsLine sameBy bodyOf all isPlain startsWith prefix word prefixEnd commandStart spaces command isCommand isLetter within commandEnd rest params joinedRules resulting channelIn argumentOf modesByte memberOf statusOf slotFor firstAt freeSlot holds sameName fold emptyRecord encode decode padded withMode merge settingsAt standing counts bare insert put unite compare greater joinSettings partRules partedRules hasMember quitRules
 accepts = (refl, refl, refl)
+
+-- masks at the channel's time are counted, later ones aren't
+accepts-masks : Accepted masking × Accepted later
+unfolding water race stored 2cd masking later telling loud rowdy takenRules commandAmong capital bmaskRules maskedRules isLater goodMasks isMask prefixIs isTime isDecimal leadsWithZero valueFrom isDigit isChannel isNameByte isServerId isIdByte wordsAt contentOf contentIn isRead numberFor lineRules bodyRules firstOf endsLine sameBy bodyOf all isPlain startsWith prefix word prefixEnd commandStart spaces command isCommand isLetter within commandEnd rest params slotFor firstAt freeSlot holds sameName fold emptyRecord encode decode padded withMode
+accepts-masks = (rw both-masks, refl)
 
 -- the lines that go out: `:1AB SJOIN 1000 #Race + :1ABAAAAAA 1ABAAAAAB`, `:2CDAAAAAA PART #race`, and the QUIT as it came
 goes-out : (relayed (networkOf water) (from3 joining)
     ≡ 58 ∷ 49 ∷ 65 ∷ 66 ∷ 32 ∷ 83 ∷ 74 ∷ 79 ∷ 73 ∷ 78 ∷ 32 ∷ 49 ∷ 48 ∷ 48 ∷ 48 ∷ 32 ∷ 35 ∷ 82 ∷ 97 ∷ 99 ∷ 101 ∷ 32 ∷ 43 ∷ 32 ∷ 58 ∷ 49 ∷ 65 ∷ 66 ∷ 65 ∷ 65 ∷ 65 ∷ 65 ∷ 65 ∷ 65 ∷ 32 ∷ 49 ∷ 65 ∷ 66 ∷ 65 ∷ 65 ∷ 65 ∷ 65 ∷ 65 ∷ 66 ∷ crlf)
     × (relayed (networkOf water) (from3 parting) ≡ 58 ∷ 50 ∷ 67 ∷ 68 ∷ 65 ∷ 65 ∷ 65 ∷ 65 ∷ 65 ∷ 65 ∷ 32 ∷ 80 ∷ 65 ∷ 82 ∷ 84 ∷ 32 ∷ 35 ∷ 114 ∷ 97 ∷ 99 ∷ 101 ∷ crlf)
     × (relayed (networkOf water) (from3 quitting) ≡ quitting)
-unfolding water race stored 2cd joining parting quitting messageBy commandAmong capital written writtenBody writtenPrefix writtenParams writtenParam takesColon withCommand outgoing paramsOf separated prefixed entryOf lettersFrom digitsOf digitsUpTo hasBit isDigit argumentsIn placeAmong idOf past wordsAt contentOf contentIn isRead numberFor lineRules bodyRules firstOf endsLine sameBy bodyOf all isPlain startsWith prefix word prefixEnd commandStart spaces command isCommand isLetter within commandEnd rest params resulting channelIn argumentOf parametered modesByte valueFrom memberOf statusOf slotFor firstAt freeSlot holds sameName fold emptyRecord encode decode padded withMode merge settingsAt standing counts bare insert put unite compare greater joinSettings
+unfolding water race stored 2cd joining parting quitting goesBy messageBy commandAmong capital written writtenBody writtenPrefix writtenParams writtenParam takesColon withCommand outgoing paramsOf separated prefixed entryOf lettersFrom digitsOf digitsUpTo hasBit isDigit argumentsIn placeAmong idOf past wordsAt contentOf contentIn isRead numberFor lineRules bodyRules firstOf endsLine sameBy bodyOf all isPlain startsWith prefix word prefixEnd commandStart spaces command isCommand isLetter within commandEnd rest params resulting channelIn argumentOf parametered modesByte valueFrom memberOf statusOf slotFor firstAt freeSlot holds sameName fold emptyRecord encode decode padded withMode merge settingsAt standing counts bare insert put unite compare greater joinSettings
 goes-out = (refl, refl, refl)
 
--- the slots after: time 1000, k `buoy`, members 1ABAAAAAA 0, 1ABAAAAAB 0, 2CDAAAAAA 2; and none once the member has left
+-- the BMASK goes out as it came, its word in capitals; of the later one nothing does
+masks-go-out : (relayed (networkOf water) (from3 masking) ≡ telling (66 ∷ 77 ∷ 65 ∷ 83 ∷ 75 ∷ []) 48) × (relayed (networkOf water) (from3 later) ≡ [])
+unfolding water race stored 2cd masking later telling loud rowdy goesBy isLater messageBy commandAmong capital written writtenBody writtenPrefix writtenParams writtenParam takesColon withCommand valueFrom contentOf contentIn isRead numberFor lineRules bodyRules firstOf endsLine sameBy bodyOf all isPlain startsWith prefix word prefixEnd commandStart spaces command isCommand isLetter within commandEnd rest params slotFor firstAt freeSlot holds sameName fold emptyRecord encode decode padded withMode
+masks-go-out = (refl, refl)
+
+-- who is on the channel after the SJOIN: 1ABAAAAAA 0, 1ABAAAAAB 0, 2CDAAAAAA 2; the time is 1000 and the key `buoy` still
 after : Channel
 unfolding stored
 after = peopled stored (member (1ab 65) 0 ∷ member (1ab 66) 0 ∷ member 2cd 2 ∷ [])
 
-comes-to : (networkBy (networkOf water) (from3 joining) .slots ≡ race (encode after)) × (networkBy (networkOf water) (from3 parting) .slots ≡ race emptyRecord) × (networkBy (networkOf water) (from3 quitting) .slots ≡ race emptyRecord)
-unfolding water race stored after 1ab 2cd joining parting quitting networkBy joined parted quitted without others withMembers commandAmong capital hasBit argumentsIn placeAmong idOf past wordsAt contentOf contentIn isRead numberFor lineRules bodyRules firstOf endsLine sameBy bodyOf all isPlain startsWith prefix word prefixEnd commandStart spaces command isCommand isLetter within commandEnd rest params resulting channelIn argumentOf parametered modesByte valueFrom memberOf statusOf slotFor firstAt freeSlot holds sameName fold emptyRecord encode decode padded withMode merge settingsAt standing counts bare insert put unite compare greater joinSettings
-comes-to = (refl, refl, refl)
+-- a network with the record alone, and no masks
+alone : Record → Network
+alone r = record { slots = race r; bans = emptyLists }
+
+-- where its list is emptied, it stays as it is
+emptied : (r : Record) → withBans (alone r) (emptiedIf true 0 emptyLists) ≡ alone r
+unfolding alone
+emptied r = ap (withBans (alone r)) (stored-same emptyLists 0 emptyList (list-there emptyLists 0 empty-size (omega arith)) (lists-empty 0 (omega arith)))
+
+-- the network after: the channel with its members, or no channel once the member has left
+comes-to : (networkBy (networkOf water) (from3 joining) ≡ alone (encode after)) × (networkBy (networkOf water) (from3 parting) ≡ alone emptyRecord) × (networkBy (networkOf water) (from3 quitting) ≡ alone emptyRecord)
+unfolding water alone race stored after 1ab 2cd joining parting quitting networkBy joined isEarlier parted quitted isLast leftLists without others withMembers commandAmong capital hasBit argumentsIn placeAmong idOf past wordsAt contentOf contentIn isRead numberFor lineRules bodyRules firstOf endsLine sameBy bodyOf all isPlain startsWith prefix word prefixEnd commandStart spaces command isCommand isLetter within commandEnd rest params resulting channelIn argumentOf parametered modesByte valueFrom memberOf statusOf slotFor firstAt freeSlot holds sameName fold emptyRecord encode decode padded withMode merge settingsAt standing counts bare insert put unite compare greater joinSettings
+comes-to = (refl, emptied emptyRecord, emptied emptyRecord)
+
+-- the first list has both masks; by the later line nothing changes
+masks-come-to : (networkBy (networkOf water) (from3 masking) ≡ withList (networkOf water) 0 (listWith (rowdy ∷ loud ∷ []))) × (networkBy (networkOf water) (from3 later) ≡ networkOf water)
+unfolding water race stored 2cd masking later telling loud rowdy networkBy masked isLater commandAmong capital valueFrom contentOf contentIn isRead numberFor lineRules bodyRules firstOf endsLine sameBy bodyOf all isPlain startsWith prefix word prefixEnd commandStart spaces command isCommand isLetter within commandEnd rest params slotFor firstAt freeSlot holds sameName fold emptyRecord encode decode padded withMode
+masks-come-to = (rw both-masks, refl)
+
+-- ---- the answers
+-- table, output and link pass
+water-enters : (line : List ℕ) → firstOf (enteringRules water (from3 line) lineLimit) ≡ accepted
+unfolding water hasBit
+water-enters line = skip _ _ (ap not water-good) ∙ skip _ _ refl ∙ skip _ _ refl ∙ first-nil
 
 -- the answer to a line that no rule refuses, of its parts
-answer-of : (t : Table) (a : Arrival) (n : ℕ) (slots : List Record) (w : List ℕ) → goodTable t ≡ true → ltb n lineLimit ≡ false → isLink (a .link) && hasBit (t .links .set) (a .link) ≡ true
-    → firstOf (takenRules (networkOf t) a) ≡ accepted → networkBy (networkOf t) a .slots ≡ slots → relayed (networkOf t) a ≡ w
-    → processAnswer t a n ≡ record { number = accepted; table = record { slots = slots; links = t .links }; set = relaySet (t .links) (a .link); count = length (linksIn (relaySet (t .links) (a .link))); len = length w }
-unfolding processAnswer processRules firstOf
-answer-of t a n slots w good room linked none after goes = simp (good, room, linked, none, after, goes)
+answer-of : (line : List ℕ) (out : Bool) (next : Network) (w : List ℕ) → Accepted line
+    → goesBy (networkOf water) (from3 line) ≡ out → networkBy (networkOf water) (from3 line) ≡ next → relayed (networkOf water) (from3 line) ≡ w
+    → let set : ℕ = cond out (relaySet (water .links) 3) 0 in
+    processAnswer water (from3 line) lineLimit ≡ record { number = accepted; table = withNetwork water next; len = length w; set = set; count = length (linksIn set) }
+answer-of line out next w none g e f = answer-accepted water (from3 line) lineLimit (enters water (from3 line) lineLimit (water-enters line) ∙ none) ∙ rw (f, e, g)
+
+-- the SJOIN and the first BMASK go out, the later one doesn't
+goes : (goesBy (networkOf water) (from3 joining) ≡ true) × (goesBy (networkOf water) (from3 masking) ≡ true) × (goesBy (networkOf water) (from3 later) ≡ false)
+unfolding water race stored 2cd joining masking later telling loud rowdy goesBy isLater commandAmong capital valueFrom contentOf contentIn isRead numberFor lineRules bodyRules firstOf endsLine sameBy bodyOf all isPlain startsWith prefix word prefixEnd commandStart spaces command isCommand isLetter within commandEnd rest params slotFor firstAt freeSlot holds sameName fold emptyRecord encode decode padded withMode
+goes = (refl, refl, refl)
 
 -- that to the SJOIN: to links 0 and 5, count 2, and 46 bytes, CR LF counted
-answers : processAnswer water (from3 joining) lineLimit ≡ record { number = accepted; table = record { slots = race (encode after); links = water .links }; set = 33; count = 2; len = 46 }
+answers : processAnswer water (from3 joining) lineLimit ≡ record { number = accepted; table = withNetwork water (alone (encode after)); len = 46; set = 33; count = 2 }
 unfolding water relaySet lessLink setBelow linksFrom hasBit
-answers = answer-of water (from3 joining) lineLimit (race (encode after)) _ water-good refl refl (accepts .0) (comes-to .0) (goes-out .0)
+answers = answer-of joining true (alone (encode after)) _ (accepts .0) (goes .0) (comes-to .0) (goes-out .0)
+
+-- that to the BMASK: to the same links, and 42 bytes; to the later one: the table as it was, to no links, and no bytes
+answers-masks : (processAnswer water (from3 masking) lineLimit ≡ record { number = accepted; table = withNetwork water (withList (networkOf water) 0 (listWith (rowdy ∷ loud ∷ []))); len = 42; set = 33; count = 2 })
+    × (processAnswer water (from3 later) lineLimit ≡ record { number = accepted; table = water; len = 0; set = 0; count = 0 })
+unfolding water telling loud rowdy relaySet lessLink setBelow linksFrom hasBit
+answers-masks = (answer-of masking true _ _ (accepts-masks .0) (goes .1) (masks-come-to .0) (masks-go-out .0), answer-of later false _ _ (accepts-masks .1) (goes .2) (masks-come-to .1) (masks-go-out .1))
 
 -- ---- what the laws say of them
 -- each line that goes out reads as its message, and is no longer than the one read
 Passed : List ℕ → Type 0
 Passed line = Reads line (messageBy (networkOf water) (from3 line))
 
-reads : Passed joining × Passed parting × Passed quitting
+passed : (line : List ℕ) → Accepted line → Passed line
 unfolding Passed
-reads = (relayed-reads (networkOf water) (from3 joining) (accepts .0) water-good, relayed-reads (networkOf water) (from3 parting) (accepts .1) water-good, relayed-reads (networkOf water) (from3 quitting) (accepts .2) water-good)
+passed line none = relayed-reads (networkOf water) (from3 line) none water-good
+
+reads : Passed joining × Passed parting × Passed quitting × Passed masking
+reads = (passed joining (accepts .0), passed parting (accepts .1), passed quitting (accepts .2), passed masking (accepts-masks .0))
 
 -- the network stays well formed
 Stays : List ℕ → Type 0
 Stays line = goodNetwork (networkBy (networkOf water) (from3 line)) ≡ true
 
-stays : Stays joining × Stays parting × Stays quitting
+stay : (line : List ℕ) → Accepted line → Stays line
 unfolding Stays
-stays = (taken-good (networkOf water) (from3 joining) (accepts .0) water-good, taken-good (networkOf water) (from3 parting) (accepts .1) water-good, taken-good (networkOf water) (from3 quitting) (accepts .2) water-good)
+stay line none = taken-good (networkOf water) (from3 line) none water-good
+
+stays : Stays joining × Stays parting × Stays quitting × Stays masking × Stays later
+stays = (stay joining (accepts .0), stay parting (accepts .1), stay quitting (accepts .2), stay masking (accepts-masks .0), stay later (accepts-masks .1))
 
 -- the SJOIN changes the first slot
 is-sjoin : commandIn joining ≡ Sjoin
@@ -146,17 +235,17 @@ changes-one = join-one (networkOf water) (from3 joining) water-good is-sjoin (ac
 
 -- and does so whatever the other links are: here link 3 alone is registered
 shore : Table
-shore = record { slots = water .slots; links = links 8 }
+shore = record { slots = water .slots; links = links 8; bans = water .bans }
 
 shore-good : goodTable shore ≡ true
 unfolding shore
 shore-good = water-good
 
--- table, output and link pass on either
-enters : (firstOf (entryRules water (from3 joining) lineLimit) ≡ accepted) × (firstOf (entryRules shore (from3 joining) lineLimit) ≡ accepted)
-unfolding water shore hasBit
-enters = (skip _ _ (ap not water-good) ∙ skip _ _ refl ∙ skip _ _ refl ∙ first-nil, skip _ _ (ap not shore-good) ∙ skip _ _ refl ∙ skip _ _ refl ∙ first-nil)
+-- table, output and link pass here too
+shore-enters : firstOf (enteringRules shore (from3 joining) lineLimit) ≡ accepted
+unfolding shore hasBit
+shore-enters = skip _ _ (ap not shore-good) ∙ skip _ _ refl ∙ skip _ _ refl ∙ first-nil
 
 whichever-links : networkOf (processAnswer water (from3 joining) lineLimit .table) ≡ networkOf (processAnswer shore (from3 joining) lineLimit .table)
 unfolding shore
-whichever-links = after-alone water shore (from3 joining) lineLimit lineLimit refl (enters .0) (enters .1) .1
+whichever-links = after-alone water shore (from3 joining) lineLimit lineLimit refl (water-enters joining) shore-enters .1

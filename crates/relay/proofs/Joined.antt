@@ -2,7 +2,7 @@
 -- changes, by a channel opened or merged. Assumes nothing.
 use Prim.Native.Nat.{ℕ, _≤_}
 use mathlib.Core.Path.{_≡_, refl, sym, ap, _∙_}
-use mathlib.Core.Bool.{true, false, not}
+use mathlib.Core.Bool.{Bool, true, false, not}
 use mathlib.Core.Logic.{_⊎_, inl, inr}
 use mathlib.Core.List.{List, _∷_, _++_, map, append-assoc}
 use native.Mathlib.Omega.{arith}
@@ -14,6 +14,8 @@ use Rattle.refusal.specs.Rules.{Rule, _when_, firstOf}
 use Rattle.refusal.proofs.Rules.{skip, first-nil, first-none, numbered, append-some, append-none, both-none}
 use Rattle.octets.specs.Bytes.{capital}
 use Rattle.octets.proofs.Bytes.{same-refl}
+use Rattle.links.specs.declared.Links.{Links}
+use Rattle.links.specs.Links.{hasLink}
 use Rattle.message.specs.Grammar.{lineLimit}
 use Rattle.message.specs.Reading.{bodyRules, lineRules, numberFor, isRead, contentOf}
 use Rattle.message.proofs.Readings.{refused-number}
@@ -21,23 +23,22 @@ use Rattle.channel.specs.Limits.{memberLimit}
 use Rattle.channel.specs.Channel.{Channel}
 use Rattle.channel.specs.Record.{encode, decode, emptyRecord}
 use Rattle.channel.proofs.Proper.{Proper}
+use Rattle.bans.specs.Slots.{listAt, emptyList}
+use Rattle.bans.proofs.Slots.{stored-same, empty-whole}
 use Rattle.merging.specs.Merging.{merge}
-use Rattle.links.specs.declared.Links.{Links}
-use Rattle.links.specs.Links.{hasLink}
-use Rattle.table.specs.declared.Table.{Table}
 use Rattle.table.specs.declared.Slot.the-variants.{Held, Free}
-use Rattle.table.specs.Network.{Network, networkOf, withSlots}
+use Rattle.table.specs.Network.{Table, Network, networkOf, withSlots, emptiedIf}
 use Rattle.table.specs.Table.{goodTable}
-use Rattle.sjoin.specs.Join.{joinRules, channelIn}
-use Rattle.telling.specs.Telling.{sjoin}
-use Rattle.sjoin.proofs.Wellformed.{read-proper}
 use Rattle.table.specs.Slots.{slotIn}
+use Rattle.sjoin.specs.Join.{joinRules, channelIn}
+use Rattle.sjoin.proofs.Wellformed.{read-proper}
+use Rattle.telling.specs.Telling.{sjoin}
 use Rattle.relay.specs.declared.Command.the-variants.{Sjoin}
 use Rattle.relay.specs.Arrival.{Arrival, said}
-use Rattle.relay.specs.Sjoin.{resulting, joinedRules, joined}
+use Rattle.relay.specs.Sjoin.{resulting, joinedRules, isEarlier, joined}
 use Rattle.relay.specs.Commands.{commandAmong, commandIn}
 use Rattle.relay.specs.Relay.{meaningIn, takenRules, processRules}
-use Rattle.relay.proofs.Results.{slot-told, room-left}
+use Rattle.relay.proofs.Results.{slot-told, room-left, earlier-free}
 
 -- ---- the rules
 -- a line that reads as SJOIN, or isn't read
@@ -122,14 +123,18 @@ module _ (n : Network) (c : Channel) (k : ℕ) where
   -- the channel is new
   pub opened : slotIn n (c .name) ≡ Free k → joined n c ≡ withSlots n (set (n .slots) k (encode c))
   unfolding joined resulting
-  opened e = rw e
+  opened e = rw (earlier-free n c k e, e)
 
   -- the channel is there
   module _ (e : slotIn n (c .name) ≡ Held k) where
-    -- what is told is merged into it
-    pub merged : joined n c ≡ withSlots n (set (n .slots) k (encode (merge (decode (getD (n .slots) k emptyRecord)) c)))
+    -- what is told is merged into it; where it has no masks, its list stays as it is
+    pub merged : listAt (n .bans) k ≡ emptyList .room → joined n c ≡ withSlots n (set (n .slots) k (encode (merge (decode (getD (n .slots) k emptyRecord)) c)))
     unfolding joined resulting
-    merged = rw e
+    merged z = rw e (ap (λ (b : List ℕ). record { slots = set (n .slots) k (encode (merge (decode (getD (n .slots) k emptyRecord)) c)); bans = b }) (unmasked (isEarlier n c)))
+      where
+        unmasked : (b : Bool) → emptiedIf b k (n .bans) ≡ n .bans
+        unmasked true = stored-same (n .bans) k emptyList (ap (λ (s : List ℕ). length s) z ∙ empty-whole) z
+        unmasked false = refl
 
     -- and has room for the members of both
     pub merge-room : length (merge (decode (getD (n .slots) k emptyRecord)) c .members) ≤ memberLimit → firstOf (joinedRules n c) ≡ accepted

@@ -22,16 +22,16 @@ use Rattle.relay.specs.Meaning.{Meaning}
 use Rattle.relay.specs.Private.Work.{unchanged}
 use Rattle.relay.specs.Private.Acting.{doneBy}
 
--- what is sent of a message c is the message d
-abbrev pub Sends : Sending → Change → Content → Content → Type 0
-Sends Silent j c d = ⊥
-Sends AsRead j c d = inCapitals c ≡ d
-Sends Anew j c d = joinMessage (sourceIn c) (decode (j .told)) ≡ d
+-- what is sent of a message c is the message d, if it goes out at all
+abbrev pub Sends : Sending → Change → Content → Bool → Content → Type 0
+Sends Silent j c goes d = goes ≡ false
+Sends AsRead j c goes d = (goes ≡ true) × (inCapitals c ≡ d)
+Sends Anew j c goes d = (goes ≡ true) × (joinMessage (sourceIn c) (decode (j .told)) ≡ d)
 
 -- What is done, and what goes out, is what the command means.
 pub record Does (m : Meaning) (n : Network) (a : Arrival) (j : Change) : Type 0 where
-  pub network : doneBy (j .deed) j n ≡ m .after n a
-  pub sends : Sends (j .sending) j (said a) (m .out n a)
+  pub network : doneBy (j .deed) j (said a) n ≡ m .after n a
+  pub sends : Sends (j .sending) j (said a) (m .goes n a) (m .out n a)
 
 -- The number is that of the first rule that applies, and where none does, the change does what the command means.
 pub record Judged (m : Meaning) (n : Network) (a : Arrival) (j : Change) : Type 0 where

@@ -3,15 +3,14 @@
 use mathlib.Core.Path.{_≡_}
 use mathlib.Core.Bool.{true}
 use mathlib.Core.List.{List, map}
-use Prim.Native.Nat.{ℕ, suc, _≤_}
+use Prim.Native.Nat.{suc}
 use lib.ListN.{length}
 use Rattle.refusal.specs.Numbers.{accepted, tooManyParams}
 use Rattle.refusal.specs.Rules.{Rule, firstOf, ascendFrom, rank}
 use Rattle.octets.specs.Bytes.{capital}
 use Rattle.message.specs.declared.Message.{Message}
 use Rattle.message.specs.Content.{Content}
-use Rattle.message.specs.Reading.{isRead, contentOf, messageOf}
-use Rattle.writer.specs.Form.{written}
+use Rattle.message.specs.Reading.{isRead, messageOf}
 use Rattle.channel.specs.Limits.{slotCount}
 use Rattle.table.specs.Network.{Network}
 use Rattle.table.specs.Table.{goodNetwork}
@@ -44,7 +43,7 @@ pub record Lawful (k : Command) : Type 0 where
   pub asks : (m : Message) (c : Content) → workOf k .asks m c .request .number ≡ accepted
   -- and what that is settled to is the judgement
   pub judged : (n : Network) (a : Arrival) → goodNetwork n ≡ true → length (n .slots) ≡ slotCount → isRead (a .line) ≡ true → firstOf (workOf k .own (said a)) ≡ accepted
-      → (j : Change) → j ≡ settledIn (n .slots) (a .line) (workOf k .asks (messageOf (a .line)) (said a)) → Judged (meaningOf k) n a j
+      → (j : Change) → j ≡ settledIn n (a .line) (workOf k .asks (messageOf (a .line)) (said a)) → Judged (meaningOf k) n a j
   -- a line that no rule refuses keeps the network well formed
   pub keeps : (n : Network) (a : Arrival) → Unrefused (meaningOf k) n a → goodNetwork (meaningOf k .after n a) ≡ true
   -- and the message that goes out can be read

@@ -6,10 +6,12 @@ mod Lawful
 mod AsRead
 mod Entering
 mod Asking
+mod Leaving
 pub mod Results
 mod Sjoin
 mod Part
 mod Quit
+mod Bmask
 mod Commands
 pub mod Taking
 mod Acted

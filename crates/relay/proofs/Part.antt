@@ -1,40 +1,41 @@
 -- PART is lawful: its request is settled to the record that its slot is left with, which keeps its name or is empty, and the line goes out as read. Assumes nothing.
+use Prim.Native.Nat.{ℕ, _≤_, _<_}
 use mathlib.Core.Path.{_≡_, refl, ap, _∙_}
 use mathlib.Core.Bool.{Bool, true, false, not, false≢true}
 use mathlib.Core.List.{List, [], _∷_}
-use Prim.Native.Nat.{ℕ, suc, _≤_, _<_}
 use native.Mathlib.Omega.{arith}
 use lib.ListN.{length, getD, set}
 use borrow.Author.Tests.{le-leb, lt-leb, not-false}
-use Rattle.refusal.specs.Numbers.{accepted, tooManyParams, wrongParamCount, badSource, badName, noSuchChannel, notOnChannel}
-use Rattle.refusal.specs.Rules.{_when_, firstOf, ascendFrom, placeIn, rank}
+use Rattle.refusal.specs.Numbers.{accepted, wrongParamCount, badSource, badName, noSuchChannel, notOnChannel}
+use Rattle.refusal.specs.Rules.{_when_, firstOf, ascendFrom, placeIn}
 use Rattle.refusal.proofs.Rules.{skip, stop, first-nil, first-none, numbered, append-some, append-none, both-none}
-use Rattle.laws.proofs.Bools.{and-intro}
-use Rattle.laws.proofs.Replaced.{all-set}
 use Rattle.names.specs.Names.{isChannel, isUserId}
 use Rattle.message.specs.Content.{Content, prefixIs, sourceIn}
 use Rattle.channel.specs.declared.Record.{Record}
 use Rattle.channel.specs.Limits.{slotCount}
 use Rattle.channel.specs.Members.{hasMember, without}
 use Rattle.channel.specs.Record.{decode, emptyRecord}
+use Rattle.bans.specs.Slots.{listAt}
 use Rattle.table.specs.declared.Found.{Found}
 use Rattle.table.specs.declared.Slot.{Slot}
 use Rattle.table.specs.declared.Slot.the-variants.{Held, Free, Full}
-use Rattle.table.specs.Network.{Network, withSlots}
-use Rattle.table.specs.Table.{goodSlot, goodNetwork}
+use Rattle.table.specs.Network.{Network, withSlots, withBans, emptiedIf}
+use Rattle.table.specs.Table.{goodNetwork}
 use Rattle.table.specs.Slots.{slotIn, heldIn, isHeld, placeOf}
 use Rattle.table.proofs.Searching.{slot-held}
-use Rattle.table.proofs.WellFormed.{slots-good, slots-distinct, slots-change}
+use Rattle.table.proofs.WellFormed.{slots-good, slots-distinct, list-good, slot-change}
 use Rattle.table.proofs.Changing.{good-at, without-good, without-keeps, kept-set, distinct-kept}
 use Rattle.relay.specs.declared.Command.the-variants.{Part}
 use Rattle.relay.specs.declared.Change.{Change}
 use Rattle.relay.specs.Arrival.{Arrival, said}
+use Rattle.relay.specs.Leaving.{isLast}
 use Rattle.relay.specs.Part.{partedIn, partRules, partedRules, parted, meaning}
 use Rattle.relay.specs.Private.Part.{parts, partsHeld, partsFound}
 use Rattle.relay.proofs.Judgements.{Judged, refused-judged, settles}
 use Rattle.relay.proofs.Lawful.{BehindReader, Lawful}
 use Rattle.relay.proofs.AsRead.{as-read}
 use Rattle.relay.proofs.Asking.{name-found}
+use Rattle.relay.proofs.Leaving.{left-list}
 
 -- ---- its own rules
 module _ (c : Content) where
@@ -111,7 +112,7 @@ module _ (n : Network) (a : Arrival) where
         where
           go : (t : Bool) → present ≡ t → Judged meaning n a j
           go true h =
-              settles meaning n a accepted (user-decides ∙ skip _ _ (ap not h) ∙ first-nil) j (parts k (without (sourceIn (said a)) held)) refl i (λ _. record { network = rw e; sends = refl }) (f ∙ rw h)
+              settles meaning n a accepted (user-decides ∙ skip _ _ (ap not h) ∙ first-nil) j (parts k held (sourceIn (said a))) refl i (λ _. record { network = rw e; sends = (refl, refl) }) (f ∙ rw h)
           go false h = refused-judged meaning n a notOnChannel (user-decides ∙ stop _ _ (ap not h)) j (λ z. omega (arith, z)) (f ∙ rw h)
 
     settled : length (n .slots) ≡ slotCount → (j : Change) (s : Slot) → slotIn n (partedIn (said a)) ≡ s → j ≡ partsFound s (heldIn (n .slots) s) (sourceIn (said a)) → Judged meaning n a j
@@ -127,7 +128,7 @@ module _ (n : Network) (a : Arrival) where
 
   keeps : goodNetwork n ≡ true → isHeld (slotIn n (partedIn (said a))) ≡ true → goodNetwork (parted n (said a)) ≡ true
   unfolding parted
-  keeps good = go (slotIn n (partedIn (said a)))
+  keeps good = go (slotIn n (partedIn (said a))) refl
     where
       slots : List Record
       slots = n .slots
@@ -135,19 +136,18 @@ module _ (n : Network) (a : Arrival) where
       id : List ℕ
       id = sourceIn (said a)
 
-      go : (s : Slot) → isHeld s ≡ true → goodNetwork (withSlots n (set slots (placeOf slots s) (without id (heldIn slots s)))) ≡ true
-      go (Held k) h =
-          let r = getD slots k emptyRecord in
-          slots-change n good (set slots k (without id r))
-          (all-set goodSlot slots k (without id r) (slots-good n good) (without-good id r (good-at slots k (slots-good n good))))
-          (distinct-kept slots (set slots k (without id r)) (kept-set slots k (without id r) (without-keeps id r)) (slots-distinct n good))
-      go (Free k) h = absurd (false≢true h)
-      go Full h = absurd (false≢true h)
+      left : Slot → Network
+      left s = withBans (withSlots n (set slots (placeOf slots s) (without id (heldIn slots s)))) (emptiedIf (isLast id (heldIn slots s)) (placeOf slots s) (n .bans))
 
-  -- It changes the slots, and all else of the network stays.
-  pub leaves : parted n (said a) ≡ withSlots n (parted n (said a) .slots)
-  unfolding parted
-  leaves = refl
+      go : (s : Slot) → slotIn n (partedIn (said a)) ≡ s → isHeld s ≡ true → goodNetwork (left s) ≡ true
+      go (Held k) e h =
+          let r = getD slots k emptyRecord in
+          let inside = slot-held slots (partedIn (said a)) emptyRecord k e .inside in
+          slot-change n good k inside (without id r) (isLast id r) (without-good id r (good-at slots k (slots-good n good)))
+          (distinct-kept slots (set slots k (without id r)) (kept-set slots k (without id r) (without-keeps id r)) (slots-distinct n good))
+          (left-list id r (listAt (n .bans) k) (list-good n good k emptyRecord inside))
+      go (Free k) e h = absurd (false≢true h)
+      go Full e h = absurd (false≢true h)
 
 -- PART is lawful.
 pub lawful : Lawful Part

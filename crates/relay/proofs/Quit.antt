@@ -1,22 +1,22 @@
 -- QUIT is lawful: nothing in the network refuses it, a slot that loses a member stays good, and the line goes out as read. Assumes nothing.
+use Prim.Native.Nat.{_≤_, _<_}
 use mathlib.Core.Path.{_≡_, refl, ap, _∙_}
 use mathlib.Core.Bool.{true, false, not}
-use mathlib.Core.List.{[], _∷_, map, append-nil}
-use Prim.Native.Nat.{suc, _≤_, _<_}
+use mathlib.Core.List.{[], _∷_, map}
 use native.Mathlib.Omega.{arith}
-use lib.ListN.{length}
+use lib.ListN.{length, length-map}
 use borrow.Author.Tests.{le-leb, lt-leb}
-use Rattle.refusal.specs.Numbers.{accepted, tooManyParams, wrongParamCount, badSource}
-use Rattle.refusal.specs.Rules.{_when_, firstOf, ascendFrom, placeIn, rank}
-use Rattle.refusal.proofs.Rules.{skip, stop, first-nil, numbered}
-use Rattle.laws.proofs.Bools.{and-intro}
+use Rattle.refusal.specs.Numbers.{accepted, wrongParamCount, badSource}
+use Rattle.refusal.specs.Rules.{_when_, firstOf, ascendFrom, placeIn}
+use Rattle.refusal.proofs.Rules.{skip, stop, first-nil}
 use Rattle.laws.proofs.Lists.{all-map}
 use Rattle.names.specs.Names.{isUserId}
 use Rattle.message.specs.Content.{Content, prefixIs, sourceIn}
 use Rattle.channel.specs.Members.{without}
-use Rattle.table.specs.Network.{Network, withSlots}
-use Rattle.table.specs.Table.{goodSlot, goodNetwork}
-use Rattle.table.proofs.WellFormed.{slots-good, slots-distinct, slots-change}
+use Rattle.table.specs.Network.{Network}
+use Rattle.table.specs.Table.{goodNetwork}
+use Rattle.table.specs.Private.Parts.{goodRecord}
+use Rattle.table.proofs.WellFormed.{network-made, slots-few, slots-good, slots-distinct}
 use Rattle.table.proofs.Changing.{without-good, without-keeps, kept-map, distinct-kept}
 use Rattle.relay.specs.declared.Command.the-variants.{Quit}
 use Rattle.relay.specs.declared.Change.{Change}
@@ -27,6 +27,7 @@ use Rattle.relay.specs.Private.Work.{drops}
 use Rattle.relay.proofs.Judgements.{Judged, settles}
 use Rattle.relay.proofs.Lawful.{BehindReader, Lawful}
 use Rattle.relay.proofs.AsRead.{as-read}
+use Rattle.relay.proofs.Leaving.{left-lists}
 
 -- ---- its rules
 module _ (c : Content) where
@@ -56,19 +57,15 @@ module _ (n : Network) (a : Arrival) where
 
   judged : firstOf (quitRules (said a)) ≡ accepted → (j : Change) → j ≡ drops (sourceIn (said a)) AsRead → Judged meaning n a j
   unfolding quitted
-  judged own j e = settles meaning n a accepted own j (drops (sourceIn (said a)) AsRead) refl (omega arith) (λ _. record { network = refl; sends = refl }) e
+  judged own j e = settles meaning n a accepted own j (drops (sourceIn (said a)) AsRead) refl (omega arith) (λ _. record { network = refl; sends = (refl, refl) }) e
 
   keeps : goodNetwork n ≡ true → goodNetwork (quitted n (said a)) ≡ true
   unfolding quitted
   keeps good =
-      let gone = without (sourceIn (said a)) in
-      slots-change n good (map gone (n .slots)) (all-map goodSlot gone (without-good (sourceIn (said a))) (n .slots) (slots-good n good))
-      (distinct-kept (n .slots) (map gone (n .slots)) (kept-map gone (without-keeps (sourceIn (said a))) (n .slots)) (slots-distinct n good))
-
-  -- It changes the slots, and all else of the network stays.
-  pub leaves : quitted n (said a) ≡ withSlots n (quitted n (said a) .slots)
-  unfolding quitted
-  leaves = refl
+      let id = sourceIn (said a) in
+      let gone = without id in
+      network-made (quitted n (said a)) (omega (arith, length-map (n .slots) gone, slots-few n good)) (all-map goodRecord gone (without-good id) (n .slots) (slots-good n good)) (left-lists id n good)
+      (distinct-kept (n .slots) (map gone (n .slots)) (kept-map gone (without-keeps id) (n .slots)) (slots-distinct n good))
 
 -- QUIT is lawful.
 pub lawful : Lawful Quit

@@ -1,20 +1,19 @@
 -- What an incoming channel comes to in the slot that its name uses: it is merged into the record that is there, or opens the lowest free slot, or finds none.
 -- What results is a channel as document 01 has it, and one slot changes. True since a slot keeps its name, or is opened for one that none holds. Assumes nothing.
+use Prim.Native.Nat.{ℕ, _≤_, _<_}
 use mathlib.Core.Path.{_≡_, refl, sym, ap, _∙_}
-use mathlib.Core.Bool.{true, false, not}
+use mathlib.Core.Bool.{Bool, true, false, not}
 use mathlib.Core.Logic.{_⊎_, inl, inr}
 use mathlib.Core.List.{List}
-use Prim.Native.Nat.{ℕ, _≤_, _<_}
 use native.Mathlib.Omega.{arith}
 use lib.ListN.{length, getD, set}
 use lib.Seq.{getD-set-same, getD-set-other}
+use lib.Dec.{ltb}
 use borrow.Author.Tests.{le-ltb, ltb-false}
 use Rattle.refusal.specs.Numbers.{accepted, noFreeSlot}
 use Rattle.refusal.specs.Rules.{firstOf}
 use Rattle.refusal.proofs.Rules.{skip, first-nil, first-none, append-some, append-none, both-none}
-use Rattle.laws.specs.Lists.{all}
 use Rattle.laws.proofs.Lists.{at-all}
-use Rattle.laws.proofs.Replaced.{all-set}
 use Rattle.names.specs.Fold.{sameName}
 use Rattle.names.specs.Names.{isChannel}
 use Rattle.names.proofs.Folds.{name-refl, name-lengths}
@@ -25,21 +24,24 @@ use Rattle.channel.specs.Record.{encode, decode, emptyRecord}
 use Rattle.channel.specs.WellFormed.{wellFormed}
 use Rattle.channel.proofs.Proper.{Proper, proper-fits, well-says, encode-well}
 use Rattle.channel.proofs.Records.{decode-encode}
-use Rattle.merging.specs.declared.Merged.{Merged}
-use Rattle.merging.specs.Merging.{merge, roomRules, mergeRules, mergeAnswer, combined}
+use Rattle.bans.specs.WellFormed.{goodList}
+use Rattle.bans.specs.Slots.{listAt}
+use Rattle.bans.proofs.Slots.{unused-well}
+use Rattle.merging.specs.declared.Combined.{Combined}
+use Rattle.merging.specs.Merging.{merge, answered, roomRules, combined}
 use Rattle.merging.proofs.Proper.{proper-merge}
 use Rattle.merging.proofs.Answers.{combined-merge}
 use Rattle.table.specs.declared.Slot.{Slot}
 use Rattle.table.specs.declared.Slot.the-variants.{Held, Free, Full}
-use Rattle.table.specs.Network.{Network, withSlots}
-use Rattle.table.specs.Table.{isFree, goodSlot, holds, distinct, goodNetwork}
+use Rattle.table.specs.Network.{Network, withSlots, withBans, emptiedIf}
+use Rattle.table.specs.Table.{isFree, holds, distinct, goodNetwork}
 use Rattle.table.specs.Slots.{slotIn, slotNumber, placeOf, slotRules}
 use Rattle.table.proofs.First.{IsFirst}
 use Rattle.table.proofs.Searching.{slot-held, slot-free, number-is}
-use Rattle.table.proofs.WellFormed.{holding-used, holding-name, slots-good, slots-distinct, slots-change}
+use Rattle.table.proofs.WellFormed.{holding-used, holding-name, slots-good, slots-distinct, list-good, slot-change}
 use Rattle.table.proofs.Using.{held-well}
 use Rattle.table.proofs.Changing.{well-used, well-good, kept-set, distinct-kept, distinct-new}
-use Rattle.relay.specs.Sjoin.{resultIn, resulting, joinedRules, joined}
+use Rattle.relay.specs.Sjoin.{resultIn, resulting, joinedRules, isEarlier, joined}
 
 -- ---- its rules
 -- number 21, by the slot that its name uses
@@ -55,6 +57,18 @@ room-left n c e = append-none (roomRules (resulting n c)) (slotRules (n .slots) 
 joined-none : (n : Network) (c : Channel) → firstOf (joinedRules n c) ≡ accepted → (firstOf (slotRules (n .slots) (c .name)) ≡ accepted) × (firstOf (roomRules (resulting n c)) ≡ accepted)
 unfolding joinedRules slotRules
 joined-none n c e = both-none (roomRules (resulting n c)) (slotRules (n .slots) (c .name)) refl e
+
+-- ---- whether its time is earlier
+module _ (n : Network) (c : Channel) (k : ℕ) where
+  -- than that of the record that is there
+  pub earlier-held : slotIn n (c .name) ≡ Held k → isEarlier n c ≡ ltb (encode c .time) (getD (n .slots) k emptyRecord .time)
+  unfolding isEarlier encode
+  earlier-held e = rw e
+
+  -- where there is none, it isn't
+  pub earlier-free : slotIn n (c .name) ≡ Free k → isEarlier n c ≡ false
+  unfolding isEarlier emptyRecord encode
+  earlier-free e = rw e (le-ltb (c .time) 0 (omega arith))
 
 -- ---- by the slot that its name uses
 module _ (n : Network) (c : Channel) (p : Proper c) where
@@ -78,30 +92,20 @@ module _ (n : Network) (c : Channel) (p : Proper c) where
     pub held-inside : k < length (n .slots)
     held-inside = first .inside
 
-    module _ (good : all goodSlot (n .slots) ≡ true) where
-      well : wellFormed held ≡ true
-      well = held-well (n .slots) good (c .name) k e
+    -- its record need not be tested again: what results is the merged channel, where there is room
+    held-merges : combined held (encode c) ≡ answered (roomRules (resulting n c)) held (resulting n c)
+    held-merges = combined-merge held (encode c) (encode-well c p) ∙ ap (λ (d : Channel). answered (roomRules d) held d) (ap (merge (decode held)) back ∙ sym held-result)
 
-      same : sameName (decode held .name) (decode (encode c) .name) ≡ true
-      same = rw back (holding-name (c .name) held (first .passes))
+    left : firstOf (joinedRules n c) ≡ firstOf (roomRules (resulting n c))
+    left = room-left n c (slot-told n c (Held k) e)
 
-      -- both records are well formed and of one channel, so nothing need be tested again
-      held-merges : combined held (encode c) ≡ mergeAnswer held (encode c)
-      held-merges = combined-merge held (encode c) well (encode-well c p) same
+    -- the number is the merging's
+    pub held-number : combined held (encode c) .number ≡ firstOf (joinedRules n c)
+    held-number = ap (λ (m : Combined). m .number) held-merges ∙ sym left
 
-      held-rules : firstOf (mergeRules held (encode c)) ≡ firstOf (joinedRules n c)
-      unfolding mergeRules
-      held-rules = skip _ _ (rw (well, encode-well c p)) ∙ skip _ _ (ap not same) ∙ rw (back, sym held-result) (sym (room-left n c (slot-told n c (Held k) e)))
-
-      -- the number is the merging's
-      pub held-number : combined held (encode c) .number ≡ firstOf (joinedRules n c)
-      unfolding mergeAnswer
-      held-number = ap (λ (m : Merged). m .number) held-merges ∙ held-rules
-
-      -- and so is what results
-      pub held-answer : firstOf (joinedRules n c) ≡ accepted → combined held (encode c) .result ≡ encode (resulting n c)
-      unfolding mergeAnswer
-      held-answer z = ap (λ (m : Merged). m .result) held-merges ∙ rw (held-rules, z, back, held-result)
+    -- and so is what results
+    pub held-answer : firstOf (joinedRules n c) ≡ accepted → combined held (encode c) .result ≡ encode (resulting n c)
+    held-answer z = ap (λ (m : Combined). m .result) held-merges ∙ rw (sym left ∙ z)
 
   -- no slot holds it, and slot k is free
   module _ (k : ℕ) (e : slotIn n (c .name) ≡ Free k) where
@@ -146,8 +150,8 @@ MergesOrOpens old c r = ((holds (c .name) old ≡ true) × (r ≡ encode (merge 
 -- One slot of the network changes: slot k, which comes to hold r.
 pub record OneChanged (n after : Network) (c : Channel) (k : ℕ) (r : Record) : Type 0 where
   pub inside : k < length (n .slots)
-  -- all else of the network stays
-  pub sets : after ≡ withSlots n (set (n .slots) k r)
+  -- its list is emptied if the time is earlier, and all else of the network stays
+  pub sets : after ≡ withBans (withSlots n (set (n .slots) k r)) (emptiedIf (isEarlier n c) k (n .bans))
   pub comes : MergesOrOpens (getD (n .slots) k emptyRecord) c r
   -- slot k holds the name then
   pub holding : (d : Record) → holds (c .name) (getD (after .slots) k d) ≡ true
@@ -199,11 +203,6 @@ module _ (n : Network) (good : goodNetwork n ≡ true) (c : Channel) (p : Proper
           distinct-new (c .name) (encode c) m slots k (at-all (λ r. not (holds (c .name) r)) slots emptyRecord (λ j h. ap not (slot-free slots (c .name) emptyRecord k e .0 j h))) (slots-distinct n good)
       go Full e m = absurd (not-full e)
 
-  -- The network stays well formed.
-  pub joined-good : goodNetwork (joined n c) ≡ true
-  unfolding joined
-  joined-good = slots-change n good (set (n .slots) place result) (all-set goodSlot (n .slots) place result (slots-good n good) (well-good result result-well)) joined-distinct
-
   place-used : (place < length (n .slots)) × MergesOrOpens (getD (n .slots) place emptyRecord) c result × (sameName (resulting n c .name) (c .name) ≡ true)
   unfolding resulting merge
   place-used = go (slotIn n (c .name)) refl
@@ -215,6 +214,20 @@ module _ (n : Network) (good : goodNetwork n ≡ true) (c : Channel) (p : Proper
           (h .inside, inl (h .passes, refl), holding-name (c .name) (getD (n .slots) k emptyRecord) (h .passes))
       go (Free k) e = let h = slot-free (n .slots) (c .name) emptyRecord k e .1 in (h .inside, inr (h .passes, refl), name-refl (c .name))
       go Full e = absurd (not-full e)
+
+  -- the list of a slot that is used already is well formed, and that of a free one is zero, which is a list without masks
+  list-left : goodList true (listAt (n .bans) place) ≡ true
+  unfolding goodList
+  list-left = go (isFree (getD (n .slots) place emptyRecord)) (list-good n good place emptyRecord (place-used .0))
+    where
+      go : (t : Bool) → goodList (not t) (listAt (n .bans) place) ≡ true → goodList true (listAt (n .bans) place) ≡ true
+      go true h = unused-well (listAt (n .bans) place) h
+      go false h = h
+
+  -- The network stays well formed.
+  pub joined-good : goodNetwork (joined n c) ≡ true
+  unfolding joined
+  joined-good = slot-change n good place (place-used .0) result (isEarlier n c) (well-good result result-well) joined-distinct (λ _. rw (well-used result result-well) list-left)
 
   result-holds : holds (c .name) result ≡ true
   unfolding holds

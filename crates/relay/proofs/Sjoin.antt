@@ -5,7 +5,7 @@ use mathlib.Core.Bool.{Bool, true, false}
 use Prim.Native.Nat.{ℕ}
 use native.Mathlib.Omega.{arith}
 use lib.ListN.{length, getD}
-use lib.Dec.{eqb}
+use lib.Dec.{eqb, ltb}
 use Rattle.refusal.specs.Numbers.{accepted, noFreeSlot}
 use Rattle.refusal.specs.Rules.{firstOf, ascendFrom, placeIn}
 use Rattle.refusal.proofs.Rules.{append-some, append-none, both-none}
@@ -19,7 +19,7 @@ use Rattle.channel.specs.Record.{encode, decode, emptyRecord}
 use Rattle.channel.specs.Standing.{counts, settingsAt, standing, bare}
 use Rattle.channel.proofs.Proper.{Proper, proper-fits}
 use Rattle.channel.proofs.Records.{decode-encode}
-use Rattle.merging.specs.declared.Merged.{Merged}
+use Rattle.merging.specs.declared.Combined.{Combined}
 use Rattle.merging.specs.Merging.{combined}
 use Rattle.table.specs.declared.Found.{Found}
 use Rattle.table.specs.declared.Slot.{Slot}
@@ -27,7 +27,6 @@ use Rattle.table.specs.declared.Slot.the-variants.{Held, Free, Full}
 use Rattle.table.specs.Network.{Network}
 use Rattle.table.specs.Table.{goodNetwork}
 use Rattle.table.specs.Slots.{slotIn, heldIn, foundFor, placeOf, slotRules}
-use Rattle.table.proofs.WellFormed.{slots-good}
 use Rattle.sjoin.specs.Join.{joinRules, channelIn}
 use Rattle.telling.specs.Telling.{joinMessage}
 use Rattle.sjoin.proofs.Judged.{rules-numbered}
@@ -37,14 +36,14 @@ use Rattle.retelling.specs.Retelling.{Reads}
 use Rattle.relay.specs.declared.Command.the-variants.{Sjoin}
 use Rattle.relay.specs.declared.Change.{Change}
 use Rattle.relay.specs.Arrival.{Arrival, said}
-use Rattle.relay.specs.Sjoin.{resulting, joinedRules, joined, outgoing, meaning}
+use Rattle.relay.specs.Sjoin.{resulting, joinedRules, isEarlier, joined, outgoing, meaning}
 use Rattle.relay.specs.Private.Work.{nowhere}
 use Rattle.relay.specs.Private.Sjoin.{toldOf, joins, joinsHeld, joinsFound}
 use Rattle.relay.specs.Private.Commands.{lookedUp}
 use Rattle.relay.proofs.Judgements.{Does, Judged, refused-judged, settles}
 use Rattle.relay.proofs.Lawful.{Unrefused, BehindReader, Lawful}
 use Rattle.relay.proofs.Asking.{name-found}
-use Rattle.relay.proofs.Results.{back, held-inside, held-number, held-answer, free-inside, free-result, free-rules, full-rules, result-heads, result-proper, joined-good}
+use Rattle.relay.proofs.Results.{back, earlier-held, earlier-free, held-inside, held-number, held-answer, free-inside, free-result, free-rules, full-rules, result-heads, result-proper, joined-good}
 
 -- ---- what goes out of an incoming record
 told-stands : (result incoming : Record) → decode (toldOf result incoming) ≡ outgoing (decode result) (decode incoming)
@@ -75,13 +74,13 @@ module _ (n : Network) (a : Arrival) where
     -- ---- the judgement
     module _ (good : goodNetwork n ≡ true) (sixteen : length (n .slots) ≡ slotCount) (j : Change) where
       -- slot k is to hold what results
-      joins-it : (k : ℕ) (result : Record) → placeOf (n .slots) (slotIn n (incoming .name)) ≡ k → result ≡ encode (resulting n incoming) → firstOf (joinedRules n incoming) ≡ accepted
-          → Does meaning n a (joins k result (encode incoming))
+      joins-it : (k : ℕ) (emptied : Bool) (result : Record) → placeOf (n .slots) (slotIn n (incoming .name)) ≡ k → emptied ≡ isEarlier n incoming → result ≡ encode (resulting n incoming)
+          → firstOf (joinedRules n incoming) ≡ accepted → Does meaning n a (joins k emptied result (encode incoming))
       unfolding joined
-      joins-it k result e f none =
+      joins-it k emptied result e g f none =
           let whole = decode-encode (resulting n incoming) (proper-fits _ (result-proper n good incoming proper none)) in
           let told = told-stands result (encode incoming) ∙ ap₂ outgoing (ap decode f ∙ whole) (back n incoming proper) in
-          record { network = rw (e, f); sends = ap (joinMessage (sourceIn (said a))) told }
+          record { network = rw (e, g, f); sends = (refl, ap (joinMessage (sourceIn (said a))) told) }
 
       abbrev Sjoined : Type 0
       Sjoined = Judged meaning n a j
@@ -90,14 +89,15 @@ module _ (n : Network) (a : Arrival) where
       unfolding joinsHeld
       settled (Held k) e f =
           let there = getD (n .slots) k emptyRecord in
-          let answer : Merged = combined there (encode incoming) in
-          let number : firstOf (joinedRules n incoming) ≡ answer .number = sym (held-number n incoming proper k e (slots-good n good)) in
-          settles meaning n a (answer .number) (rest ∙ number) j (joins k (answer .result) (encode incoming)) refl (omega (arith, held-inside n incoming proper k e))
-          (λ z. joins-it k (answer .result) (ap (placeOf (n .slots)) e) (held-answer n incoming proper k e (slots-good n good) (number ∙ z)) (number ∙ z)) f
+          let answer : Combined = combined there (encode incoming) in
+          let number : firstOf (joinedRules n incoming) ≡ answer .number = sym (held-number n incoming proper k e) in
+          let earlier = ltb (encode incoming .time) (there .time) in
+          settles meaning n a (answer .number) (rest ∙ number) j (joins k earlier (answer .result) (encode incoming)) refl (omega (arith, held-inside n incoming proper k e))
+          (λ z. joins-it k earlier (answer .result) (ap (placeOf (n .slots)) e) (sym (earlier-held n incoming k e)) (held-answer n incoming proper k e (number ∙ z)) (number ∙ z)) f
       settled (Free k) e f =
           let none = free-rules n incoming proper k e in
-          settles meaning n a accepted (rest ∙ none) j (joins k (encode incoming) (encode incoming)) refl (omega (arith, free-inside n incoming proper k e))
-          (λ _. joins-it k (encode incoming) (ap (placeOf (n .slots)) e) (ap encode (sym (free-result n incoming proper k e))) none) f
+          settles meaning n a accepted (rest ∙ none) j (joins k false (encode incoming) (encode incoming)) refl (omega (arith, free-inside n incoming proper k e))
+          (λ _. joins-it k false (encode incoming) (ap (placeOf (n .slots)) e) (sym (earlier-free n incoming k e)) (ap encode (sym (free-result n incoming proper k e))) none) f
       settled Full e f = refused-judged meaning n a noFreeSlot (rest ∙ full-rules n incoming e) j (λ z. omega (arith, z)) f
 
   -- ---- where no rule refuses it

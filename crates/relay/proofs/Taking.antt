@@ -2,31 +2,32 @@
 -- rule 4 on all depends on the network and the arrival alone. True since every command is lawful. Assumes nothing.
 use Prim.Native.Nat.{ℕ}
 use mathlib.Core.Path.{_≡_, refl, sym, ap, _∙_}
-use mathlib.Core.Bool.{Bool, true, false, cond}
+use mathlib.Core.Bool.{Bool, true, false, true≢false, not, cond, _&&_}
 use mathlib.Core.Logic.{_⊎_, inl, inr}
-use mathlib.Core.List.{[], _∷_, map, List·Memᴰ}
+use mathlib.Core.List.{map}
 use lib.Dec.{eqb}
-use borrow.Author.Tests.{eq-eqb, eqb-true, eqb-false}
-use Rattle.refusal.specs.Numbers.{accepted, notWellFormed, outputTooShort, badLink}
+use borrow.Author.Tests.{eq-eqb, eqb-true, not-false}
+use Rattle.refusal.specs.Numbers.{accepted}
 use Rattle.refusal.specs.Rules.{firstOf, emitted, ascend, ascendFrom, placeIn}
 use Rattle.refusal.proofs.Rules.{both-none}
+use Rattle.laws.specs.Lists.{same, sameBy}
 use Rattle.octets.specs.Bytes.{capital}
 use Rattle.message.specs.Reading.{bodyRules, lineRules, numberFor, isRead}
 use Rattle.message.proofs.Readings.{rules-numbered}
 use Rattle.channel.specs.Record.{encode}
-use Rattle.table.specs.declared.Table.{Table}
-use Rattle.table.specs.Network.{Network, networkOf, withSlots}
-use Rattle.table.specs.Table.{goodNetwork, goodTable}
+use Rattle.table.specs.Network.{Table, Network, networkOf}
+use Rattle.table.specs.Table.{goodNetwork}
 use Rattle.table.specs.Slots.{slotIn, placeOf}
 use Rattle.sjoin.specs.Join.{channelIn}
 use Rattle.sjoin.proofs.Wellformed.{read-proper}
 use Rattle.retelling.specs.Retelling.{Reads}
 use Rattle.relay.specs.declared.Command.{Command}
-use Rattle.relay.specs.declared.Command.the-variants.{Sjoin, Unknown}
+use Rattle.relay.specs.declared.Command.the-variants.{Sjoin, Part, Quit, Bmask, Unknown}
 use Rattle.relay.specs.Arrival.{Arrival, said}
 use Rattle.relay.specs.Sjoin.{resulting, joined}
+use Rattle.relay.specs.Bmask.{bmask, isLater, masked}
 use Rattle.relay.specs.Commands.{commands, meaningOf, commandIn}
-use Rattle.relay.specs.Relay.{meaningIn, takenRules, networkBy, messageBy, relayed, entryRules, processRules, processAnswer, sent}
+use Rattle.relay.specs.Relay.{meaningIn, takenRules, networkBy, goesBy, messageBy, relayed, enteringRules, processRules, processAnswer, sent}
 use Rattle.relay.proofs.Lawful.{Unrefused}
 use Rattle.relay.proofs.Commands.{unknown-refused, lawful, word-of}
 use Rattle.relay.proofs.Entering.{enters}
@@ -65,13 +66,37 @@ module _ (n : Network) (a : Arrival) (none : firstOf (takenRules n a) ≡ accept
     unfolding messageBy
     relayed-reads = lawful (commandIn (a .line)) .reads n a passes
 
+  -- It goes out, unless it is a BMASK that is later than its channel.
+  pub goes-unless : goesBy n a ≡ not (same (map capital (said a .command)) bmask && isLater n (said a))
+  unfolding goesBy sameBy
+  goes-unless = rw has-word (go (commandIn (a .line)))
+    where
+      go : (k : Command) → meaningOf k .goes n a ≡ not (same (meaningOf k .word) bmask && isLater n (said a))
+      go Sjoin = refl
+      go Part = refl
+      go Quit = refl
+      go Bmask = refl
+      go Unknown = refl
+
+-- A line that doesn't go out leaves the network as it is.
+pub silent-stays : (n : Network) (a : Arrival) → goesBy n a ≡ false → networkBy n a ≡ n
+unfolding goesBy networkBy masked
+silent-stays n a e = go (commandIn (a .line)) e
+  where
+    go : (k : Command) → meaningOf k .goes n a ≡ false → meaningOf k .after n a ≡ n
+    go Sjoin s = absurd (true≢false s)
+    go Part s = absurd (true≢false s)
+    go Quit s = absurd (true≢false s)
+    go Bmask s = rw (not-false (isLater n (said a)) s)
+    go Unknown s = refl
+
 -- ---- an SJOIN changes one slot
 -- its channel is what comes into the network
 pub network-joined : (n : Network) (a : Arrival) → commandIn (a .line) ≡ Sjoin → networkBy n a ≡ joined n (channelIn (said a))
 unfolding networkBy
 network-joined n a is = ap (λ (k : Command). meaningOf k .after n a) is
 
--- An SJOIN that no rule refuses changes the slot that its channel's name uses, and nothing else of the network.
+-- An SJOIN that no rule refuses changes the slot that its channel's name uses, and nothing else of the network but that slot's ban list, by an earlier time.
 pub join-one : (n : Network) (a : Arrival) → goodNetwork n ≡ true → commandIn (a .line) ≡ Sjoin → firstOf (takenRules n a) ≡ accepted
     → OneChanged n (networkBy n a) (channelIn (said a)) (placeOf (n .slots) (slotIn n (channelIn (said a) .name))) (encode (resulting n (channelIn (said a))))
 join-one n a good is none =
@@ -104,7 +129,7 @@ module _ (t : Table) (a : Arrival) (n : ℕ) where
       go false e = rw e
 
   -- Where none of the rules of table, output and link applies, the answer is that of the network and the arrival.
-  pub from-four : firstOf (entryRules t a n) ≡ accepted
+  pub from-four : firstOf (enteringRules t a n) ≡ accepted
       → (processAnswer t a n .number ≡ firstOf (takenRules (networkOf t) a))
       × (networkOf (processAnswer t a n .table) ≡ networkThen (networkOf t) a)
       × (sent t a n ≡ emitted (takenRules (networkOf t) a) (relayed (networkOf t) a))
@@ -115,7 +140,7 @@ module _ (t : Table) (a : Arrival) (n : ℕ) where
 
 -- So two tables that hold the same network, where none of those rules applies in either, give an arrival one number, one network and one line, whatever else their
 -- links are.
-pub after-alone : (t u : Table) (a : Arrival) (n m : ℕ) → networkOf t ≡ networkOf u → firstOf (entryRules t a n) ≡ accepted → firstOf (entryRules u a m) ≡ accepted
+pub after-alone : (t u : Table) (a : Arrival) (n m : ℕ) → networkOf t ≡ networkOf u → firstOf (enteringRules t a n) ≡ accepted → firstOf (enteringRules u a m) ≡ accepted
     → (processAnswer t a n .number ≡ processAnswer u a m .number)
     × (networkOf (processAnswer t a n .table) ≡ networkOf (processAnswer u a m .table))
     × (sent t a n ≡ sent u a m)

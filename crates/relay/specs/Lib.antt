@@ -1,8 +1,10 @@
 pub mod Arrival
 pub mod Meaning
+pub mod Leaving
 pub mod Sjoin
 pub mod Part
 pub mod Quit
+pub mod Bmask
 pub mod Commands
 pub mod Relay
 pub mod Private

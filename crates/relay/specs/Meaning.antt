@@ -1,5 +1,6 @@
 -- What a command means. Each command's own file has one such record; `meaningOf` (Commands.antt) gives it.
 use Prim.Native.Nat.{ℕ}
+use mathlib.Core.Bool.{Bool}
 use mathlib.Core.List.{List}
 use Rattle.refusal.specs.Rules.{Rule}
 use Rattle.message.specs.Content.{Content}
@@ -14,5 +15,7 @@ pub record Meaning : Type 0 where
   pub rules : Network → Arrival → List Rule
   -- the network after it
   pub after : Network → Arrival → Network
+  -- whether it goes out: a line that comes too late to count doesn't
+  pub goes : Network → Arrival → Bool
   -- the message that goes out
   pub out : Network → Arrival → Content

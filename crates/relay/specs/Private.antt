@@ -3,5 +3,6 @@ pub mod Work
 pub mod Sjoin
 pub mod Part
 pub mod Quit
+pub mod Bmask
 pub mod Commands
 pub mod Acting

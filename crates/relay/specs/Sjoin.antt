@@ -1,6 +1,9 @@
--- SJOIN (document 01, 'SJOIN' and 'What goes out'): the channel that the line tells of is merged into the slot that its name uses, or opens it.
+-- SJOIN (document 01, 'SJOIN' and 'What goes out'; document 02, §2): the channel that the line tells of is merged into the slot that its name uses, or opens it.
+use Prim.Native.Nat.{ℕ}
+use mathlib.Core.Bool.{Bool, true}
 use mathlib.Core.List.{List, _++_}
 use lib.ListN.{set}
+use lib.Dec.{ltb}
 use Rattle.refusal.specs.Rules.{Rule}
 use Rattle.channel.specs.Channel.{Channel}
 use Rattle.channel.specs.Record.{encode, decode}
@@ -8,7 +11,7 @@ use Rattle.channel.specs.Standing.{channelAt}
 use Rattle.merging.specs.Merging.{merge, roomRules}
 use Rattle.table.specs.declared.Slot.{Slot}
 use Rattle.table.specs.declared.Slot.the-variants.{Held, Free, Full}
-use Rattle.table.specs.Network.{Network, withSlots}
+use Rattle.table.specs.Network.{Network, withSlots, withBans, emptiedIf}
 use Rattle.table.specs.Slots.{slotIn, heldIn, placeOf, slotRules}
 use Rattle.sjoin.specs.Join.{joinRules, channelIn}
 use Rattle.telling.specs.Telling.{sjoin, joinMessage}
@@ -30,9 +33,15 @@ resulting n c = resultIn n c (slotIn n (c .name))
 unfoldable pub joinedRules : Network → Channel → List Rule
 joinedRules n c = slotRules (n .slots) (c .name) ++ roomRules (resulting n c)
 
--- the slot holds what results, and all else of the network stays
+-- "An SJOIN with an earlier time empties the list": earlier than that of the channel that is there
+unfoldable pub isEarlier : Network → Channel → Bool
+isEarlier n c = ltb (c .time) (heldIn (n .slots) (slotIn n (c .name)) .time)
+
+-- the slot holds what results, an earlier time empties its ban list, and all else of the network stays
 unfoldable pub joined : Network → Channel → Network
-joined n c = withSlots n (set (n .slots) (placeOf (n .slots) (slotIn n (c .name))) (encode (resulting n c)))
+joined n c =
+    let k : ℕ = placeOf (n .slots) (slotIn n (c .name)) in
+    withBans (withSlots n (set (n .slots) k (encode (resulting n c)))) (emptiedIf (isEarlier n c) k (n .bans))
 
 -- what goes out is the incoming channel as it stands at the resulting time, under the stored spelling: for a later incoming time without modes, and bare ids
 unfoldable pub outgoing : Channel → Channel → Channel
@@ -43,5 +52,6 @@ meaning = record {
   word = sjoin;
   rules = λ n a. joinRules (said a) ++ joinedRules n (channelIn (said a));
   after = λ n a. joined n (channelIn (said a));
+  goes = λ n a. true;
   out = λ n a. let c : Channel = channelIn (said a) in joinMessage (sourceIn (said a)) (outgoing (resulting n c) c);
 }

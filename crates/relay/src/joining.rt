@@ -40,6 +40,7 @@ pub(crate) fn join_request(line: &[u8], m: Message) -> Asked
     let request = Request {
         name,
         user: [0u8; USER_ID],
+        time: 0,
         command: Command::Sjoin,
         number,
     };
@@ -86,9 +87,9 @@ fn outgoing(result: Record, incoming: Record) -> Record
     }
 }
 
-// An incoming record is to change what slot k holds into the record that results.
-fn joins(k: usize, result: Record, incoming: Record) -> Change
-    ensures { λ r. ⌜ r ≡ joinsOf k result incoming ⌝ }
+// An incoming record is to change what slot k holds into the record that results, and its ban list is to be emptied if so.
+fn joins(k: usize, emptied: bool, result: Record, incoming: Record) -> Change
+    ensures { λ r. ⌜ r ≡ joinsOf k emptied result incoming ⌝ }
 {
     let told = outgoing(result, incoming);
     Change {
@@ -96,13 +97,15 @@ fn joins(k: usize, result: Record, incoming: Record) -> Change
         deed: Deed::Set,
         sending: Sending::Anew,
         slot: k,
+        emptied,
         record: result,
         told,
         user: [0u8; USER_ID],
     }
 }
 
-// An incoming record is to be merged into the one that slot k holds. Both are well formed, and of one channel: neither is tested again.
+// An incoming record is to be merged into the one that slot k holds; an earlier time empties its ban list. Both are well formed, and of one channel: neither
+// is tested again.
 fn joins_held(k: usize, held: Record, incoming: Record) -> Change
     ensures { λ r. ⌜ r ≡ joinsHeld k held incoming ⌝ }
 {
@@ -111,7 +114,7 @@ fn joins_held(k: usize, held: Record, incoming: Record) -> Change
     if number != ACCEPTED {
         return refusal(number);
     }
-    joins(k, merged.result, incoming)
+    joins(k, incoming.time < held.time, merged.result, incoming)
 }
 
 // An incoming record is to be merged into the one that has its name, or opens the lowest free slot.
@@ -120,7 +123,7 @@ pub(crate) fn joins_found(slot: Slot, held: Record, incoming: Record) -> Change
 {
     match slot {
         Slot::Held(k) => joins_held(k, held, incoming),
-        Slot::Free(k) => joins(k, incoming, incoming),
+        Slot::Free(k) => joins(k, false, incoming, incoming),
         Slot::Full => refusal(NO_FREE_SLOT),
     }
 }

@@ -1,5 +1,7 @@
 // PART: what its line asks for, and what that comes to in the slot that its channel uses. Nothing is written.
 ghost use mathlib.Core.Path.{_≡_};
+ghost use mathlib.Core.Bool.{not, _&&_};
+ghost use lib.Dec.{eqb};
 ghost use Rattle.message.specs.Parts.{contentBy};
 ghost use Rattle.relay.specs.declared.Command.the-variants.{Part};
 ghost use Rattle.relay.specs.Private.Commands.{askedBy};
@@ -52,6 +54,7 @@ pub(crate) fn part_request(line: &[u8], m: Message) -> Asked
     let request = Request {
         name,
         user: user_id(source),
+        time: 0,
         command: Command::Part,
         number: ACCEPTED,
     };
@@ -61,7 +64,17 @@ pub(crate) fn part_request(line: &[u8], m: Message) -> Asked
     }
 }
 
-// The user is to leave what slot k holds, if it is there.
+// Whether a slot is emptied, by how many members it had and has.
+fn is_emptied(before: usize, after: usize) -> bool
+    ensures { λ r. ⌜ r ≡ not (eqb before 0) && eqb after 0 ⌝ }
+{
+    if before == 0 {
+        return false;
+    }
+    after == 0
+}
+
+// The user is to leave what slot k holds, if it is there; the ban list goes with the last member.
 fn parts_held(k: usize, held: Record, user: [u8; USER_ID]) -> Change
     ensures { λ r. ⌜ r ≡ partsHeld k held user ⌝ }
 {
@@ -74,6 +87,7 @@ fn parts_held(k: usize, held: Record, user: [u8; USER_ID]) -> Change
         deed: Deed::Set,
         sending: Sending::AsRead,
         slot: k,
+        emptied: is_emptied(held.count, record.count),
         record,
         told: Record::empty(),
         user: [0u8; USER_ID],

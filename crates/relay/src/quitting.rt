@@ -38,6 +38,7 @@ pub(crate) fn quit_request(line: &[u8], m: Message) -> Asked
     let request = Request {
         name: Span { start: 0, end: 0 },
         user: user_id(source),
+        time: 0,
         command: Command::Quit,
         number: ACCEPTED,
     };
@@ -57,6 +58,7 @@ pub(crate) fn quits(user: [u8; USER_ID]) -> Change
         deed: Deed::Drop,
         sending: Sending::AsRead,
         slot: 0,
+        emptied: false,
         record: none,
         told: none,
         user,

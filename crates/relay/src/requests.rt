@@ -11,6 +11,7 @@ use crate::Asked;
 use crate::Command;
 use crate::Request;
 use crate::joining::join_request;
+use crate::masking::mask_request;
 use crate::parting::part_request;
 use crate::quitting::quit_request;
 use channel::Record;
@@ -46,6 +47,7 @@ pub(crate) fn nothing(number: u8) -> Asked
     let request = Request {
         name: Span { start: 0, end: 0 },
         user: [0u8; USER_ID],
+        time: 0,
         command: Command::Unknown,
         number,
     };
@@ -55,7 +57,7 @@ pub(crate) fn nothing(number: u8) -> Asked
     }
 }
 
-// What a line asks for, with what it reads as: the reader's own number, or the first of the numbers 11 to 18 that applies, or the request.
+// What a line asks for, with what it reads as: the reader's own number, or the first of the numbers 11 to 18 and 26 that applies, or the request.
 pub(crate) fn requested(line: &[u8], parsed: Parsed) -> Asked
     requires { ⌜ parsed ≡ parsedOf (now line) ⌝ }
     ensures { λ r. ⌜ r ≡ askedOf (now (line .entry)) ⌝ }
@@ -74,6 +76,9 @@ pub(crate) fn requested(line: &[u8], parsed: Parsed) -> Asked
     }
     if is_word(word, b"QUIT") {
         return quit_request(line, m);
+    }
+    if is_word(word, b"BMASK") {
+        return mask_request(line, m);
     }
     nothing(UNKNOWN_COMMAND)
 }

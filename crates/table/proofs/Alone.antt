@@ -1,11 +1,11 @@
 -- Tables whose slots are all free, or all but the first: they are well formed, and the first is the slot that a name uses, where it is free or holds that
 -- name. Assumes nothing.
-use mathlib.Core.Path.{_≡_, refl, sym, ap, _∙_}
+use Prim.Native.Nat.{ℕ, zero, suc, _≤_, _<_}
+use mathlib.Core.Path.{_≡_, refl, sym, ap, ap₂, _∙_}
 use mathlib.Core.Bool.{true, false, not, and-false}
 use mathlib.Core.List.{List, _∷_}
-use Prim.Native.Nat.{ℕ, zero, suc}
 use native.Mathlib.Omega.{arith}
-use lib.ListN.{replicate, length-replicate}
+use lib.ListN.{length, replicate, length-replicate}
 use borrow.Author.Tests.{eq-eqb}
 use Rattle.laws.proofs.Bools.{and-intro}
 use Rattle.laws.proofs.Lists.{all-cons, all-replicate}
@@ -18,19 +18,21 @@ use Rattle.channel.specs.WellFormed.{wellFormed}
 use Rattle.channel.proofs.Blank.{empty-free}
 use Rattle.channel.proofs.Records.{decode-encode}
 use Rattle.channel.proofs.Proper.{Proper, proper-fits, encode-well}
-use Rattle.table.specs.declared.Table.{Table}
+use Rattle.bans.specs.Slots.{emptyLists}
 use Rattle.table.specs.declared.Slot.the-variants.{Held, Free}
-use Rattle.table.specs.Table.{isFree, goodSlot, holds, alike, distinct, goodNetwork, goodTable, emptyTable}
+use Rattle.table.specs.Network.{Table, networkOf, emptyNetwork}
+use Rattle.table.specs.Table.{isFree, holds, alike, distinct, goodNetwork, goodTable, emptyTable}
+use Rattle.table.specs.Private.Parts.{goodRecord}
 use Rattle.table.specs.Slots.{firstAt, slotFor}
 use Rattle.table.proofs.Searching.{free-holds, free-found, held-found, held-none}
-use Rattle.table.proofs.WellFormed.{unlike, free-distinct, empty-good}
+use Rattle.table.proofs.WellFormed.{unlike, free-distinct, network-made, empty-lists, empty-good}
 use Rattle.table.proofs.Changing.{well-used, well-good, empty-slot}
 
 -- ---- all free
--- a table whose slots are all free is well formed
-pub free-good : (t : Table) → t .slots ≡ replicate slotCount emptyRecord → goodTable t ≡ true
-unfolding goodNetwork emptyTable
-free-good t e = rw e empty-good
+-- a table whose slots are all free, and whose lists are zero, is well formed
+pub free-good : (t : Table) → networkOf t ≡ emptyNetwork → goodTable t ≡ true
+unfolding emptyTable
+free-good t e = ap goodNetwork e ∙ empty-good
 
 none-holds : (name : List ℕ) (n : ℕ) → firstAt (holds name) (replicate n emptyRecord) ≡ n
 unfolding firstAt
@@ -55,10 +57,14 @@ module _ (r : Record) where
       let e : alike r emptyRecord ≡ false = rw (free-holds (decode r .name) emptyRecord empty-free) (and-false (not (isFree r))) in
       and-intro _ _ (all-replicate (unlike r) emptyRecord n (ap not e)) (free-distinct emptyRecord n empty-free)
 
-  -- a table whose first slot holds a well-formed record, the others free, is well formed
-  pub alone-good : wellFormed r ≡ true → (t : Table) (n : ℕ) → t .slots ≡ r ∷ replicate n emptyRecord → goodTable t ≡ true
-  unfolding goodNetwork
-  alone-good h t n e = rw e (and-intro _ _ (all-cons goodSlot r (replicate n emptyRecord) (well-good r h) (all-replicate goodSlot emptyRecord n empty-slot)) (alone-distinct n))
+  -- a table whose first slot holds a well-formed record, the others free, and whose lists are zero, is well formed
+  pub alone-good : wellFormed r ≡ true → (t : Table) (n : ℕ) → n < slotCount → t .slots ≡ r ∷ replicate n emptyRecord → t .bans ≡ emptyLists → goodTable t ≡ true
+  alone-good h t n few e z =
+      let slots = r ∷ replicate n emptyRecord in
+      let within : length slots ≤ slotCount = omega (arith, length-replicate n emptyRecord) in
+      let made = network-made (record { slots = slots; bans = emptyLists }) within
+      (all-cons goodRecord r (replicate n emptyRecord) (well-good r h) (all-replicate goodRecord emptyRecord n empty-slot)) (empty-lists slots within) (alone-distinct n) in
+      ap goodNetwork (ap₂ (λ (s : List Record) (b : List ℕ). record { slots = s; bans = b }) e z) ∙ made
 
 -- where the first slot holds the name, the name uses it
 pub held-first : (name : List ℕ) (r : Record) (l : List Record) → holds name r ≡ true → slotFor (r ∷ l) name ≡ Held 0

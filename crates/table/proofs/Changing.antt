@@ -21,7 +21,8 @@ use Rattle.channel.specs.WellFormed.{wellFormed}
 use Rattle.channel.proofs.Proper.{well-says}
 use Rattle.channel.proofs.Blank.{empty-free, empty-blank}
 use Rattle.channel.proofs.Removals.{without-free, without-name, without-well}
-use Rattle.table.specs.Table.{isFree, goodSlot, holds, alike, distinct}
+use Rattle.table.specs.Table.{isFree, holds, alike, distinct}
+use Rattle.table.specs.Private.Parts.{goodRecord}
 use Rattle.table.proofs.WellFormed.{good-free, good-used, unlike}
 
 -- ---- a slot that is good
@@ -31,28 +32,28 @@ unfolding decode
 well-used r h = ne-eqb (r .count) 0 (λ e. omega (arith, well-says r h .holds .some, length-take (r .count) (r .members)))
 
 -- a slot with a well-formed record is good
-pub well-good : (r : Record) → wellFormed r ≡ true → goodSlot r ≡ true
+pub well-good : (r : Record) → wellFormed r ≡ true → goodRecord r ≡ true
 well-good r h = good-used r (eqb-false (r .count) 0 (well-used r h)) ∙ h
 
 -- the empty slot is good
-pub empty-slot : goodSlot emptyRecord ≡ true
+pub empty-slot : goodRecord emptyRecord ≡ true
 empty-slot = good-free emptyRecord empty-free ∙ empty-blank
 
 -- one at any place of good slots, past their end the empty one
-pub good-at : (l : List Record) (k : ℕ) → all goodSlot l ≡ true → goodSlot (getD l k emptyRecord) ≡ true
+pub good-at : (l : List Record) (k : ℕ) → all goodRecord l ≡ true → goodRecord (getD l k emptyRecord) ≡ true
 good-at [] k h = empty-slot
-good-at (r ∷ l) zero h = all-head goodSlot r l h
-good-at (r ∷ l) (suc k) h = good-at l k (all-tail goodSlot r l h)
+good-at (r ∷ l) zero h = all-head goodRecord r l h
+good-at (r ∷ l) (suc k) h = good-at l k (all-tail goodRecord r l h)
 
 -- a good slot that a user is taken out of stays good
-pub without-good : (id : List ℕ) (r : Record) → goodSlot r ≡ true → goodSlot (without id r) ≡ true
+pub without-good : (id : List ℕ) (r : Record) → goodRecord r ≡ true → goodRecord (without id r) ≡ true
 without-good id r h = go (isFree r) refl
   where
-    used : (without id r ≡ emptyRecord) ⊎ (wellFormed (without id r) ≡ true) → goodSlot (without id r) ≡ true
+    used : (without id r ≡ emptyRecord) ⊎ (wellFormed (without id r) ≡ true) → goodRecord (without id r) ≡ true
     used (inl e) = rw e empty-slot
     used (inr w) = well-good (without id r) w
 
-    go : (t : Bool) → isFree r ≡ t → goodSlot (without id r) ≡ true
+    go : (t : Bool) → isFree r ≡ t → goodRecord (without id r) ≡ true
     go true e = rw (without-free id r (eqb-true (r .count) 0 e)) empty-slot
     go false e = used (without-well id r (sym (good-used r (eqb-false (r .count) 0 e)) ∙ h))
 

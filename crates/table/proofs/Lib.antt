@@ -5,6 +5,7 @@ pub mod WellFormed
 pub mod Using
 pub mod Changing
 pub mod Alone
+pub mod Questions
 mod Registering
 mod Pairs
 mod Examples

@@ -11,10 +11,8 @@ use Rattle.refusal.proofs.Rules.{skip, stop, first-nil}
 use Rattle.links.specs.declared.Links.{Links}
 use Rattle.links.specs.Links.{linkCount, isLink, withLink, withoutLink}
 use Rattle.links.proofs.Sets.{with-twice, without-twice}
-use Rattle.table.specs.declared.Table.{Table}
-use Rattle.table.specs.declared.Registered.{Registered}
-use Rattle.table.specs.Network.{networkOf, tableOf}
-use Rattle.table.specs.Table.{goodNetwork, goodTable, linkRules, relinked, registerAnswer, unregisterAnswer}
+use Rattle.table.specs.Network.{Table, networkOf, tableOf}
+use Rattle.table.specs.Table.{Relinked, goodNetwork, goodTable, linkRules, relinked, registerAnswer, unregisterAnswer}
 
 -- The rules stand in the order of their numbers: the first in it that applies is given.
 pub rules-ascend : (t : Table) (link : ℕ) → ascend (linkRules t link) ≡ true
@@ -74,7 +72,7 @@ module _ (t : Table) (link : ℕ) (f : Links → Links) (twice : (l : Links) →
   relinked-twice : relinked (relinked t link (f (t .links)) .table) link (f (relinked t link (f (t .links)) .table .links)) ≡ relinked t link (f (t .links))
   relinked-twice = go (goodTable t) refl (isLink link) refl
     where
-      again : (r : Registered) → relinked t link (f (t .links)) ≡ r → relinked (r .table) link (f (r .table .links)) ≡ r → relinked (relinked t link (f (t .links)) .table) link (f (relinked t link (f (t .links)) .table .links)) ≡ relinked t link (f (t .links))
+      again : (r : Relinked) → relinked t link (f (t .links)) ≡ r → relinked (r .table) link (f (r .table .links)) ≡ r → relinked (relinked t link (f (t .links)) .table) link (f (relinked t link (f (t .links)) .table .links)) ≡ relinked t link (f (t .links))
       again r e s = rw e s
 
       go : (g : Bool) → goodTable t ≡ g → (h : Bool) → isLink link ≡ h → relinked (relinked t link (f (t .links)) .table) link (f (relinked t link (f (t .links)) .table .links)) ≡ relinked t link (f (t .links))

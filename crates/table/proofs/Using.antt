@@ -11,14 +11,14 @@ use Rattle.channel.specs.declared.Record.{Record}
 use Rattle.channel.specs.Record.{emptyRecord}
 use Rattle.channel.specs.WellFormed.{wellFormed}
 use Rattle.table.specs.declared.Slot.the-variants.{Held}
-use Rattle.table.specs.Table.{goodSlot}
 use Rattle.table.specs.Slots.{slotFor}
+use Rattle.table.specs.Private.Parts.{goodRecord}
 use Rattle.table.proofs.Searching.{slot-held}
 use Rattle.table.proofs.WellFormed.{good-used, holding-used}
 
 -- Where all slots are good, the slot that holds a name holds a well-formed record.
-pub held-well : (slots : List Record) → all goodSlot slots ≡ true → (name : List ℕ) (k : ℕ) → slotFor slots name ≡ Held k → wellFormed (getD slots k emptyRecord) ≡ true
+pub held-well : (slots : List Record) → all goodRecord slots ≡ true → (name : List ℕ) (k : ℕ) → slotFor slots name ≡ Held k → wellFormed (getD slots k emptyRecord) ≡ true
 held-well slots good name k e =
     let r = getD slots k emptyRecord in
     let f = slot-held slots name emptyRecord k e in
-    sym (good-used r (eqb-false (r .count) 0 (holding-used name r (f .passes)))) ∙ all-at goodSlot slots k emptyRecord good (f .inside)
+    sym (good-used r (eqb-false (r .count) 0 (holding-used name r (f .passes)))) ∙ all-at goodRecord slots k emptyRecord good (f .inside)

@@ -1,9 +1,10 @@
 // The slots of a table, each judged as the record that it holds, and two by their names.
 ghost use mathlib.Core.Path.{_≡_};
-ghost use Rattle.table.specs.Table.{goodSlot, holds as holdsOf, alike as alikeOf};
+ghost use Rattle.table.specs.Table.{holds as holdsOf, alike as alikeOf};
 ghost use Rattle.table.specs.Slots.{freeSlot};
+ghost use Rattle.table.specs.Private.Parts.{goodRecord};
+use crate::Head;
 use crate::Slot;
-use crate::Table;
 use channel::Record;
 use channel::is_blank;
 use channel::is_well_formed;
@@ -11,8 +12,8 @@ use names::equal;
 use octets::part;
 
 // Whether a used slot holds a well-formed record, and a free one is zero.
-pub(crate) fn is_good(r: Record) -> bool
-    ensures { λ t. ⌜ t ≡ goodSlot r ⌝ }
+pub(crate) fn good_record(r: Record) -> bool
+    ensures { λ t. ⌜ t ≡ goodRecord r ⌝ }
 {
     if r.count == 0 {
         return is_blank(r);
@@ -43,7 +44,7 @@ pub(crate) fn alike(r: Record, s: Record) -> bool
 }
 
 // The lowest free slot.
-pub(crate) fn lowest_free(t: Table) -> Slot
+pub(crate) fn lowest_free(t: Head) -> Slot
     ensures { λ r. ⌜ r ≡ freeSlot (t .slots) ⌝ }
 {
     for k in 0..Record::SLOTS {

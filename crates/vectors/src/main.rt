@@ -1,5 +1,5 @@
-// Tries the records of standard input on the reader, the writer, the tests of names, the matching of masks and the relay, and prints what comes of
-// each, then an empty line.
+// Tries the records of standard input on the reader, the writer, the tests of names, the matching of masks, the relay, its ban lists and the merging of records,
+// and prints what comes of each, then an empty line.
 // A record is a word of five bytes, which says what is tried, and then what it is tried on, up to and including LF.
 // The relay's table goes from record to record, and is empty at the start. Bytes after the last LF are no record.
 mod printing;
@@ -7,6 +7,7 @@ mod showing;
 mod steps;
 mod text;
 
+use bans::BanList;
 use libc::STDIN_FILENO;
 use message::LINE_LIMIT;
 use message::Reading;
@@ -18,7 +19,7 @@ use printing::print_number;
 use printing::print_refusal;
 use printing::print_unknown;
 use refusal::ACCEPTED;
-use table::Table;
+use table::Head;
 use text::after_space;
 use text::before_space;
 use text::body;
@@ -31,11 +32,12 @@ const WORD: usize = 5;
 // The most bytes of a record that are kept. A line that is cut there is still over the reader's limit, and so refused as it would be whole.
 const ROOM: usize = 1024;
 
-// What stands between two reads: the bytes so far of the record that is under way, the table after the last one, and whether more input may come.
+// What stands between two reads, the ban lists apart, which are lent: the bytes so far of the record that is under way, the table's head after the last one, and
+// whether more input may come.
 struct Input {
     record: [u8; ROOM],
     len: usize,
-    table: Table,
+    head: Head,
     more: bool,
 }
 
@@ -133,33 +135,54 @@ fn show_by(word: &[u8], rest: &[u8]) {
     print_unknown();
 }
 
-// What is tried on a record's bytes, which end with LF, by its word, and the table after it.
-fn step_by(t: Table, word: &[u8], rest: &[u8]) -> Table {
-    if check::same(word, b"take ") {
-        return steps::take(t, rest);
+// What is asked of the table by a record's word, or tried without one.
+fn ask_by(t: Head, bans: &[u8; BanList::BANS], word: &[u8], rest: &[u8]) {
+    if check::same(word, b"bans ") {
+        steps::ask(t, bans, without_end(rest));
+        return;
     }
-    if check::same(word, b"thin ") {
-        return steps::take_thin(t, rest);
-    }
-    if check::same(word, b"link ") {
-        return steps::link(t, without_end(rest));
-    }
-    if check::same(word, b"drop ") {
-        return steps::drop(t, without_end(rest));
-    }
-    if check::same(word, b"over ") {
-        return steps::start_over();
-    }
-    if check::same(word, b"harm ") {
-        return steps::harm(t);
+    if check::same(word, b"meld ") {
+        steps::meld(t, bans);
+        return;
     }
     show_by(word, rest);
+}
+
+// What is tried on a record's bytes, which end with LF, by its word, and the table's head after it.
+fn step_by(t: Head, bans: &mut [u8; BanList::BANS], word: &[u8], rest: &[u8]) -> Head {
+    if check::same(word, b"take ") {
+        return steps::take(t, bans, rest);
+    }
+    if check::same(word, b"thin ") {
+        return steps::take_thin(t, bans, rest);
+    }
+    if check::same(word, b"link ") {
+        return steps::link(t, bans, without_end(rest));
+    }
+    if check::same(word, b"drop ") {
+        return steps::drop(t, bans, without_end(rest));
+    }
+    if check::same(word, b"over ") {
+        return steps::start_over(bans);
+    }
+    if check::same(word, b"harm ") {
+        return steps::harm(t, bans);
+    }
+    if check::same(word, b"blot ") {
+        return steps::blot(t, bans);
+    }
+    ask_by(t, bans, word, rest);
     t
 }
 
-// A whole record, and the table after it.
-fn show_record(t: Table, record: &[u8]) -> Table {
-    let next = step_by(t, part(record, 0, WORD), part(record, WORD, record.len()));
+// A whole record, and the table's head after it.
+fn show_record(t: Head, bans: &mut [u8; BanList::BANS], record: &[u8]) -> Head {
+    let next = step_by(
+        t,
+        bans,
+        part(record, 0, WORD),
+        part(record, WORD, record.len()),
+    );
     print(b"\n");
     next
 }
@@ -175,32 +198,32 @@ fn with_byte(mut input: Input, b: u8) -> Input {
 }
 
 // The record is whole: it is shown, and the next one begins.
-fn finish(mut input: Input) -> Input {
-    let table = show_record(input.table, part(&input.record, 0, input.len));
-    input.table = table;
+fn finish(mut input: Input, bans: &mut [u8; BanList::BANS]) -> Input {
+    let head = show_record(input.head, bans, part(&input.record, 0, input.len));
+    input.head = head;
     input.len = 0;
     input
 }
 
-fn take_byte(input: Input, b: u8) -> Input {
+fn take_byte(input: Input, bans: &mut [u8; BanList::BANS], b: u8) -> Input {
     let next = with_byte(input, b);
     if b == b'\n' {
-        return finish(next);
+        return finish(next, bans);
     }
     next
 }
 
 // A piece of the input, which may begin and end anywhere in a record.
-fn take_piece(start: Input, piece: &[u8]) -> Input {
+fn take_piece(start: Input, bans: &mut [u8; BanList::BANS], piece: &[u8]) -> Input {
     let mut input = start;
     for i in 0..piece.len() {
-        input = take_byte(input, piece[i]);
+        input = take_byte(input, bans, piece[i]);
     }
     input
 }
 
 // One read. If it fails or the input is at its end, no more may come.
-fn step(mut input: Input) -> Input {
+fn step(mut input: Input, bans: &mut [u8; BanList::BANS]) -> Input {
     let mut piece = [0u8; 4096];
     let got = libc::read(STDIN_FILENO, &mut piece);
     if got <= 0 {
@@ -208,20 +231,21 @@ fn step(mut input: Input) -> Input {
         return input;
     }
     let n = io::count(got, &piece);
-    take_piece(input, &piece[..n])
+    take_piece(input, bans, &piece[..n])
 }
 
 // The turns are counted since nothing else says that the loop ends: the input could go on forever.
 fn main() {
+    let mut bans = [0u8; BanList::BANS];
     let mut input = Input {
         record: [0; ROOM],
         len: 0,
-        table: Table::empty(),
+        head: Head::empty(&mut bans),
         more: true,
     };
     let mut turns = u64::MAX;
     while turns > 0 && input.more {
-        input = step(input);
+        input = step(input, &mut bans);
         turns -= 1;
     }
 }

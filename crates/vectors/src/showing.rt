@@ -1,14 +1,18 @@
-// The table as output: its links, and each used slot with its channel and members.
+// The table as output: its links, and each used slot with its channel, members and masks.
 use crate::printing::add_bytes;
 use crate::printing::add_number;
 use crate::printing::print;
+use crate::printing::print_bytes;
 use crate::printing::print_number;
+use bans::BanList;
+use bans::list_at;
+use bans::mask_at;
 use channel::Member;
 use channel::Record;
 use links::Links;
 use links::has_link;
 use octets::part;
-use table::Table;
+use table::Head;
 
 // One line of output: a label and the links of a set, ascending.
 pub(crate) fn show_links(label: &[u8], set: u32) {
@@ -37,6 +41,14 @@ fn show_members(members: [Member; Record::MEMBERS], count: usize) {
     }
 }
 
+// One line of output for each mask of a list.
+fn show_masks(list: &[u8]) {
+    let n = bans::count(list);
+    for i in 0..n {
+        print_bytes(b"mask ", mask_at(list, i));
+    }
+}
+
 // What every channel has.
 fn add_channel(r: Record) {
     let name = r.name;
@@ -56,8 +68,8 @@ fn add_key_and_limit(r: Record) {
     }
 }
 
-// A used slot: one line of output for its channel, and one for each member.
-fn show_slot(k: usize, r: Record) {
+// A used slot: one line of output for its channel, and one for each member and each mask.
+pub(crate) fn show_slot(k: usize, r: Record, list: &[u8]) {
     if r.count == 0 {
         return;
     }
@@ -67,13 +79,14 @@ fn show_slot(k: usize, r: Record) {
     print(b"\n");
     let members = r.members;
     show_members(members, r.count);
+    show_masks(list);
 }
 
-pub(crate) fn show_table(t: Table) {
+pub(crate) fn show_table(t: Head, bans: &[u8; BanList::BANS]) {
     let links = t.links;
     show_links(b"links", links.set);
     for k in 0..Record::SLOTS {
         let r = t.slots[k];
-        show_slot(k, r);
+        show_slot(k, r, list_at(bans, k));
     }
 }

@@ -1,4 +1,4 @@
--- The words of refusals: document 01's table, shortened.
+-- The words of refusals: document 01's table and 02's additions, shortened.
 use Prim.Native.Nat.{ℕ}
 use Prim.Native.Char.{code}
 use Prim.Native.String.{String, [] as nothing, _∷_ as _then_}
@@ -26,10 +26,12 @@ use Rattle.refusal.specs.Numbers.{
   badName,
   badModes,
   badMembers,
+  badMasks,
   noSuchChannel,
   notOnChannel,
   noFreeSlot,
   tooManyMembers,
+  tooManyMasks,
   textTooLong,
   unwritable,
   noRoom,
@@ -62,7 +64,7 @@ table =
     ∷ emptyPrefix says "prefix empty"
     ∷ badCommand says "command malformed or missing"
     ∷ tooManyParams says "a sixteenth parameter"
-    ∷ unknownCommand says "command not SJOIN, PART or QUIT"
+    ∷ unknownCommand says "command not SJOIN, PART, QUIT or BMASK"
     ∷ wrongParamCount says "too few or too many parameters"
     ∷ badSource says "prefix missing or no id of its kind"
     ∷ badTime says "time malformed or too large"
@@ -70,10 +72,12 @@ table =
     ∷ badName says "bad channel name, or names differ"
     ∷ badModes says "bad modes, key, limit, or their number"
     ∷ badMembers says "bad member list"
+    ∷ badMasks says "bad type or mask list"
     ∷ noSuchChannel says "channel not in the table"
     ∷ notOnChannel says "user not in it"
     ∷ noFreeSlot says "all 16 slots used"
     ∷ tooManyMembers says "more than 64 members would result"
+    ∷ tooManyMasks says "more than 32 masks would result"
     ∷ textTooLong says "mask or text over 512 bytes"
     ∷ unwritable says "message would not read back"
     ∷ noRoom says "no room for what is written"

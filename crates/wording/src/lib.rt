@@ -1,4 +1,4 @@
-// The words of refusals: document 01's, shortened, for people to read beside the number. Each text stands once here, and once in specs/Wording.antt with
+// The words of refusals: those of documents 01 and 02, shortened, for people to read beside the number. Each text stands once here, and once in specs/Wording.antt with
 // the number that it belongs to; a function that answers one where its contract says the other isn't proved. Any later number adds its text to both.
 ghost use mathlib.Core.Path.{_≡_};
 ghost use Prim.Native.Nat.{_≤_};
@@ -7,6 +7,7 @@ ghost use Rattle.wording.specs.Wording.{textLimit, holding, textOf};
 use octets::put;
 use refusal::BAD_COMMAND;
 use refusal::BAD_LINK;
+use refusal::BAD_MASKS;
 use refusal::BAD_MEMBERS;
 use refusal::BAD_MODES;
 use refusal::BAD_NAME;
@@ -24,6 +25,7 @@ use refusal::NOT_ON_CHANNEL;
 use refusal::NOT_WELL_FORMED;
 use refusal::OUTPUT_TOO_SHORT;
 use refusal::TEXT_TOO_LONG;
+use refusal::TOO_MANY_MASKS;
 use refusal::TOO_MANY_MEMBERS;
 use refusal::TOO_MANY_PARAMS;
 use refusal::UNKNOWN_COMMAND;
@@ -68,7 +70,7 @@ pub fn words(number: u8) -> Text
         EMPTY_PREFIX => held(b"prefix empty"),
         BAD_COMMAND => held(b"command malformed or missing"),
         TOO_MANY_PARAMS => held(b"a sixteenth parameter"),
-        UNKNOWN_COMMAND => held(b"command not SJOIN, PART or QUIT"),
+        UNKNOWN_COMMAND => held(b"command not SJOIN, PART, QUIT or BMASK"),
         WRONG_PARAM_COUNT => held(b"too few or too many parameters"),
         BAD_SOURCE => held(b"prefix missing or no id of its kind"),
         BAD_TIME => held(b"time malformed or too large"),
@@ -76,10 +78,12 @@ pub fn words(number: u8) -> Text
         BAD_NAME => held(b"bad channel name, or names differ"),
         BAD_MODES => held(b"bad modes, key, limit, or their number"),
         BAD_MEMBERS => held(b"bad member list"),
+        BAD_MASKS => held(b"bad type or mask list"),
         NO_SUCH_CHANNEL => held(b"channel not in the table"),
         NOT_ON_CHANNEL => held(b"user not in it"),
         NO_FREE_SLOT => held(b"all 16 slots used"),
         TOO_MANY_MEMBERS => held(b"more than 64 members would result"),
+        TOO_MANY_MASKS => held(b"more than 32 masks would result"),
         TEXT_TOO_LONG => held(b"mask or text over 512 bytes"),
         UNWRITABLE => held(b"message would not read back"),
         NO_ROOM => held(b"no room for what is written"),

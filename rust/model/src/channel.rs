@@ -1,7 +1,10 @@
 //! The channel record, keys and merging.
 
+use std::cmp::Ordering;
+
+use crate::bans::{self, Masks};
 use crate::names::{self, UserId};
-use crate::Refusal;
+use crate::{BanList, Refusal};
 
 /// The most members of a channel.
 pub const MEMBERS: usize = 64;
@@ -33,7 +36,7 @@ pub struct Member {
     pub status: u8,
 }
 
-/// A channel as a table's slot holds it.
+/// A channel as a table's slot holds it, its ban list apart.
 #[derive(Clone, Copy, Debug, PartialEq, Eq)]
 pub struct Record {
     /// The name, then zeros.
@@ -54,6 +57,15 @@ pub struct Record {
     pub members: [Member; MEMBERS],
     /// The number of members; 0 exactly in a free slot.
     pub count: usize,
+}
+
+/// A channel with its ban list, which document 02 counts to the record.
+#[derive(Clone, Copy, Debug, PartialEq, Eq)]
+pub struct WholeRecord {
+    /// The channel.
+    pub record: Record,
+    /// Its ban list.
+    pub bans: BanList,
 }
 
 impl Member {
@@ -170,15 +182,30 @@ pub fn add_member(list: &mut Vec<Member>, id: UserId, status: u8) {
     }
 }
 
-/// Merges two whole records, the first one's spelling kept.
-pub fn merge(first: &Record, second: &Record) -> Result<Record, Refusal> {
-    if !first.is_well_formed() || !second.is_well_formed() {
-        return Err(Refusal::IllFormed);
+impl WholeRecord {
+    /// No channel, no masks.
+    pub const EMPTY: WholeRecord = WholeRecord { record: Record::EMPTY, bans: BanList::EMPTY };
+
+    /// The masks, if record and list are well formed.
+    fn masks_if_well_formed(&self) -> Option<Masks> {
+        self.bans.masks().filter(|_| self.record.is_well_formed())
     }
-    if !names::equal(first.name(), second.name()) {
+}
+
+/// Merges two whole records, the first one's spelling kept.
+pub fn merge(first: &WholeRecord, second: &WholeRecord) -> Result<WholeRecord, Refusal> {
+    let masks = first.masks_if_well_formed().ok_or(Refusal::IllFormed)?;
+    let others = second.masks_if_well_formed().ok_or(Refusal::IllFormed)?;
+    if !names::equal(first.record.name(), second.record.name()) {
         return Err(Refusal::BadName);
     }
-    merge_well_formed(first, second)
+    let record = merge_well_formed(&first.record, &second.record)?;
+    let masks = match first.record.time.cmp(&second.record.time) {
+        Ordering::Less => masks,
+        Ordering::Equal => bans::add(&masks, &others)?,
+        Ordering::Greater => others,
+    };
+    Ok(WholeRecord { record, bans: BanList::of(&masks) })
 }
 
 /// SJOIN's three cases in one: a side gives its modes, key, limit and statuses if it has the
@@ -242,7 +269,7 @@ mod tests {
     fn keys_at_equal_times() {
         let a = keyed(record(b"#a", 5, &[(b"1ABAAAAAA", 1)]), b"buoy");
         let b = keyed(record(b"#A", 5, &[(b"1ABAAAAAA", 2)]), b"buoys");
-        let both = merge(&a, &b).unwrap();
+        let both = merge_well_formed(&a, &b).unwrap();
         assert_eq!(both.key(), b"buoys");
         assert_eq!((both.name(), both.members()[0].status), (b"#a".as_slice(), 3));
     }
@@ -251,7 +278,7 @@ mod tests {
     fn an_earlier_time_takes_statuses_and_leaves_members() {
         let old = keyed(record(b"#a", 1000, &[(b"2CDAAAAAA", 2)]), b"buoy");
         let new = record(b"#a", 999, &[(b"1ABAAAAAA", 1)]);
-        let both = merge(&old, &new).unwrap();
+        let both = merge_well_formed(&old, &new).unwrap();
         assert_eq!(both, record(b"#a", 999, &[(b"1ABAAAAAA", 1), (b"2CDAAAAAA", 0)]));
     }
 
@@ -259,17 +286,61 @@ mod tests {
     fn a_later_time_brings_users_alone() {
         let old = record(b"#a", 999, &[(b"2CDAAAAAA", 2)]);
         let new = keyed(record(b"#a", 1000, &[(b"1ABAAAAAA", 1), (b"2CDAAAAAA", 1)]), b"z");
-        let both = merge(&old, &new).unwrap();
+        let both = merge_well_formed(&old, &new).unwrap();
         assert_eq!(both, record(b"#a", 999, &[(b"1ABAAAAAA", 0), (b"2CDAAAAAA", 2)]));
+    }
+
+    /// A record with these masks, which stand in their order.
+    fn whole(record: Record, masks: &[&str]) -> WholeRecord {
+        let masks: Masks = masks.iter().map(|mask| mask.as_bytes().to_vec()).collect();
+        WholeRecord { record, bans: BanList::of(&masks) }
     }
 
     #[test]
     fn refused_merges() {
-        let a = record(b"#a", 5, &[(b"1ABAAAAAA", 0)]);
-        let b = record(b"#b", 5, &[(b"1ABAAAAAA", 0)]);
+        let a = whole(record(b"#a", 5, &[(b"1ABAAAAAA", 0)]), &["x"]);
+        let b = whole(record(b"#b", 5, &[(b"1ABAAAAAA", 0)]), &[]);
+        let unordered = WholeRecord { bans: whole(a.record, &["b", "a"]).bans, ..a };
         assert_eq!(merge(&a, &b), Err(Refusal::BadName));
-        assert_eq!(merge(&a, &Record::EMPTY), Err(Refusal::IllFormed));
-        assert_eq!(merge(&Record::EMPTY, &b), Err(Refusal::IllFormed));
+        for ill in [WholeRecord::EMPTY, unordered, WholeRecord { record: Record::EMPTY, ..a }] {
+            assert_eq!(merge(&b, &ill), Err(Refusal::IllFormed));
+            assert_eq!(merge(&ill, &b), Err(Refusal::IllFormed));
+        }
+    }
+
+    #[test]
+    fn merged_lists() {
+        let member: [(&[u8; 9], u8); 1] = [(b"1ABAAAAAA", 0)];
+        let at = |time, masks: &[&str]| whole(record(b"#a", time, &member), masks);
+        let merged = |a: &WholeRecord, b: &WholeRecord| merge(a, b).unwrap();
+        let (old, new) = (at(5, &["a", "Boat[1]"]), at(5, &["BOAT{1}", "c"]));
+        assert_eq!(merged(&old, &new), at(5, &["a", "Boat[1]", "c"]));
+        assert_eq!(merged(&new, &old), at(5, &["a", "BOAT{1}", "c"]));
+        assert_eq!(merged(&old, &at(6, &["z"])), old);
+        assert_eq!(merged(&at(6, &["z"]), &old), old);
+        assert_eq!(merged(&at(6, &["z"]), &at(5, &[])), at(5, &[]));
+    }
+
+    /// 22 comes before 27, and 27 is given at equal times alone.
+    #[test]
+    fn too_many_members_and_masks() {
+        let names: Vec<String> = (10..43).map(|n| format!("m{n}")).collect();
+        let texts: Vec<&str> = names.iter().map(String::as_str).collect();
+        let ids: Vec<[u8; 9]> =
+            (0..65).map(|n| format!("1ABA{n:05}").into_bytes().try_into().unwrap()).collect();
+        let members: Vec<(&[u8; 9], u8)> = ids.iter().map(|id| (id, 0)).collect();
+        let side = |time, users: std::ops::Range<usize>, masks: std::ops::Range<usize>| {
+            whole(record(b"#a", time, &members[users]), &texts[masks])
+        };
+        let full = side(5, 0..64, 0..32);
+        assert_eq!(merge(&full, &side(5, 64..65, 32..33)), Err(Refusal::ManyMembers));
+        assert_eq!(merge(&full, &side(5, 0..1, 32..33)), Err(Refusal::ManyMasks));
+        assert_eq!(merge(&full, &side(5, 0..1, 31..32)), Ok(full));
+        assert_eq!(merge(&full, &side(6, 0..1, 32..33)), Ok(full));
+        assert_eq!(
+            merge(&full, &side(4, 0..1, 32..33)).unwrap().bans,
+            BanList::of(&[texts[32].into()])
+        );
     }
 
     #[test]

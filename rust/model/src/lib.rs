@@ -7,6 +7,8 @@
 
 #![forbid(unsafe_code)]
 
+pub mod bans;
+pub mod bmask;
 pub mod channel;
 pub mod feeder;
 pub mod journal;
@@ -19,7 +21,8 @@ pub mod relay;
 pub mod sjoin;
 pub mod table;
 
-pub use channel::{Member, Record};
+pub use bans::BanList;
+pub use channel::{Member, Record, WholeRecord};
 pub use feeder::Feeder;
 pub use refusal::Refusal;
 pub use table::Table;

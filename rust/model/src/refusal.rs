@@ -4,7 +4,7 @@
 #[derive(Clone, Copy, Debug, PartialEq, Eq)]
 #[repr(u8)]
 pub enum Refusal {
-    /// table or record not well formed; a feeder's state that no bytes reach
+    /// table or record not well formed, the ban lists included; a feeder's state that no bytes reach
     IllFormed = 1,
     /// lent output under 512 bytes (line writer, commands)
     ShortOutput = 2,
@@ -24,11 +24,11 @@ pub enum Refusal {
     BadCommand = 9,
     /// a sixteenth parameter
     ManyParams = 10,
-    /// command not one of the three
+    /// command not one of the three, nor of those added
     UnknownCommand = 11,
-    /// parameters not 4 to 6 (SJOIN), 1 to 2 (PART), 0 to 1 (QUIT)
+    /// parameters not 4 to 6 (SJOIN), 1 to 2 (PART), 0 to 1 (QUIT), 4 (BMASK)
     ParamCount = 12,
-    /// prefix missing or not a server id (SJOIN), user id (others)
+    /// prefix missing or not a server id (SJOIN, BMASK), user id (others)
     BadSource = 13,
     /// time malformed or too large
     BadTime = 14,
@@ -40,7 +40,7 @@ pub enum Refusal {
     BadModes = 17,
     /// bad member list
     BadList = 18,
-    /// channel not in the table (PART)
+    /// channel not in the table (PART, BMASK, a text that may be banned)
     NoChannel = 19,
     /// user not in it (PART)
     NoMember = 20,
@@ -55,6 +55,10 @@ pub enum Refusal {
     Unwritable = 24,
     /// written line over 512 bytes; log buffer shorter than the line and 5
     NoRoom = 25,
+    /// bad type or mask list (BMASK), after 18
+    BadMasks = 26,
+    /// a 33rd mask would result (BMASK, merging), after 22
+    ManyMasks = 27,
 }
 
 impl Refusal {

@@ -1,13 +1,15 @@
 //! Taking a line.
 
+use crate::bans;
+use crate::bmask;
 use crate::channel::{merge_well_formed, K, L, LETTERS, OPERATOR, VOICE};
 use crate::line::{self, Message};
 use crate::names;
 use crate::sjoin;
-use crate::{Record, Refusal, Table};
+use crate::{BanList, Record, Refusal, Table};
 
-/// The answer to an accepted line.
-#[derive(Clone, Copy, Debug, PartialEq, Eq)]
+/// The answer to an accepted line; all zero where it goes nowhere.
+#[derive(Clone, Copy, Debug, Default, PartialEq, Eq)]
 pub struct Relayed {
     /// The links it goes to, link n as the bit n.
     pub set: u32,
@@ -31,23 +33,31 @@ pub fn take(table: &mut Table, link: u32, line: &[u8], out: &mut [u8]) -> Result
     }
     let message = line::read(line)?;
     let relayed = match message.command.to_ascii_uppercase().as_slice() {
-        b"SJOIN" => take_sjoin(table, &message)?,
-        b"PART" => take_part(table, &message)?,
-        b"QUIT" => take_quit(table, &message)?,
+        b"SJOIN" => Some(take_sjoin(table, &message)?),
+        b"PART" => Some(take_part(table, &message)?),
+        b"QUIT" => Some(take_quit(table, &message)?),
+        b"BMASK" => take_bmask(table, &message)?,
         _ => return Err(Refusal::UnknownCommand),
+    };
+    let Some(relayed) = relayed else {
+        return Ok(Relayed::default());
     };
     out[..relayed.len()].copy_from_slice(&relayed);
     let set = table.links & !(1 << link);
     Ok(Relayed { set, count: set.count_ones(), len: relayed.len() })
 }
 
-/// Folds a join into the slot of its name, or the lowest free one, and answers the line to relay.
+/// Folds a join into the slot of its name, or the lowest free one, and answers the line to relay. An
+/// earlier time empties the list.
 fn take_sjoin(table: &mut Table, message: &Message) -> Result<Vec<u8>, Refusal> {
     let incoming = sjoin::read_join(message)?;
     let (slot, result) = match table.slot_of(incoming.name()) {
         Some(slot) => (slot, merge_well_formed(&table.slots[slot], &incoming)?),
         None => (table.free_slot().ok_or(Refusal::NoSlot)?, incoming),
     };
+    if incoming.time < table.slots[slot].time {
+        table.bans[slot] = BanList::EMPTY;
+    }
     table.slots[slot] = result;
     Ok(relayed_join(message.prefix, &incoming, &result))
 }
@@ -129,6 +139,19 @@ fn take_quit(table: &mut Table, message: &Message) -> Result<Vec<u8>, Refusal> {
     Ok(as_read(message, b"QUIT"))
 }
 
+/// The masks are added to those of the channel, and the line goes out with its parameters as read;
+/// one that is later than the channel changes nothing and goes nowhere.
+fn take_bmask(table: &mut Table, message: &Message) -> Result<Option<Vec<u8>>, Refusal> {
+    let incoming = bmask::read_bmask(message)?;
+    let slot = table.slot_of(incoming.name).ok_or(Refusal::NoChannel)?;
+    if incoming.time > table.slots[slot].time {
+        return Ok(None);
+    }
+    let masks = table.bans[slot].masks().expect("the table is well formed");
+    table.bans[slot] = BanList::of(&bans::add(&masks, &incoming.masks)?);
+    Ok(Some(as_read(message, b"BMASK")))
+}
+
 fn user_of<'a>(message: &Message<'a>) -> Result<&'a [u8], Refusal> {
     message.prefix.filter(|id| names::is_user_id(id)).ok_or(Refusal::BadSource)
 }
@@ -151,12 +174,16 @@ mod tests {
         Table { links: 0b101001, ..Table::EMPTY }
     }
 
-    /// Takes a text, CR LF after it, from link 3, and answers what goes out.
+    /// Takes a text, CR LF after it, from link 3, and answers what goes out: nothing, if it goes nowhere.
     fn say(table: &mut Table, text: &str) -> Result<String, u8> {
         let before = *table;
         let mut out = [7; 600];
         let line = format!("{text}\r\n");
         match take(table, LINK, line.as_bytes(), &mut out) {
+            Ok(Relayed { set: 0, count: 0, len: 0 }) => {
+                assert!(*table == before && out == [7; 600]);
+                Ok(String::new())
+            }
             Ok(Relayed { set, count, len }) => {
                 assert_eq!((set, count), (0b100001, 2));
                 assert!(len <= line.len() && out[len..].iter().all(|&b| b == 7));
@@ -168,6 +195,12 @@ mod tests {
                 Err(refusal.number())
             }
         }
+    }
+
+    /// The masks of the first slot.
+    fn masks(table: &Table) -> Vec<String> {
+        let masks = table.bans[0].masks().unwrap();
+        masks.into_iter().map(|mask| String::from_utf8(mask).unwrap()).collect()
     }
 
     fn race() -> Table {
@@ -261,6 +294,65 @@ mod tests {
         assert!(say(&mut table, ":2CDAAAAAA QUIT").is_ok());
         assert_eq!(table, after);
         assert!(table.is_well_formed());
+    }
+
+    #[test]
+    fn masks_are_added() {
+        let mut table = race();
+        let said = say(&mut table, ":1AB bmask 1000 #RACE b :  b*  Boat[1]  ").unwrap();
+        assert_eq!(said, ":1AB BMASK 1000 #RACE b :  b*  Boat[1]  ");
+        assert_eq!(masks(&table), ["b*", "Boat[1]"]);
+        assert_eq!(
+            say(&mut table, ":1AB BMASK 999 #race b :BOAT{1}").unwrap(),
+            ":1AB BMASK 999 #race b BOAT{1}"
+        );
+        assert_eq!(
+            say(&mut table, ":1AB BMASK 1 #race b ::a").unwrap(),
+            ":1AB BMASK 1 #race b ::a"
+        );
+        assert_eq!(masks(&table), [":a", "b*", "Boat[1]"]);
+        assert_eq!(table.slots, race().slots);
+        assert!(table.is_well_formed());
+    }
+
+    #[test]
+    fn masks_that_are_later_go_nowhere() {
+        let mut table = race();
+        assert_eq!(say(&mut table, ":1AB BMASK 1001 #race b x").unwrap(), "");
+        assert_eq!(say(&mut table, ":1AB BMASK 1001 #race b :"), Err(26));
+        assert_eq!(say(&mut table, ":1AB BMASK 1001 #gone b x"), Err(19));
+        assert_eq!(say(&mut table, ":1AB BMASK 1001 #gone c x"), Err(26));
+        let many = |time: u32, range: std::ops::Range<u32>| {
+            let masks: Vec<String> = range.map(|n| format!("m{n}")).collect();
+            format!(":1AB BMASK {time} #race b :{}", masks.join(" "))
+        };
+        assert!(say(&mut table, &many(1000, 10..42)).is_ok());
+        assert_eq!(say(&mut table, &many(1000, 40..43)), Err(27));
+        assert_eq!(say(&mut table, &many(1001, 40..43)).unwrap(), "");
+        assert_ne!(say(&mut table, &many(1000, 40..42)).unwrap(), "");
+    }
+
+    #[test]
+    fn an_earlier_join_empties_the_list() {
+        for (time, left) in [(999, 0), (1000, 1), (1001, 1)] {
+            let mut table = race();
+            assert!(say(&mut table, ":1AB BMASK 1000 #race b x").is_ok());
+            assert!(say(&mut table, &format!(":1AB SJOIN {time} #race + 1ABAAAAAA")).is_ok());
+            assert_eq!(masks(&table).len(), left, "{time}");
+        }
+    }
+
+    #[test]
+    fn the_list_goes_with_the_last_member() {
+        for leave in ["PART #race", "QUIT"] {
+            let mut table = race();
+            assert!(say(&mut table, ":1AB SJOIN 1000 #race + 1ABAAAAAA").is_ok());
+            assert!(say(&mut table, ":1AB BMASK 1000 #race b x").is_ok());
+            assert!(say(&mut table, &format!(":1ABAAAAAA {leave}")).is_ok());
+            assert_eq!(masks(&table), ["x"]);
+            assert!(say(&mut table, &format!(":2CDAAAAAA {leave}")).is_ok());
+            assert_eq!((table.slots[0], table.bans[0]), (Record::EMPTY, BanList::EMPTY));
+        }
     }
 
     #[test]

@@ -10,10 +10,23 @@ pub fn read_join(message: &Message) -> Result<Record, Refusal> {
     if !(4..=6).contains(&message.params.len()) {
         return Err(Refusal::ParamCount);
     }
+    let (time, name) = read_head(message)?;
+    let [_, _, ref modes @ .., list] = message.params[..] else { unreachable!() };
+    let mut record = Record { time, ..Record::EMPTY };
+    record.set_name(name);
+    read_modes(&mut record, modes).ok_or(Refusal::BadModes)?;
+    let members = read_list(list).ok_or(Refusal::BadList)?;
+    record.set_members(&members);
+    Ok(record)
+}
+
+/// The time and the name of a message of two parameters or more, whose prefix must be a server id:
+/// 13 to 16.
+pub fn read_head<'a>(message: &Message<'a>) -> Result<(u32, &'a [u8]), Refusal> {
     if !message.prefix.is_some_and(names::is_server_id) {
         return Err(Refusal::BadSource);
     }
-    let [time, name, ref modes @ .., list] = message.params[..] else { unreachable!() };
+    let [time, name, ..] = message.params[..] else { unreachable!() };
     let time = decimal(time, u32::MAX).ok_or(Refusal::BadTime)?;
     if time == 0 {
         return Err(Refusal::ZeroTime);
@@ -21,12 +34,7 @@ pub fn read_join(message: &Message) -> Result<Record, Refusal> {
     if !names::is_channel_name(name) {
         return Err(Refusal::BadName);
     }
-    let mut record = Record { time, ..Record::EMPTY };
-    record.set_name(name);
-    read_modes(&mut record, modes).ok_or(Refusal::BadModes)?;
-    let members = read_list(list).ok_or(Refusal::BadList)?;
-    record.set_members(&members);
-    Ok(record)
+    Ok((time, name))
 }
 
 /// A number in decimal without leading zeros, at most `most`.

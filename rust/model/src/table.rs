@@ -1,7 +1,8 @@
-//! The table: sixteen slots and the registered links.
+//! The table: sixteen slots, each with a ban list, and the registered links.
 
+use crate::mask;
 use crate::names;
-use crate::{Record, Refusal};
+use crate::{BanList, Record, Refusal, WholeRecord};
 
 /// The slots of a table.
 pub const SLOTS: usize = 16;
@@ -16,17 +17,23 @@ pub struct Table {
     pub slots: [Record; SLOTS],
     /// The registered links, link n as the bit n.
     pub links: u32,
+    /// The ban list of each slot.
+    pub bans: [BanList; SLOTS],
 }
 
 impl Table {
     /// Every slot free, no link registered.
-    pub const EMPTY: Table = Table { slots: [Record::EMPTY; SLOTS], links: 0 };
+    pub const EMPTY: Table =
+        Table { slots: [Record::EMPTY; SLOTS], links: 0, bans: [BanList::EMPTY; SLOTS] };
 
-    /// The used slots hold well-formed records, no two with equal names, and the free ones are
-    /// zero.
+    /// The used slots hold well-formed records with their lists, no two with equal names, and the
+    /// free ones are zero, their lists too.
     pub fn is_well_formed(&self) -> bool {
-        let good = |r: &Record| if r.count == 0 { *r == Record::EMPTY } else { r.is_well_formed() };
-        self.slots.iter().all(good) && self.names_differ()
+        let good = |(record, list): (&Record, &BanList)| match record.count {
+            0 => *record == Record::EMPTY && *list == BanList::EMPTY,
+            _ => record.is_well_formed() && list.is_well_formed(),
+        };
+        self.slots.iter().zip(&self.bans).all(good) && self.names_differ()
     }
 
     fn names_differ(&self) -> bool {
@@ -37,6 +44,27 @@ impl Table {
     /// The used slot whose name, folded, equals this one.
     pub fn slot_of(&self, name: &[u8]) -> Option<usize> {
         self.slots.iter().position(|r| r.count != 0 && names::equal(r.name(), name))
+    }
+
+    /// The channel in a slot, with its list.
+    pub fn whole(&self, slot: usize) -> WholeRecord {
+        WholeRecord { record: self.slots[slot], bans: self.bans[slot] }
+    }
+
+    /// Whether some mask of the channel of that name matches the text.
+    pub fn is_banned(&self, name: &[u8], text: &[u8]) -> Result<bool, Refusal> {
+        if !self.is_well_formed() {
+            return Err(Refusal::IllFormed);
+        }
+        if !names::is_channel_name(name) {
+            return Err(Refusal::BadName);
+        }
+        let slot = self.slot_of(name).ok_or(Refusal::NoChannel)?;
+        if text.len() > mask::TEXT {
+            return Err(Refusal::LongText);
+        }
+        let masks = self.bans[slot].masks().expect("it is well formed");
+        Ok(masks.iter().any(|m| mask::matches(m, text) == Ok(true)))
     }
 
     /// The lowest free slot.
@@ -72,7 +100,7 @@ impl Table {
     }
 
     /// Takes a user out of a slot if it is there, and says whether it was. An emptied slot is
-    /// zeroed.
+    /// zeroed, and its list with it.
     pub fn remove_member(&mut self, slot: usize, id: &[u8]) -> bool {
         let record = &mut self.slots[slot];
         let mut members = record.members().to_vec();
@@ -83,6 +111,7 @@ impl Table {
         record.set_members(&members);
         if members.is_empty() {
             *record = Record::EMPTY;
+            self.bans[slot] = BanList::EMPTY;
         }
         true
     }
@@ -118,6 +147,41 @@ mod tests {
         table.slots[9] = Record::EMPTY;
         table.slots[0].count = 0;
         assert!(!table.is_well_formed());
+    }
+
+    #[test]
+    fn lists_of_used_and_free_slots() {
+        let mut table = table_of(&[b"#a"]);
+        let list = BanList::of(&[b"x".to_vec()]);
+        table.bans[0] = list;
+        assert!(table.is_well_formed());
+        table.bans[1] = list;
+        assert!(!table.is_well_formed());
+        table.bans[1] = BanList::EMPTY;
+        table.bans[0].room[3000] = 1;
+        assert!(!table.is_well_formed());
+    }
+
+    #[test]
+    fn texts_that_are_banned() {
+        let mut table = table_of(&[b"#Race", b"#open"]);
+        table.bans[0] = BanList::of(&[b"*!*@Spec[1]".to_vec(), b"boat?".to_vec()]);
+        let banned =
+            |name: &[u8], text: &[u8]| table.is_banned(name, text).map_err(Refusal::number);
+        assert_eq!(banned(b"#RACE", b"joe!x@SPEC{1}"), Ok(true));
+        assert_eq!(banned(b"#race", b"Boat1"), Ok(true));
+        assert_eq!(banned(b"#race", b"boat"), Ok(false));
+        assert_eq!(banned(b"#race", b""), Ok(false));
+        assert_eq!(banned(b"#open", b"boat1"), Ok(false));
+        assert_eq!(banned(b"#open", &[b'x'; 512]), Ok(false));
+        assert_eq!(banned(b"#open", &[b'x'; 513]), Err(23));
+        assert_eq!(banned(b"#gone", &[b'x'; 513]), Err(19));
+        assert_eq!(banned(b"race", &[b'x'; 513]), Err(16));
+        let mut ill = table;
+        ill.bans[15].room[0] = 1;
+        assert_eq!(ill.is_banned(b"race", b""), Err(Refusal::IllFormed));
+        table.bans[1] = BanList::of(&[b"*".to_vec()]);
+        assert_eq!(table.is_banned(b"#open", b""), Ok(true));
     }
 
     #[test]

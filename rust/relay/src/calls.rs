@@ -1,11 +1,10 @@
-// The functions of a library, called safely: included once for each library, after `functions!` and
-// `feeder_functions!`.
+// The functions that are alike in every library, called safely: included once for each library,
+// after `functions!` and `feeder_functions!`.
 
 use crate::ffi::{Bytes, Room};
 use crate::layout;
 use crate::types::{
-    Answer, Fed, Feeder, Found, LineRead, Logged, Matched, Merged, Message, Record, Registered,
-    Table, Taken, Text, Written,
+    Fed, Feeder, Found, Head, LineRead, Logged, Matched, Message, Record, Text, Written,
 };
 
 /// A number of the library's layout of the structs, 0 past the last.
@@ -90,12 +89,6 @@ pub fn greater_key<'a>(first: &'a [u8], second: &'a [u8]) -> &'a [u8] {
     }
 }
 
-/// Two records of one channel merged.
-pub fn merge(first: &Record, second: &Record) -> Merged {
-    // SAFETY: only plain data goes in and comes back.
-    unsafe { relay_merge(*first, *second) }
-}
-
 /// Writes a record as a text to the front of the output.
 pub fn describe(record: &Record, out: &mut [u8]) -> Written {
     // SAFETY: the output is lent for the call.
@@ -103,48 +96,15 @@ pub fn describe(record: &Record, out: &mut [u8]) -> Written {
 }
 
 /// The slot that holds the channel of a name.
-pub fn find(table: &Table, name: &[u8]) -> Found {
+pub fn find(head: &Head, name: &[u8]) -> Found {
     // SAFETY: the name is lent for the call.
-    unsafe { relay_find(*table, Bytes::of(name)) }
+    unsafe { relay_find(*head, Bytes::of(name)) }
 }
 
 /// The words of a refusal's number.
 pub fn refusal_text(number: u8) -> Text {
     // SAFETY: only plain data goes in and comes back.
     unsafe { relay_refusal_text(number) }
-}
-
-/// The table with every slot free and no link registered.
-pub fn empty_table() -> Table {
-    // SAFETY: only plain data comes back.
-    unsafe { relay_empty_table() }
-}
-
-/// The table with a link registered.
-pub fn register(table: &Table, link: u32) -> Registered {
-    // SAFETY: only plain data goes in and comes back.
-    unsafe { relay_register(*table, link) }
-}
-
-/// The table with a link dropped.
-pub fn unregister(table: &Table, link: u32) -> Registered {
-    // SAFETY: only plain data goes in and comes back.
-    unsafe { relay_unregister(*table, link) }
-}
-
-/// Takes a line that came in by a link.
-pub fn process(table: &Table, link: u32, line: &[u8], out: &mut [u8]) -> Taken {
-    // SAFETY: line and output are lent for the call; the borrows say that they don't overlap.
-    unsafe { relay_process(*table, link, Bytes::of(line), Room::of(out)) }
-}
-
-/// Takes a line that came in by a link, and keeps the table after it.
-pub fn take(table: &mut Table, link: u32, line: &[u8], out: &mut [u8]) -> Answer {
-    let taken = process(table, link, line, out);
-    if taken.number == crate::ACCEPTED {
-        *table = taken.table;
-    }
-    Answer { number: taken.number, set: taken.set, count: taken.count, len: taken.len }
 }
 
 /// Writes the day-log record of a line to the front of the log.

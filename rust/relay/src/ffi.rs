@@ -30,8 +30,9 @@ impl<'a> Room<'a> {
     }
 }
 
-/// Declares the functions of a library in whose symbols the prefix stands before each name. The
-/// build script takes the names from here, and from `feeder_functions`.
+/// Declares the functions of a library in whose symbols the prefix stands before each name, but for
+/// those that an earlier library lacks or has otherwise. The build script takes the names from here
+/// and from the macros below.
 macro_rules! functions {
     ($prefix:expr) => {
         extern "C" {
@@ -47,22 +48,12 @@ macro_rules! functions {
             fn relay_match(mask: Bytes, text: Bytes) -> Matched;
             #[link_name = concat!($prefix, "relay_key_less")]
             fn relay_key_less(a: Bytes, b: Bytes) -> bool;
-            #[link_name = concat!($prefix, "relay_merge")]
-            fn relay_merge(first: Record, second: Record) -> Merged;
             #[link_name = concat!($prefix, "relay_describe")]
             fn relay_describe(record: Record, out: Room) -> Written;
             #[link_name = concat!($prefix, "relay_find")]
-            fn relay_find(table: Table, name: Bytes) -> Found;
+            fn relay_find(head: Head, name: Bytes) -> Found;
             #[link_name = concat!($prefix, "relay_refusal_text")]
             fn relay_refusal_text(number: u8) -> Text;
-            #[link_name = concat!($prefix, "relay_empty_table")]
-            fn relay_empty_table() -> Table;
-            #[link_name = concat!($prefix, "relay_register")]
-            fn relay_register(table: Table, link: u32) -> Registered;
-            #[link_name = concat!($prefix, "relay_unregister")]
-            fn relay_unregister(table: Table, link: u32) -> Registered;
-            #[link_name = concat!($prefix, "relay_process")]
-            fn relay_process(table: Table, link: u32, line: Bytes, out: Room) -> Taken;
             #[link_name = concat!($prefix, "relay_log")]
             fn relay_log(link: u32, line: Bytes, log: Room) -> Logged;
             #[link_name = concat!($prefix, "relay_layout")]
@@ -79,6 +70,47 @@ macro_rules! feeder_functions {
             fn relay_empty_feeder() -> Feeder;
             #[link_name = concat!($prefix, "relay_feed")]
             fn relay_feed(state: Feeder, bytes: Bytes) -> Fed;
+        }
+    };
+}
+
+/// Declares the functions that take ban lists. The lists are lent as a plain pointer.
+macro_rules! list_functions {
+    ($prefix:expr) => {
+        extern "C" {
+            #[link_name = concat!($prefix, "relay_merge")]
+            fn relay_merge(first: WholeRecord, second: WholeRecord) -> Merged;
+            #[link_name = concat!($prefix, "relay_empty_head")]
+            fn relay_empty_head(bans: &mut Bans) -> Head;
+            #[link_name = concat!($prefix, "relay_register")]
+            fn relay_register(head: Head, bans: &Bans, link: u32) -> Registered;
+            #[link_name = concat!($prefix, "relay_unregister")]
+            fn relay_unregister(head: Head, bans: &Bans, link: u32) -> Registered;
+            #[link_name = concat!($prefix, "relay_is_banned")]
+            fn relay_is_banned(head: Head, bans: &Bans, name: Bytes, text: Bytes) -> Banned;
+            #[link_name = concat!($prefix, "relay_process")]
+            fn relay_process(
+                head: Head,
+                bans: &mut Bans,
+                line: Bytes,
+                out: Room,
+                link: u32,
+            ) -> Taken;
+        }
+    };
+}
+
+/// Declares those of them that an earlier library has without ban lists, as it has them.
+#[cfg(earlier_without_lists)]
+macro_rules! listless_functions {
+    ($prefix:expr) => {
+        extern "C" {
+            #[link_name = concat!($prefix, "relay_merge")]
+            fn relay_merge(first: Record, second: Record) -> MergedRecord;
+            #[link_name = concat!($prefix, "relay_register")]
+            fn relay_register(head: Head, link: u32) -> Registered;
+            #[link_name = concat!($prefix, "relay_process")]
+            fn relay_process(head: Head, link: u32, line: Bytes, out: Room) -> Taken;
         }
     };
 }

@@ -3,8 +3,8 @@
 use std::mem::{offset_of, size_of};
 
 use crate::types::{
-    Fed, Feeder, Found, LineRead, Links, Logged, Matched, Member, Merged, Message, Record,
-    Registered, Span, Table, Taken, Text, Written,
+    BanList, Banned, Fed, Feeder, Found, Head, LineRead, Links, Logged, Matched, Member, Merged,
+    MergedRecord, Message, Record, Registered, Span, Taken, Text, WholeRecord, Written,
 };
 
 /// The place and the size of each of a struct's fields, then its own size.
@@ -25,6 +25,35 @@ fn size_of_field<S, F>(_field: fn(&S) -> &F) -> usize {
 
 /// The numbers of every struct, in the library's order.
 fn ours() -> Vec<usize> {
+    let middle = [
+        numbers!(BanList: room),
+        numbers!(WholeRecord: record bans),
+        numbers!(Merged: number result),
+        numbers!(Links: set),
+        numbers!(Head: slots links),
+        numbers!(Registered: head number),
+        numbers!(Taken: head len set count number),
+        numbers!(Banned: number yes),
+    ]
+    .concat();
+    [first(), middle, last()].concat()
+}
+
+/// Those of a library that has no ban lists.
+fn without_lists() -> Vec<usize> {
+    let middle = [
+        numbers!(MergedRecord: number result),
+        numbers!(Links: set),
+        numbers!(Head: slots links),
+        numbers!(Registered: head number),
+        numbers!(Taken: head len set count number),
+    ]
+    .concat();
+    [first(), middle, last()].concat()
+}
+
+/// Up to records.
+fn first() -> Vec<usize> {
     [
         numbers!(Span: start end),
         numbers!(Message: has_prefix prefix command count params),
@@ -33,11 +62,13 @@ fn ours() -> Vec<usize> {
         numbers!(Matched: number yes),
         numbers!(Member: id status),
         numbers!(Record: name name_len time modes key key_len limit members count),
-        numbers!(Merged: number result),
-        numbers!(Links: set),
-        numbers!(Table: slots links),
-        numbers!(Registered: table number),
-        numbers!(Taken: table len set count number),
+    ]
+    .concat()
+}
+
+/// From the log on.
+fn last() -> Vec<usize> {
+    [
         numbers!(Logged: number size),
         numbers!(Found: number slot),
         numbers!(Text: bytes len),
@@ -49,20 +80,25 @@ fn ours() -> Vec<usize> {
 
 /// Whether a library lays out every struct as this crate does, by the numbers that it exports.
 pub fn matches(library: impl Fn(usize) -> usize) -> bool {
-    library(0) == ours().len() && begins(library)
+    let ours = ours();
+    library(0) == ours.len() && begins(&ours, library)
 }
 
-/// Whether a library lays out as this crate does every struct that it has, which are the first of
-/// ours: an earlier one may lack the last.
-pub fn begins(library: impl Fn(usize) -> usize) -> bool {
-    let ours = ours();
+/// Whether a library that has no ban lists lays out as this crate does every struct that it has. It
+/// may lack the last.
+pub fn begins_without_lists(library: impl Fn(usize) -> usize) -> bool {
+    begins(&without_lists(), library)
+}
+
+/// Whether the numbers of a library are the first of ours.
+fn begins(ours: &[usize], library: impl Fn(usize) -> usize) -> bool {
     let count = library(0);
     count <= ours.len() && (0..count).all(|k| library(k + 1) == ours[k])
 }
 
 #[cfg(test)]
 mod tests {
-    use super::{begins, matches, ours};
+    use super::{begins_without_lists, matches, ours, without_lists};
     use crate::{layout_matches, layout_number};
 
     /// A library that exports these numbers.
@@ -76,28 +112,40 @@ mod tests {
     #[test]
     fn the_library_has_our_layout() {
         assert!(layout_matches());
-        assert_eq!((layout_number(0), ours().len()), (117, 117));
-        assert_eq!((layout_number(118), layout_number(usize::MAX)), (0, 0));
+        assert_eq!((layout_number(0), ours().len()), (130, 130));
+        assert_eq!((layout_number(131), layout_number(usize::MAX)), (0, 0));
     }
 
     #[test]
-    fn fewer_structs_begin_a_layout() {
-        for count in 0..117 {
-            let fewer = exporting(ours()[..count].to_vec());
-            assert!(begins(&fewer) && !matches(&fewer), "{count}");
+    fn fewer_structs_are_no_layout() {
+        for count in 0..130 {
+            assert!(!matches(exporting(ours()[..count].to_vec())), "{count}");
         }
-        assert!(begins(exporting(ours())) && matches(exporting(ours())));
+        assert!(matches(exporting(ours())));
     }
 
     #[test]
     fn other_layouts_are_noticed() {
-        for place in 0..117 {
+        for place in 0..130 {
             let mut other = ours();
             other[place] += 1;
-            let other = exporting(other);
-            assert!(!begins(&other) && !matches(&other), "{place}");
+            assert!(!matches(exporting(other)), "{place}");
         }
-        let more = exporting([ours(), vec![8]].concat());
-        assert!(!begins(&more) && !matches(&more));
+        assert!(!matches(exporting([ours(), vec![8]].concat())));
+        assert!(!matches(exporting(without_lists())));
+    }
+
+    #[test]
+    fn libraries_without_lists() {
+        for count in 0..=117 {
+            assert!(begins_without_lists(exporting(without_lists()[..count].to_vec())), "{count}");
+        }
+        for place in 0..117 {
+            let mut other = without_lists();
+            other[place] += 1;
+            assert!(!begins_without_lists(exporting(other)), "{place}");
+        }
+        assert!(!begins_without_lists(exporting([without_lists(), vec![8]].concat())));
+        assert!(!begins_without_lists(exporting(ours())));
     }
 }

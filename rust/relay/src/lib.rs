@@ -11,8 +11,9 @@ mod layout;
 mod types;
 
 pub use types::{
-    Answer, Fed, Feeder, Found, LineRead, Links, Logged, Matched, Member, Merged, Message, Record,
-    Registered, Span, Table, Taken, Text, Written,
+    Answer, BanList, Banned, Bans, Fed, Feeder, Found, Head, LineRead, Links, Logged, Matched,
+    Member, Merged, MergedRecord, Message, Record, Registered, Span, Table, Taken, Text,
+    WholeRecord, Written, BANS, LIST, MASK, MASKS,
 };
 
 /// The number of an answer that is no refusal.
@@ -25,18 +26,20 @@ pub const LINE_TOO_LONG: u8 = 4;
 mod current {
     functions!("");
     feeder_functions!("");
+    list_functions!("");
     include!("calls.rs");
+    include!("list_calls.rs");
 }
 
 pub use current::{
-    command, describe, empty_feeder, empty_table, feed, find, greater_key, layout_matches,
-    layout_number, log, matches, merge, param, parts, prefix, process, read, refusal_text,
-    register, same_name, take, unregister, write,
+    command, describe, empty_feeder, empty_head, feed, find, greater_key, is_banned,
+    layout_matches, layout_number, log, matches, merge, param, parts, prefix, process, read,
+    refusal_text, register, same_name, take, unregister, write,
 };
 
 /// The same functions of an earlier library, for the benchmark: of the one that the variable
-/// RELAY_EARLIER_LIB names when this is built. Without it, and where it lacks the feeder, they are
-/// those of the library itself.
+/// RELAY_EARLIER_LIB names when this is built. Without it, and where it lacks the feeder or the
+/// question of bans, they are those of the library itself.
 pub mod earlier {
     /// Whether there is an earlier library.
     pub const IS_GIVEN: bool = !env!("RELAY_EARLIER_PREFIX").is_empty();
@@ -44,17 +47,29 @@ pub mod earlier {
     /// Whether there is one that makes bytes into lines.
     pub const HAS_FEEDER: bool = !env!("RELAY_EARLIER_FEEDER_PREFIX").is_empty();
 
+    /// Whether its tables have ban lists; so it is where there is none.
+    pub const HAS_LISTS: bool = cfg!(not(earlier_without_lists));
+
     functions!(env!("RELAY_EARLIER_PREFIX"));
     feeder_functions!(env!("RELAY_EARLIER_FEEDER_PREFIX"));
     include!("calls.rs");
 
-    /// Whether it lays out as this crate does every struct that its functions have. Without the
-    /// feeder it may lack the last ones of ours.
+    #[cfg(not(earlier_without_lists))]
+    list_functions!(env!("RELAY_EARLIER_PREFIX"));
+    #[cfg(not(earlier_without_lists))]
+    include!("list_calls.rs");
+
+    #[cfg(earlier_without_lists)]
+    listless_functions!(env!("RELAY_EARLIER_PREFIX"));
+    #[cfg(earlier_without_lists)]
+    include!("listless_calls.rs");
+
+    /// Whether it lays out as this crate does every struct that its functions have.
     pub fn layout_fits() -> bool {
-        if HAS_FEEDER {
+        if HAS_LISTS {
             layout_matches()
         } else {
-            layout::begins(layout_number)
+            layout::begins_without_lists(layout_number)
         }
     }
 }
@@ -95,9 +110,33 @@ impl Feeder {
 }
 
 impl Table {
-    /// Every slot free, no link registered.
+    /// Every slot free, no masks, no link registered.
     pub fn empty() -> Table {
-        empty_table()
+        let mut bans = [0; BANS];
+        let head = empty_head(&mut bans);
+        Table { head, bans }
+    }
+
+    /// Registers a link; answers the number of a refusal, or 0.
+    pub fn register(&mut self, link: u32) -> u8 {
+        self.relink(register(&self.head, &self.bans, link))
+    }
+
+    /// Drops a link; answers the number of a refusal, or 0.
+    pub fn unregister(&mut self, link: u32) -> u8 {
+        self.relink(unregister(&self.head, &self.bans, link))
+    }
+
+    fn relink(&mut self, done: Registered) -> u8 {
+        if done.number == ACCEPTED {
+            self.head = done.head;
+        }
+        done.number
+    }
+
+    /// Whether a text is banned from the channel of a name.
+    pub fn is_banned(&self, name: &[u8], text: &[u8]) -> Banned {
+        is_banned(&self.head, &self.bans, name, text)
     }
 
     /// Takes a line that came in by a link, and keeps the table after it.

@@ -1,5 +1,20 @@
 //! The structs of `include/relay.h`, field by field.
 
+/// The most masks of a ban list.
+pub const MASKS: usize = 32;
+
+/// The most bytes of a mask.
+pub const MASK: usize = 100;
+
+/// The bytes of a ban list: how many masks, then for each a byte with its length and its room.
+pub const LIST: usize = 3233;
+
+/// The bytes of the ban lists of a table, one for each slot.
+pub const BANS: usize = 51728;
+
+/// The ban lists of a table: that of slot k from byte k * LIST on.
+pub type Bans = [u8; BANS];
+
 /// A part of some bytes: from start up to, not including, end.
 #[repr(C)]
 #[derive(Clone, Copy, Debug, Default, PartialEq, Eq)]
@@ -96,7 +111,7 @@ pub struct Member {
     pub status: u8,
 }
 
-/// A channel.
+/// A channel, its ban list apart.
 #[repr(C)]
 #[derive(Clone, Copy, Debug, PartialEq, Eq)]
 pub struct Record {
@@ -120,10 +135,39 @@ pub struct Record {
     pub count: usize,
 }
 
+/// The masks of those who are kept off a channel.
+#[repr(C)]
+#[derive(Clone, Copy, PartialEq, Eq)]
+pub struct BanList {
+    /// How many masks, then for each a byte with its length and room for 100 bytes; unused room is
+    /// zero.
+    pub room: [u8; LIST],
+}
+
+/// A channel with its ban list.
+#[repr(C)]
+#[derive(Clone, Copy, Debug, PartialEq, Eq)]
+pub struct WholeRecord {
+    /// The channel.
+    pub record: Record,
+    /// Its ban list.
+    pub bans: BanList,
+}
+
 /// The merged record, or the first as given and the number of a refusal.
 #[repr(C)]
 #[derive(Clone, Copy, Debug, PartialEq, Eq)]
 pub struct Merged {
+    /// The number of a refusal, or 0.
+    pub number: u8,
+    /// The record.
+    pub result: WholeRecord,
+}
+
+/// The same from a library that has no ban lists.
+#[repr(C)]
+#[derive(Clone, Copy, Debug, PartialEq, Eq)]
+pub struct MergedRecord {
     /// The number of a refusal, or 0.
     pub number: u8,
     /// The record.
@@ -138,22 +182,32 @@ pub struct Links {
     pub set: u32,
 }
 
-/// All that the relay holds.
+/// What of a table goes by value; all of it, in a library that has no ban lists.
 #[repr(C)]
 #[derive(Clone, Copy, Debug, PartialEq, Eq)]
-pub struct Table {
+pub struct Head {
     /// The channels; a free slot is all zero.
     pub slots: [Record; 16],
     /// The registered links.
     pub links: Links,
 }
 
-/// The table after, or as given and the number of a refusal.
+/// All that the relay holds.
+#[repr(C)]
+#[derive(Clone, Copy, Debug, PartialEq, Eq)]
+pub struct Table {
+    /// The channels and the links.
+    pub head: Head,
+    /// The ban lists of the channels; that of a free slot is all zero.
+    pub bans: Bans,
+}
+
+/// The head after, or as given and the number of a refusal.
 #[repr(C)]
 #[derive(Clone, Copy, Debug, PartialEq, Eq)]
 pub struct Registered {
-    /// The table.
-    pub table: Table,
+    /// The head.
+    pub head: Head,
     /// The number of a refusal, or 0.
     pub number: u8,
 }
@@ -162,8 +216,8 @@ pub struct Registered {
 #[repr(C)]
 #[derive(Clone, Copy, Debug, PartialEq, Eq)]
 pub struct Taken {
-    /// The table after, or as given.
-    pub table: Table,
+    /// The head after, or as given.
+    pub head: Head,
     /// The length of the line at the front of the output.
     pub len: usize,
     /// The links that the line goes to.
@@ -174,7 +228,17 @@ pub struct Taken {
     pub number: u8,
 }
 
-/// The answer to a line, the table apart.
+/// Whether a text is banned, or the number of a refusal.
+#[repr(C)]
+#[derive(Clone, Copy, Debug, PartialEq, Eq)]
+pub struct Banned {
+    /// The number of a refusal, or 0.
+    pub number: u8,
+    /// Whether it is banned.
+    pub yes: bool,
+}
+
+/// The answer to a line, the table apart. An accepted line that goes nowhere has zeros.
 #[derive(Clone, Copy, Debug, PartialEq, Eq)]
 pub struct Answer {
     /// The number of a refusal, or 0.
@@ -222,6 +286,45 @@ impl Fed {
     pub fn line(&self) -> &[u8] {
         &self.line[..self.len]
     }
+}
+
+impl BanList {
+    /// The masks: whatever the bytes, at most 32 of at most 100 bytes.
+    pub fn masks(&self) -> impl Iterator<Item = &[u8]> {
+        masks_in(&self.room)
+    }
+}
+
+impl std::fmt::Debug for BanList {
+    fn fmt(&self, f: &mut std::fmt::Formatter) -> std::fmt::Result {
+        let used = self.room.iter().rposition(|&b| b != 0).map_or(0, |last| last + 1);
+        write!(f, "\"{}\"", self.room[..used].escape_ascii())
+    }
+}
+
+impl Table {
+    /// The masks of the channel in a slot below 16: whatever the bytes, at most 32 of at most 100
+    /// bytes.
+    pub fn masks(&self, slot: usize) -> impl Iterator<Item = &[u8]> {
+        masks_in(self.list(slot))
+    }
+
+    /// A copy of the channel in a slot below 16, with its ban list.
+    pub fn channel(&self, slot: usize) -> WholeRecord {
+        let room = self.list(slot).try_into().expect("so many bytes");
+        WholeRecord { record: self.head.slots[slot], bans: BanList { room } }
+    }
+
+    fn list(&self, slot: usize) -> &[u8] {
+        &self.bans[slot * LIST..(slot + 1) * LIST]
+    }
+}
+
+/// The masks of a list, of whose lengths only what there is room for counts.
+fn masks_in(list: &[u8]) -> impl Iterator<Item = &[u8]> {
+    let count = usize::from(list[0]).min(MASKS);
+    let rooms = list[1..].chunks_exact(1 + MASK).take(count);
+    rooms.map(|room| &room[1..][..usize::from(room[0]).min(MASK)])
 }
 
 impl Text {

@@ -8,7 +8,7 @@ use std::fs;
 type Constants = BTreeMap<String, u64>;
 
 /// Each limit of the header, and the crate that has it under which name.
-const LIMITS: [(&str, &str, &str); 12] = [
+const LIMITS: [(&str, &str, &str); 16] = [
     ("LINE", "message", "LINE_LIMIT"),
     ("PARAMS", "message", "PARAM_LIMIT"),
     ("TEXT", "glob", "TEXT_LIMIT"),
@@ -17,6 +17,10 @@ const LIMITS: [(&str, &str, &str); 12] = [
     ("KEY", "channel", "Record::KEY"),
     ("MEMBERS", "channel", "Record::MEMBERS"),
     ("SLOTS", "channel", "Record::SLOTS"),
+    ("MASKS", "channel", "Record::MASKS"),
+    ("MASK", "channel", "Record::MASK"),
+    ("LIST", "bans", "BanList::LIST"),
+    ("BANS", "bans", "BanList::BANS"),
     ("LINKS", "links", "Links::COUNT"),
     ("LOG_HEAD", "journal", "HEAD"),
     ("DESCRIPTION", "telling", "DESCRIPTION_LIMIT"),
@@ -115,7 +119,7 @@ fn differing(header: &str, expected: &Constants) -> Vec<String> {
 fn constants_are_the_sources() {
     let expected = expected();
     assert_eq!(differing(&text("include/relay.h"), &expected), [""; 0]);
-    assert_eq!(expected.len(), 48, "0 and 25 numbers, twelve limits, eight modes, two statuses");
+    assert_eq!(expected.len(), 54, "0 and 27 numbers, sixteen limits, eight modes, two statuses");
 }
 
 /// Wrong headers are noticed: each number made greater by one, each constant renamed, and one more.
@@ -132,8 +136,24 @@ fn other_constants_are_noticed() {
         let renamed = format!("RELAY_X_{name} = {number}");
         assert_eq!(changed(&old, &renamed).len(), 2, "{name}");
     }
-    let more = "RELAY_NO_ROOM = 25,\n    RELAY_MORE = 26 ";
-    assert_eq!(changed("RELAY_NO_ROOM = 25 ", more), ["MORE"]);
+    let more = "RELAY_TOO_MANY_MASKS = 27,\n    RELAY_MORE = 28 ";
+    assert_eq!(changed("RELAY_TOO_MANY_MASKS = 27 ", more), ["MORE"]);
+}
+
+/// The sizes of this crate's own are those of the header.
+#[test]
+fn sizes_are_the_headers() {
+    let header = of_header(&text("include/relay.h"));
+    for (name, size) in [
+        ("MASKS", relay::MASKS),
+        ("MASK", relay::MASK),
+        ("LIST", relay::LIST),
+        ("BANS", relay::BANS),
+    ] {
+        assert_eq!(header[name], size as u64, "{name}");
+    }
+    assert_eq!(relay::LIST, 1 + relay::MASKS * (1 + relay::MASK));
+    assert_eq!(relay::BANS, 16 * relay::LIST);
 }
 
 /// The project has one version, which stands in the file VERSION.

@@ -20,12 +20,32 @@ pub fn core_record(r: &model::Record) -> relay::Record {
     }
 }
 
-/// A table of the model in the core's type.
-pub fn core_table(t: &model::Table) -> relay::Table {
-    relay::Table {
+/// A record of the model with its list in the core's type.
+pub fn core_whole(w: &model::WholeRecord) -> relay::WholeRecord {
+    let bans = relay::BanList { room: w.bans.room };
+    relay::WholeRecord { record: core_record(&w.record), bans }
+}
+
+/// The slots and the links of a table of the model in the core's type.
+pub fn core_head(t: &model::Table) -> relay::Head {
+    relay::Head {
         slots: std::array::from_fn(|k| core_record(&t.slots[k])),
         links: relay::Links { set: t.links },
     }
+}
+
+/// The ban lists of a table of the model as they are lent.
+pub fn core_bans(t: &model::Table) -> relay::Bans {
+    let mut bans = [0; relay::BANS];
+    for (room, list) in bans.chunks_exact_mut(relay::LIST).zip(&t.bans) {
+        room.copy_from_slice(&list.room);
+    }
+    bans
+}
+
+/// A table of the model in the core's type.
+pub fn core_table(t: &model::Table) -> relay::Table {
+    relay::Table { head: core_head(t), bans: core_bans(t) }
 }
 
 /// A feeder of the model in the core's type.

@@ -5,9 +5,9 @@ use model::names;
 use model::plain::plain_record;
 use model::refusal::number_of;
 use model::sjoin::read_join;
-use model::{Record, Table};
+use model::{BanList, Record, Table, WholeRecord};
 
-use crate::convert::{core_record, core_table};
+use crate::convert::{core_table, core_whole};
 use crate::inputs::{lines, tables, words};
 use crate::lent::output_length;
 use crate::rng::Rng;
@@ -46,9 +46,10 @@ pub fn trial(rng: &mut Rng, tally: &mut Tally) {
     let seconds = good_lines(&second, &other_start);
     if !both.is_empty() && !seconds.is_empty() {
         both.extend(seconds);
-        let merged = relay::merge(&after_first.slots[0], &after_second.slots[0]);
+        let merged = relay::merge(&after_first.channel(0), &after_second.channel(0));
         assert_eq!(merged.number, relay::ACCEPTED, "{first:?}\n{second:?}");
-        assert_eq!(merged.result, core_record(&plain_record(&both)), "{first:?}\n{second:?}");
+        let plain = WholeRecord { record: plain_record(&both), bans: BanList::EMPTY };
+        assert_eq!(merged.result, core_whole(&plain), "{first:?}\n{second:?}");
     }
 }
 
@@ -135,29 +136,30 @@ fn good_lines(list: &[Join], start: &Table) -> Vec<Record> {
 }
 
 /// Takes the list with the core, from the start, and holds each answer and the table after it to
-/// demand 3.
+/// demand 3. No join adds a mask, so the ban lists are zero at the end as at the start.
 fn fold(list: &[Join], start: &Table, tally: &mut Tally) -> relay::Table {
     let mut table = core_table(start);
     for join in list {
         let mut out = vec![0; join.room];
-        let taken = relay::process(&table, join.link, &join.line, &mut out);
+        let taken = relay::process(&table.head, &mut table.bans, join.link, &join.line, &mut out);
         assert_eq!(taken.number, number_at(join, start), "{join:?} of {list:?}");
         tally.count(taken.number);
-        table = taken.table;
+        table.head = taken.head;
     }
     let good = good_lines(list, start);
     let mut expected = *start;
     if !good.is_empty() {
         expected.slots[0] = plain_record(&good);
     }
-    assert!(table == core_table(&expected), "{list:?}\n{:?}", table.slots[0]);
+    assert!(table == core_table(&expected), "{list:?}\n{:?}", table.head.slots[0]);
+    assert!(table.bans == [0; relay::BANS], "{list:?}");
     table
 }
 
 /// Whether two tables are alike in all but the spelling of the channel's name.
 fn same_but_spelling(a: &relay::Table, b: &relay::Table) -> bool {
-    let (name, other) = (a.slots[0].name, b.slots[0].name);
+    let (name, other) = (a.head.slots[0].name, b.head.slots[0].name);
     let mut respelled = *b;
-    respelled.slots[0].name = name;
+    respelled.head.slots[0].name = name;
     *a == respelled && names::equal(&name, &other)
 }

@@ -18,6 +18,18 @@ impl Lent {
         Lent { bytes: rng.bytes(len + 2 * MARGIN), len }
     }
 
+    /// Room that holds these bytes. What lies on either side of it is the same each time, so that two
+    /// of them are equal exactly if nothing was written there and the rooms are.
+    pub fn holding(bytes: &[u8]) -> Lent {
+        let margin = [0xa5; MARGIN];
+        Lent { bytes: [&margin, bytes, &margin].concat(), len: bytes.len() }
+    }
+
+    /// The room of a table's ban lists.
+    pub fn lists(&mut self) -> &mut relay::Bans {
+        self.room().try_into().expect("it holds so many bytes")
+    }
+
     /// The room itself.
     pub fn room(&mut self) -> &mut [u8] {
         &mut self.bytes[MARGIN..MARGIN + self.len]

@@ -25,14 +25,15 @@ pub struct Trial {
 }
 
 /// All of them.
-pub const TRIALS: [Trial; 12] = [
+pub const TRIALS: [Trial; 13] = [
     Trial { name: "read", run: compare::lines::read, numbers: &[0, 4, 5, 6, 7, 8, 9, 10] },
     Trial { name: "write", run: compare::lines::write, numbers: &[0, 2, 24, 25] },
     Trial { name: "feed", run: compare::feeding::feed, numbers: &[0, 1, 4] },
     Trial { name: "same name", run: compare::texts::same_name, numbers: &[] },
     Trial { name: "match", run: compare::texts::matches, numbers: &[0, 23] },
     Trial { name: "greater key", run: compare::texts::greater_key, numbers: &[] },
-    Trial { name: "merge", run: compare::tables::merge, numbers: &[0, 1, 16, 22] },
+    Trial { name: "merge", run: compare::tables::merge, numbers: &[0, 1, 16, 22, 27] },
+    Trial { name: "banned", run: compare::bans::banned, numbers: &[0, 1, 16, 19, 23] },
     Trial { name: "register", run: compare::tables::register, numbers: &[0, 1, 3] },
     Trial { name: "log", run: compare::log::log, numbers: &[0, 3, 4, 25] },
     Trial { name: "take", run: compare::taking::take, numbers: TAKING },
@@ -40,13 +41,13 @@ pub const TRIALS: [Trial; 12] = [
     Trial { name: "demand 3", run: joins::trial, numbers: AT_THE_START },
 ];
 
-/// The numbers that taking a line can give: all up to 22.
+/// The numbers that taking a line can give: all up to 22, and those of masks.
 const TAKING: &[u8] =
-    &[0, 1, 2, 3, 4, 5, 6, 7, 8, 9, 10, 11, 12, 13, 14, 15, 16, 17, 18, 19, 20, 21, 22];
+    &[0, 1, 2, 3, 4, 5, 6, 7, 8, 9, 10, 11, 12, 13, 14, 15, 16, 17, 18, 19, 20, 21, 22, 26, 27];
 
 /// Those of them with a table that is well formed.
 const WITH_GOOD_TABLE: &[u8] =
-    &[0, 2, 3, 4, 5, 6, 7, 8, 9, 10, 11, 12, 13, 14, 15, 16, 17, 18, 19, 20, 21, 22];
+    &[0, 2, 3, 4, 5, 6, 7, 8, 9, 10, 11, 12, 13, 14, 15, 16, 17, 18, 19, 20, 21, 22, 26, 27];
 
 /// Those of them that a join can have with an empty table.
 const AT_THE_START: &[u8] = &[0, 2, 3, 4, 5, 6, 7, 8, 9, 10, 12, 13, 14, 15, 16, 17, 18];

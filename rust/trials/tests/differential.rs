@@ -51,6 +51,11 @@ fn merge() {
 }
 
 #[test]
+fn banned() {
+    run("banned", 30_000);
+}
+
+#[test]
 fn register() {
     run("register", 10_000);
 }

@@ -4,10 +4,10 @@ use Rattle.console.proofs.main.Statement.{statement}
 use Rattle.console.proofs.main.Tie as tie
 
 abbrev Inv-loop : tie.InvT-loop
-Inv-loop typed s₀ turns₀ s turns = Unit {0}
+Inv-loop typed bans₀ s₀ turns₀ bans s turns = Unit {0}
 
 abbrev μ-loop : tie.MeasureT-loop
-μ-loop typed s₀ turns₀ s turns = turns
+μ-loop typed bans₀ s₀ turns₀ bans s turns = turns
 
 open-journal-requires : tie.Need-open-journal-requires Inv-loop μ-loop
 open-journal-requires c κs = search needs

@@ -3,6 +3,7 @@
 use mathlib.Core.Path.{sym, ap, _∙_}
 use native.Mathlib.Omega.{arith}
 use borrow.Author.Needs.{needs}
+use Rattle.table.specs.Network.{tableWith}
 use Rattle.relay.specs.declared.Taken.{Taken}
 use Rattle.relay.specs.Arrival.{arrival}
 use Rattle.relay.proofs.Taking.{answer-number}
@@ -29,9 +30,10 @@ returns c = search needs
 keep-requires : tie.Need-keep-requires
 keep-requires c κs =
     let judged = c .before .before .before in
-    let a = judged .before .before .before .args in
-    accepted-line (a .s .table) (arrival (a .link) (a .line .now)) _
-    (sym (answer-number (a .s .table) (arrival (a .link) (a .line .now)) _) ∙ ap (λ (t : Taken). t .number) (sym (judged .process .ensures .0)) ∙ c .if1 .left)
+    let a = judged .before .before .before .before .args in
+    let t = tableWith (a .s .head) (a .bans .now) in
+    accepted-line t (arrival (a .link) (a .line .now)) _
+    (sym (answer-number t (arrival (a .link) (a .line .now)) _) ∙ ap (λ (x : Taken). x .number) (sym (judged .process .ensures .0)) ∙ c .if1 .left)
 
 returns-2 : tie.Need-returns-2
 returns-2 c = search needs

@@ -8,10 +8,10 @@ use Rattle.console.proofs.take_piece.Statement.{statement}
 use Rattle.console.proofs.take_piece.Tie as tie
 
 abbrev Inv-loop : tie.InvT-loop
-Inv-loop piece s₀ at₀ s at = at ≤ length piece
+Inv-loop bans₀ piece s₀ at₀ bans s at = at ≤ length piece
 
 abbrev μ-loop : tie.MeasureT-loop
-μ-loop piece s₀ at₀ s at = length piece - at
+μ-loop bans₀ piece s₀ at₀ bans s at = length piece - at
 
 loop-holds : tie.Need-loop-holds Inv-loop μ-loop
 loop-holds c = search needs
@@ -27,14 +27,14 @@ take-part-requires c κs = search needs
 
 loop-less : tie.Need-loop-less Inv-loop μ-loop
 loop-less c =
-    let split = c .before .before in
+    let split = c .before .before .before in
     let loop = split .before .before .before in
     let piece = loop .before .before .args .piece .now in
     omega (arith, first-some piece (loop .loop .at) (split .before .before .loop-test .taken), first-in piece (loop .loop .at) (loop .loop .inv))
 
 loop-again : tie.Need-loop-again Inv-loop μ-loop
 loop-again c =
-    let split = c .before .before in
+    let split = c .before .before .before in
     let loop = split .before .before .before in
     omega (arith, first-in (loop .before .before .args .piece .now) (loop .loop .at) (loop .loop .inv))
 

@@ -42,14 +42,14 @@ time c = c .before .before .before .before .before .before .before .earlier .res
 timed : (c : tie.After-united) → time c ≡ min (start c .args .a .time) (start c .args .b .time)
 timed c = c .before .before .before .before .before .before .before .earlier .ensures
 
-refused-requires : tie.Need-refused-requires
-refused-requires c κs = search needs
+unmerged-requires : tie.Need-unmerged-requires
+unmerged-requires c κs = search needs
 
 returns : tie.Need-returns
 returns c =
     let u = c .before .before .before in
     let a = start u .args in
-    c .refused .ensures
+    c .unmerged .ensures
     ∙ sym (combined-over (a .a) (a .b) (time u) (timed u) _ _ (first u) (second u) (omega (arith, u .united .ensures .counts, c .before .if1 .taken)))
 
 given-if-requires : tie.Need-given-if-requires
@@ -88,7 +88,7 @@ combine-spec =
     within-requires
     within-requires-2
     united-requires
-    refused-requires
+    unmerged-requires
     returns
     given-if-requires
     given-if-requires-2

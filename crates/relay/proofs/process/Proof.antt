@@ -1,5 +1,5 @@
 -- `process` meets its contract: a number refuses the line, or the change that it is judged to be is made. Assumes nothing.
-use mathlib.Core.Path.{_≡_, refl, sym, ap, _∙_}
+use mathlib.Core.Path.{_≡_, refl, sym, ap, ap₂, _∙_}
 use mathlib.Core.Bool.{Bool, true}
 use mathlib.Core.List.{List}
 use Prim.Native.Nat.{ℕ}
@@ -11,24 +11,29 @@ use Rattle.octets.specs.Room.{front}
 use Rattle.laws.proofs.Lists.{unmapped}
 use Rattle.message.specs.declared.Message.{Message}
 use Rattle.message.specs.declared.Parsed.{Parsed}
+use Rattle.message.specs.Content.{Content}
+use Rattle.message.specs.Parts.{contentBy}
 use Rattle.message.specs.Reading.{messageOf}
+use Rattle.message.proofs.SpanContents.{message-holds}
 use Rattle.channel.specs.Limits.{slotCount}
-use Rattle.table.specs.declared.Table.{Table}
-use Rattle.table.specs.Network.{networkOf}
+use Rattle.table.specs.declared.Found.{Found}
+use Rattle.table.specs.Network.{Table, Network, networkOf, tableWith}
 use Rattle.table.specs.Table.{goodTable}
+use Rattle.relay.specs.declared.Asked.{Asked}
 use Rattle.relay.specs.declared.Change.{Change}
 use Rattle.relay.specs.declared.Taken.{Taken}
-use Rattle.relay.specs.Arrival.{Arrival, arrival}
+use Rattle.relay.specs.Arrival.{Arrival, arrival, said}
 use Rattle.relay.specs.Commands.{commandIn}
-use Rattle.relay.specs.Relay.{meaningIn, entryRules, processRules, refused, processAnswer, sent}
-use Rattle.relay.specs.Private.Commands.{enteredBy}
-use Rattle.relay.specs.Private.Acting.{writtenBy}
+use Rattle.relay.specs.Relay.{meaningIn, entryRules, enteringRules, processRules, Outcome, processAnswer, takenOf, sent}
+use Rattle.relay.specs.Private.Work.{refusing}
+use Rattle.relay.specs.Private.Commands.{workOf, lookedUp}
+use Rattle.relay.specs.Private.Acting.{headWith, doneBy, writtenBy}
 use Rattle.relay.proofs.Judgements.{Judged}
 use Rattle.relay.proofs.Lawful.{Lawful}
 use Rattle.relay.proofs.Commands.{lawful}
 use Rattle.relay.proofs.Asking.{request-refuses, request-passes}
 use Rattle.relay.proofs.Entering.{entry-good, entry-refuses, enters, command-decides}
-use Rattle.relay.proofs.Answering.{answer-refused, sent-nothing, sent-line, answer-taken, written-line}
+use Rattle.relay.proofs.Answering.{answer-refused, sent-nothing, sent-line, answer-taken, bans-taken, written-line}
 use Rattle.relay.proofs.process.Statement.{statement}
 use Rattle.relay.proofs.process.Tie as tie
 
@@ -37,10 +42,10 @@ abbrev Entered : Type 0
 Entered = tie.After-entry-number
 
 abbrev start : Entered → tie.Start
-start c = c .before .before .before .before
+start c = c .before .before .before .before .before
 
 abbrev table : Entered → Table
-table c = start c .args .t
+table c = tableWith (start c .args .t) (start c .args .bans .now)
 
 -- the line, by its link
 abbrev came : Entered → Arrival
@@ -55,10 +60,10 @@ number c = firstOf (processRules (table c) (came c) (length (lent c)))
 
 -- and those of table, output and link
 abbrev entry : Entered → ℕ
-entry c = firstOf (entryRules (table c) (came c) (length (lent c)))
+entry c = firstOf (enteringRules (table c) (came c) (length (lent c)))
 
 entry-is : (c : Entered) → entry c ≡ c .entry-number .result
-entry-is c = ap (λ (g : Bool). firstOf (enteredBy g (length (lent c)) (table c .links .set) (came c .link))) (sym (c .before .is-well-formed .ensures)) ∙ sym (c .entry-number .ensures)
+entry-is c = ap (λ (g : Bool). firstOf (entryRules g (length (lent c)) (table c .links) (came c .link))) (sym (c .before .is-well-formed .ensures)) ∙ sym (c .entry-number .ensures)
 
 sixteen : (c : tie.Start) → length (c .args .t .slots) ≡ slotCount
 sixteen c = search (needs, unmapped)
@@ -71,7 +76,7 @@ passes : (c : tie.Else1) → entry (c .before) ≡ accepted
 passes c = entry-is (c .before) ∙ c .if1 .left
 
 good : (c : tie.Else1) → goodTable (table (c .before)) ≡ true
-good c = let e = c .before in entry-good (goodTable (table e)) (table e .links .set) (came e .link) (length (lent e)) (passes c)
+good c = let e = c .before in entry-good (goodTable (table e)) (table e .links) (came e .link) (length (lent e)) (passes c)
 
 -- ---- the request is settled
 abbrev Settled : Type 0
@@ -79,7 +84,7 @@ Settled = tie.After-settled
 
 -- the moments before it: the request is made, its number passes, the entry's numbers pass
 abbrev asked : Settled → tie.After-requested
-asked c = c .before .before .before .before
+asked c = c .before .before .before .before .before .before
 
 abbrev passed : Settled → tie.Else1
 passed c = asked c .before .before
@@ -90,12 +95,28 @@ entered c = passed c .before
 abbrev change : Settled → Change
 change c = c .settled .result
 
+-- the line's parts are the message that it reads as
+read-as : (c : Settled) → asked c .before .parse .result .message ≡ messageOf (came (entered c) .line)
+read-as c = ap (λ (x : Parsed). x .message) (asked c .before .parse .ensures .0)
+
+said-so : (c : Settled) → contentBy (came (entered c) .line) (asked c .before .parse .result .message) ≡ said (came (entered c))
+said-so c = ap (contentBy (came (entered c) .line)) (read-as c) ∙ message-holds (came (entered c) .line)
+
+-- what a request is settled to, with its slot and its message
+abbrev settles : Network → Asked → Found → Content → Change
+settles n x f y = workOf (x .request .command) .settles x f y (n .bans)
+
 judged : (c : Settled) → (number (entered c) ≡ change c .number) × Judged (meaningIn (came (entered c))) (networkOf (table (entered c))) (came (entered c)) (change c)
 judged c =
     let e = entered c in
     let r = asked c .requested in
-    let q = request-passes (came e) (law e) (r .result) (r .ensures) (c .before .before .if2 .left) in
-    let j = law e .judged (networkOf (table e)) (came e) (good (passed c)) (sixteen (start e)) (q .0) (q .1) (change c) (rw (c .before .slot-of .ensures, q .2) at (c .settled .ensures)) in
+    let q = request-passes (came e) (law e) (r .result) (r .ensures) (c .before .before .before .before .if2 .left) in
+    let n = networkOf (table e) in
+    let settled =
+    c .settled .ensures
+    ∙ ap₂ (settles n (r .result)) (c .before .before .slot-of .ensures) (said-so c)
+    ∙ ap (λ (x : Asked). settles n x (lookedUp (n .slots) (came e .line) (x .request .name)) (said (came e))) (q .2) in
+    let j = law e .judged n (came e) (good (passed c)) (sixteen (start e)) (q .0) (q .1) (change c) settled in
     (enters (table e) (came e) (length (lent e)) (passes (passed c)) ∙ command-decides (came e) (q .0) (networkOf (table e)) ∙ sym (j .number), j)
 
 -- ---- the line is sent: no number refused it
@@ -103,9 +124,12 @@ abbrev accepts : tie.After-send → tie.Else3
 accepts c = c .before .before
 
 -- ---- a refusal
-refuses : (c : Entered) (k : ℕ) → number c ≡ k → (k ≡ accepted → ⊥) → (r : Taken) → r ≡ refused (table c) k
-    → (r ≡ processAnswer (table c) (came c) (length (lent c))) × (lent c ≡ front (sent (table c) (came c) (length (lent c))) (lent c))
-refuses c k e ne r f = (f ∙ answer-refused (table c) (came c) (length (lent c)) k e ne, rw (sent-nothing (table c) (came c) (length (lent c)) k e ne))
+refuses : (c : Entered) (k : ℕ) → number c ≡ k → (k ≡ accepted → ⊥) → (r : Taken) → r ≡ refusing (start c .args .t) k
+    → (r ≡ takenOf (processAnswer (table c) (came c) (length (lent c))))
+    × ((table c .bans ≡ processAnswer (table c) (came c) (length (lent c)) .table .bans) × (lent c ≡ front (sent (table c) (came c) (length (lent c))) (lent c)))
+refuses c k e ne r f =
+    let answer = answer-refused (table c) (came c) (length (lent c)) k e ne in
+    (f ∙ ap takenOf answer, (ap (λ (o : Outcome). o .table .bans) answer, rw (sent-nothing (table c) (came c) (length (lent c)) k e ne)))
 
 -- ---- the needs
 is-well-formed-requires : tie.Need-is-well-formed-requires
@@ -156,33 +180,37 @@ returns-3 c = let j = c .before .before in refuses (entered j) _ (judged j .0) (
 send-requires : tie.Need-send-requires
 send-requires c κs = search needs
 
-relay-set-requires : tie.Need-relay-set-requires
-relay-set-requires c κs = search needs
+receivers-requires : tie.Need-receivers-requires
+receivers-requires c κs = search needs
 
 count-requires : tie.Need-count-requires
 count-requires c κs = search needs
 
 changed-requires : tie.Need-changed-requires
-changed-requires c κs = judged (accepts (c .before .before .before .before) .before) .1 .inside
+changed-requires c κs = judged (accepts (c .before .before .before .before .before) .before) .1 .inside
 
 same-length : tie.Need-same-length
 same-length c = search needs
 
 returns-4 : tie.Need-returns-4
 returns-4 c =
-    let set = c .before .before in
-    let sends = set .before .before .before in
+    let counted = c .before .before in
+    let to = counted .before in
+    let sends = to .before .before .before in
     let left = accepts sends .if3 .left in
     let j = accepts sends .before in
     let e = entered j in
     let none : number e ≡ accepted = judged j .0 ∙ left in
     let does = judged j .1 .does (sym (judged j .1 .number) ∙ left) in
-    let parsed = asked j .before .parse in
-    let m : parsed .result .message ≡ messageOf (came e .line) = ap (λ (x : Parsed). x .message) (parsed .ensures .0) in
-    let w = ap (λ (x : Message). writtenBy (change j .sending) (change j) (came e .line) x (lent e)) m ∙ written-line (table e) (came e) (length (lent e)) none (change j) does (lent e) refl in
+    let done : Content → Network = λ x. doneBy (change j .deed) (change j) x (networkOf (table e)) in
+    let w = ap (λ (x : Message). writtenBy (change j .sending) (change j) (came e .line) x (lent e)) (read-as j) ∙ written-line (table e) (came e) (length (lent e)) none (change j) does (lent e) refl in
     let s = sends .send .ensures in (
-      answer-taken (table e) (came e) (length (lent e)) none (change j) does _ _ _ _ _ left (c .changed .ensures) (set .relay-set .ensures) (c .before .count .ensures) (s .0 ∙ ap (λ (l : List ℕ). length l) w),
-      s .1 ∙ ap (λ (l : List ℕ). front l (lent e)) (w ∙ sym (sent-line (table e) (came e) (length (lent e)) none)),
+      answer-taken (table e) (came e) (length (lent e)) none (change j) does _ _ _ _ _ left (c .changed .ensures .0 ∙ ap (λ (x : Content). headWith (start e .args .t) (done x .slots)) (said-so j)) (to .receivers .ensures)
+          (counted .count .ensures) (s .0 ∙ ap (λ (l : List ℕ). length l) w),
+      (
+        c .changed .ensures .1 ∙ ap (λ (x : Content). done x .bans) (said-so j) ∙ bans-taken (table e) (came e) (length (lent e)) none (change j) does,
+        s .1 ∙ ap (λ (l : List ℕ). front l (lent e)) (w ∙ sym (sent-line (table e) (came e) (length (lent e)) none)),
+      ),
     )
 
 pub process-spec : {M : Type 1} → statement M
@@ -202,7 +230,7 @@ process-spec =
     refused-requires-3
     returns-3
     send-requires
-    relay-set-requires
+    receivers-requires
     count-requires
     changed-requires
     same-length

@@ -1,24 +1,23 @@
--- The steps of any command: what a line asks for, the slot that its name uses, and what the request comes to there; and what decides before them.
+-- The steps of any command: what a line asks for, the slot that its name uses, and what the request comes to there.
 use Prim.Native.Nat.{ℕ}
-use mathlib.Core.Bool.{Bool, true, not, cond}
+use mathlib.Core.Bool.{true, cond}
 use mathlib.Core.List.{List, [], _∷_}
-use lib.Dec.{eqb, ltb}
-use Rattle.refusal.specs.Numbers.{accepted, notWellFormed, outputTooShort, badLink, unknownCommand}
-use Rattle.refusal.specs.Rules.{Rule, _when_, firstOf}
-use Rattle.links.specs.Links.{hasLink}
+use lib.Dec.{eqb}
+use Rattle.refusal.specs.Numbers.{accepted, unknownCommand}
+use Rattle.refusal.specs.Rules.{_when_, firstOf}
 use Rattle.message.specs.declared.Message.{Message}
 use Rattle.message.specs.declared.Span.{Span}
-use Rattle.message.specs.Grammar.{lineLimit}
 use Rattle.message.specs.Content.{Content}
 use Rattle.message.specs.Parts.{bytesAt}
 use Rattle.message.specs.Reading.{numberFor, isRead, contentOf, messageOf}
 use Rattle.channel.specs.declared.Record.{Record}
 use Rattle.channel.specs.Record.{emptyRecord}
 use Rattle.table.specs.declared.Found.{Found}
+use Rattle.table.specs.Network.{Network}
 use Rattle.table.specs.declared.Slot.the-variants.{Full}
 use Rattle.table.specs.Slots.{foundFor}
 use Rattle.relay.specs.declared.Command.{Command}
-use Rattle.relay.specs.declared.Command.the-variants.{Sjoin, Part, Quit, Unknown}
+use Rattle.relay.specs.declared.Command.the-variants.{Sjoin, Part, Quit, Bmask, Unknown}
 use Rattle.relay.specs.declared.Asked.{Asked}
 use Rattle.relay.specs.declared.Change.{Change}
 use Rattle.relay.specs.Commands.{commandIn}
@@ -26,25 +25,19 @@ use Rattle.relay.specs.Private.Work.{Work, nothing, unchanged}
 use Rattle.relay.specs.Private.Sjoin as joining
 use Rattle.relay.specs.Private.Part as parting
 use Rattle.relay.specs.Private.Quit as quitting
+use Rattle.relay.specs.Private.Bmask as masking
 
 -- an unknown command's own rule applies, so that it asks for nothing
 abbrev pub idle : Work
-idle = record { own = λ c. unknownCommand when true ∷ []; asks = λ m c. nothing accepted; settles = λ q incoming f. unchanged unknownCommand }
+idle = record { own = λ c. unknownCommand when true ∷ []; asks = λ m c. nothing accepted; settles = λ q f c bans. unchanged unknownCommand }
 
 -- what the code makes of each
 abbrev pub workOf : Command → Work
 workOf Sjoin = joining.work
 workOf Part = parting.work
 workOf Quit = quitting.work
+workOf Bmask = masking.work
 workOf Unknown = idle
-
--- ---- the numbers 1 to 3, by whether the table is well formed, n bytes of lent output, and the link, of a set of registered ones
-abbrev pub enteredBy : Bool → ℕ → ℕ → ℕ → List Rule
-enteredBy good n set link =
-    notWellFormed when not good
-    ∷ outputTooShort when ltb n lineLimit
-    ∷ badLink when not (hasLink set link)
-    ∷ []
 
 -- ---- what a message asks for, or the number of its first own rule that applies
 unfoldable pub askedBy : Command → Message → Content → Asked
@@ -59,5 +52,5 @@ unfoldable pub lookedUp : List Record → List ℕ → Span → Found
 lookedUp slots line name = cond (eqb (name .start) (name .end)) (record { «record» = emptyRecord; slot = Full }) (foundFor slots (bytesAt line name))
 
 -- ---- what it comes to there
-abbrev pub settledIn : List Record → List ℕ → Asked → Change
-settledIn slots line q = workOf (q .request .command) .settles (q .request) (q .incoming) (lookedUp slots line (q .request .name))
+abbrev pub settledIn : Network → List ℕ → Asked → Change
+settledIn n line q = workOf (q .request .command) .settles q (lookedUp (n .slots) line (q .request .name)) (contentOf line) (n .bans)

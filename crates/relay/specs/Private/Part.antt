@@ -13,16 +13,17 @@ use Rattle.message.specs.Content.{sourceIn}
 use Rattle.relay.specs.declared.Command.the-variants.{Part}
 use Rattle.relay.specs.declared.Change.{Change}
 use Rattle.relay.specs.declared.Sending.the-variants.{AsRead}
+use Rattle.relay.specs.Leaving.{isLast}
 use Rattle.relay.specs.Part.{partRules}
 use Rattle.relay.specs.Private.Work.{Work, nowhere, asking, unchanged, sets}
 
--- slot k is to hold the record that is left
-abbrev pub parts : ℕ → Record → Change
-parts k left = sets k left AsRead emptyRecord
+-- slot k is to hold the record that is left, and its list goes with the last member
+abbrev pub parts : ℕ → Record → List ℕ → Change
+parts k held user = sets k (isLast user held) (without user held) AsRead emptyRecord
 
 -- unless the user isn't there
 unfoldable pub partsHeld : ℕ → Record → List ℕ → Change
-partsHeld k held user = cond (hasMember user (decode held .members)) (parts k (without user held)) (unchanged notOnChannel)
+partsHeld k held user = cond (hasMember user (decode held .members)) (parts k held user) (unchanged notOnChannel)
 
 -- by the slot that the name uses, and the record that has it
 abbrev pub partsFound : Slot → Record → List ℕ → Change
@@ -34,6 +35,6 @@ partsFound Full held user = unchanged noSuchChannel
 abbrev pub work : Work
 work = record {
   own = partRules;
-  asks = λ m c. asking (getD (m .params) 0 nowhere) (sourceIn c) Part accepted emptyRecord;
-  settles = λ q incoming f. partsFound (f .slot) (f .«record») (q .user);
+  asks = λ m c. asking (getD (m .params) 0 nowhere) (sourceIn c) 0 Part accepted emptyRecord;
+  settles = λ q f c bans. partsFound (f .slot) (f .«record») (q .request .user);
 }

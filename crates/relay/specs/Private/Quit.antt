@@ -10,6 +10,6 @@ use Rattle.relay.specs.Private.Work.{Work, nowhere, asking, drops}
 abbrev pub work : Work
 work = record {
   own = quitRules;
-  asks = λ m c. asking nowhere (sourceIn c) Quit accepted emptyRecord;
-  settles = λ q incoming f. drops (q .user) AsRead;
+  asks = λ m c. asking nowhere (sourceIn c) 0 Quit accepted emptyRecord;
+  settles = λ q f c bans. drops (q .request .user) AsRead;
 }

@@ -1,14 +1,14 @@
 -- SJOIN: its record is merged into the one that its slot holds, or opens the slot.
 use Prim.Native.Nat.{ℕ}
-use mathlib.Core.Bool.{Bool, cond}
+use mathlib.Core.Bool.{Bool, false, cond}
 use lib.ListN.{getD, replicate}
-use lib.Dec.{eqb}
+use lib.Dec.{eqb, ltb}
 use Rattle.refusal.specs.Numbers.{accepted, noFreeSlot}
 use Rattle.channel.specs.declared.Record.{Record}
 use Rattle.channel.specs.Limits.{keyLimit}
 use Rattle.channel.specs.Record.{encode}
 use Rattle.channel.specs.Standing.{bare}
-use Rattle.merging.specs.declared.Merged.{Merged}
+use Rattle.merging.specs.declared.Combined.{Combined}
 use Rattle.merging.specs.Merging.{combined}
 use Rattle.table.specs.declared.Slot.{Slot}
 use Rattle.table.specs.declared.Slot.the-variants.{Held, Free, Full}
@@ -34,24 +34,26 @@ toldOf result incoming =
       count = incoming .count;
     }
 
--- slot k is to hold the record that results, and what stands of the incoming one goes out
-abbrev pub joins : ℕ → Record → Record → Change
-joins k result incoming = sets k result Anew (toldOf result incoming)
+-- slot k is to hold the record that results, its list emptied if so, and what stands of the incoming one goes out
+abbrev pub joins : ℕ → Bool → Record → Record → Change
+joins k emptied result incoming = sets k emptied result Anew (toldOf result incoming)
 
--- the result is what the records merge to, unless that is refused
+-- the result is what the records merge to, unless that is refused; an earlier time empties the list
 unfoldable pub joinsHeld : ℕ → Record → Record → Change
-joinsHeld k held incoming = let m : Merged = combined held incoming in cond (eqb (m .number) accepted) (joins k (m .result) incoming) (unchanged (m .number))
+joinsHeld k held incoming =
+    let m : Combined = combined held incoming in
+    cond (eqb (m .number) accepted) (joins k (ltb (incoming .time) (held .time)) (m .result) incoming) (unchanged (m .number))
 
 -- by the slot that the name uses, and the record that has it
 abbrev pub joinsFound : Slot → Record → Record → Change
 joinsFound (Held k) held incoming = joinsHeld k held incoming
-joinsFound (Free k) held incoming = joins k incoming incoming
+joinsFound (Free k) held incoming = joins k false incoming incoming
 joinsFound Full held incoming = unchanged noFreeSlot
 
 -- the name is the second parameter
 abbrev pub work : Work
 work = record {
   own = joinRules;
-  asks = λ m c. asking (getD (m .params) 1 nowhere) noUser Sjoin accepted (encode (channelIn c));
-  settles = λ q incoming f. joinsFound (f .slot) (f .«record») incoming;
+  asks = λ m c. asking (getD (m .params) 1 nowhere) noUser 0 Sjoin accepted (encode (channelIn c));
+  settles = λ q f c bans. joinsFound (f .slot) (f .«record») (q .incoming);
 }

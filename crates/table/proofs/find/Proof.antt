@@ -18,7 +18,7 @@ use Rattle.channel.specs.declared.Record.{Record}
 use Rattle.channel.specs.Limits.{slotCount}
 use Rattle.channel.specs.Record.{emptyRecord}
 use Rattle.channel.proofs.Record as of-record
-use Rattle.table.specs.declared.Table.{Table}
+use Rattle.table.specs.declared.Head.{Head}
 use Rattle.table.specs.declared.Slot.the-variants.{Held}
 use Rattle.table.specs.Table.{holds}
 use Rattle.table.specs.Slots.{firstAt, heldIn}
@@ -60,7 +60,7 @@ fifty c k h =
 abbrev Looking : Type 0
 Looking = tie.In-slots Inv-loop μ-loop Inv-slots μ-slots
 
-abbrev table : Looking → Table
+abbrev table : Looking → Head
 table c = c .before .before .before .args .t1
 
 abbrev sought : Looking → List ℕ

@@ -4,10 +4,10 @@ use Rattle.vectors.proofs.main.Statement.{statement}
 use Rattle.vectors.proofs.main.Tie as tie
 
 abbrev Inv-loop : tie.InvT-loop
-Inv-loop input₀ turns₀ input turns = Unit {0}
+Inv-loop bans₀ input₀ turns₀ bans input turns = Unit {0}
 
 abbrev μ-loop : tie.MeasureT-loop
-μ-loop input₀ turns₀ input turns = turns
+μ-loop bans₀ input₀ turns₀ bans input turns = turns
 
 empty-requires : tie.Need-empty-requires Inv-loop μ-loop
 empty-requires c κs = search needs

@@ -5,10 +5,10 @@ use Rattle.vectors.proofs.take_piece.Statement.{statement}
 use Rattle.vectors.proofs.take_piece.Tie as tie
 
 abbrev Inv-loop : tie.InvT-loop
-Inv-loop piece input₀ i₀ i-end input i = i ≤ i-end
+Inv-loop bans₀ piece input₀ i₀ i-end bans input i = i ≤ i-end
 
 abbrev μ-loop : tie.MeasureT-loop
-μ-loop piece input₀ i₀ i-end input i = i-end - i
+μ-loop bans₀ piece input₀ i₀ i-end bans input i = i-end - i
 
 loop-holds : tie.Need-loop-holds Inv-loop μ-loop
 loop-holds c = search needs

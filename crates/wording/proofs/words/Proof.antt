@@ -162,6 +162,18 @@ slice-aggregate-held-26 c = search needs
 held-requires-26 : tie.Need-held-requires-26
 held-requires-26 c κs = search needs
 
+slice-aggregate-held-27 : tie.Need-slice-aggregate-held-27
+slice-aggregate-held-27 c = search needs
+
+held-requires-27 : tie.Need-held-requires-27
+held-requires-27 c κs = search needs
+
+slice-aggregate-held-28 : tie.Need-slice-aggregate-held-28
+slice-aggregate-held-28 c = search needs
+
+held-requires-28 : tie.Need-held-requires-28
+held-requires-28 c κs = search needs
+
 returns : tie.Need-returns
 unfolding bytesOf table wordsIn
 returns c = c .held .ensures ∙ sym (ap textOf (c .before .before .match .keys1))
@@ -264,32 +276,42 @@ returns-25 c = c .held25 .ensures ∙ sym (ap textOf (c .before .before .match .
 
 returns-26 : tie.Need-returns-26
 unfolding bytesOf table wordsIn
-returns-26 c =
+returns-26 c = c .held26 .ensures ∙ sym (ap textOf (c .before .before .match .keys26))
+
+returns-27 : tie.Need-returns-27
+unfolding bytesOf table wordsIn
+returns-27 c = c .held27 .ensures ∙ sym (ap textOf (c .before .before .match .keys27))
+
+returns-28 : tie.Need-returns-28
+unfolding bytesOf table wordsIn
+returns-28 c =
     let n = c .before .before .before .args .number in
     let other = c .before .before .match .rest in
-    c .held26 .ensures ∙ simp (
-      ne-eqb 1 n (λ e. other .0 .0 .0 .0 .0 .0 .0 .0 .0 .0 .0 .0 .0 .0 .0 .0 .0 .0 .0 .0 .0 .0 .0 .0 .1 (sym e)),
-      ne-eqb 2 n (λ e. other .0 .0 .0 .0 .0 .0 .0 .0 .0 .0 .0 .0 .0 .0 .0 .0 .0 .0 .0 .0 .0 .0 .0 .1 (sym e)),
-      ne-eqb 3 n (λ e. other .0 .0 .0 .0 .0 .0 .0 .0 .0 .0 .0 .0 .0 .0 .0 .0 .0 .0 .0 .0 .0 .0 .1 (sym e)),
-      ne-eqb 4 n (λ e. other .0 .0 .0 .0 .0 .0 .0 .0 .0 .0 .0 .0 .0 .0 .0 .0 .0 .0 .0 .0 .0 .1 (sym e)),
-      ne-eqb 5 n (λ e. other .0 .0 .0 .0 .0 .0 .0 .0 .0 .0 .0 .0 .0 .0 .0 .0 .0 .0 .0 .0 .1 (sym e)),
-      ne-eqb 6 n (λ e. other .0 .0 .0 .0 .0 .0 .0 .0 .0 .0 .0 .0 .0 .0 .0 .0 .0 .0 .0 .1 (sym e)),
-      ne-eqb 7 n (λ e. other .0 .0 .0 .0 .0 .0 .0 .0 .0 .0 .0 .0 .0 .0 .0 .0 .0 .0 .1 (sym e)),
-      ne-eqb 8 n (λ e. other .0 .0 .0 .0 .0 .0 .0 .0 .0 .0 .0 .0 .0 .0 .0 .0 .0 .1 (sym e)),
-      ne-eqb 9 n (λ e. other .0 .0 .0 .0 .0 .0 .0 .0 .0 .0 .0 .0 .0 .0 .0 .0 .1 (sym e)),
-      ne-eqb 10 n (λ e. other .0 .0 .0 .0 .0 .0 .0 .0 .0 .0 .0 .0 .0 .0 .0 .1 (sym e)),
-      ne-eqb 11 n (λ e. other .0 .0 .0 .0 .0 .0 .0 .0 .0 .0 .0 .0 .0 .0 .1 (sym e)),
-      ne-eqb 12 n (λ e. other .0 .0 .0 .0 .0 .0 .0 .0 .0 .0 .0 .0 .0 .1 (sym e)),
-      ne-eqb 13 n (λ e. other .0 .0 .0 .0 .0 .0 .0 .0 .0 .0 .0 .0 .1 (sym e)),
-      ne-eqb 14 n (λ e. other .0 .0 .0 .0 .0 .0 .0 .0 .0 .0 .0 .1 (sym e)),
-      ne-eqb 15 n (λ e. other .0 .0 .0 .0 .0 .0 .0 .0 .0 .0 .1 (sym e)),
-      ne-eqb 16 n (λ e. other .0 .0 .0 .0 .0 .0 .0 .0 .0 .1 (sym e)),
-      ne-eqb 17 n (λ e. other .0 .0 .0 .0 .0 .0 .0 .0 .1 (sym e)),
-      ne-eqb 18 n (λ e. other .0 .0 .0 .0 .0 .0 .0 .1 (sym e)),
-      ne-eqb 19 n (λ e. other .0 .0 .0 .0 .0 .0 .1 (sym e)),
-      ne-eqb 20 n (λ e. other .0 .0 .0 .0 .0 .1 (sym e)),
-      ne-eqb 21 n (λ e. other .0 .0 .0 .0 .1 (sym e)),
-      ne-eqb 22 n (λ e. other .0 .0 .0 .1 (sym e)),
+    c .held28 .ensures ∙ simp (
+      ne-eqb 1 n (λ e. other .0 .0 .0 .0 .0 .0 .0 .0 .0 .0 .0 .0 .0 .0 .0 .0 .0 .0 .0 .0 .0 .0 .0 .0 .0 .0 .1 (sym e)),
+      ne-eqb 2 n (λ e. other .0 .0 .0 .0 .0 .0 .0 .0 .0 .0 .0 .0 .0 .0 .0 .0 .0 .0 .0 .0 .0 .0 .0 .0 .0 .1 (sym e)),
+      ne-eqb 3 n (λ e. other .0 .0 .0 .0 .0 .0 .0 .0 .0 .0 .0 .0 .0 .0 .0 .0 .0 .0 .0 .0 .0 .0 .0 .0 .1 (sym e)),
+      ne-eqb 4 n (λ e. other .0 .0 .0 .0 .0 .0 .0 .0 .0 .0 .0 .0 .0 .0 .0 .0 .0 .0 .0 .0 .0 .0 .0 .1 (sym e)),
+      ne-eqb 5 n (λ e. other .0 .0 .0 .0 .0 .0 .0 .0 .0 .0 .0 .0 .0 .0 .0 .0 .0 .0 .0 .0 .0 .0 .1 (sym e)),
+      ne-eqb 6 n (λ e. other .0 .0 .0 .0 .0 .0 .0 .0 .0 .0 .0 .0 .0 .0 .0 .0 .0 .0 .0 .0 .0 .1 (sym e)),
+      ne-eqb 7 n (λ e. other .0 .0 .0 .0 .0 .0 .0 .0 .0 .0 .0 .0 .0 .0 .0 .0 .0 .0 .0 .0 .1 (sym e)),
+      ne-eqb 8 n (λ e. other .0 .0 .0 .0 .0 .0 .0 .0 .0 .0 .0 .0 .0 .0 .0 .0 .0 .0 .0 .1 (sym e)),
+      ne-eqb 9 n (λ e. other .0 .0 .0 .0 .0 .0 .0 .0 .0 .0 .0 .0 .0 .0 .0 .0 .0 .0 .1 (sym e)),
+      ne-eqb 10 n (λ e. other .0 .0 .0 .0 .0 .0 .0 .0 .0 .0 .0 .0 .0 .0 .0 .0 .0 .1 (sym e)),
+      ne-eqb 11 n (λ e. other .0 .0 .0 .0 .0 .0 .0 .0 .0 .0 .0 .0 .0 .0 .0 .0 .1 (sym e)),
+      ne-eqb 12 n (λ e. other .0 .0 .0 .0 .0 .0 .0 .0 .0 .0 .0 .0 .0 .0 .0 .1 (sym e)),
+      ne-eqb 13 n (λ e. other .0 .0 .0 .0 .0 .0 .0 .0 .0 .0 .0 .0 .0 .0 .1 (sym e)),
+      ne-eqb 14 n (λ e. other .0 .0 .0 .0 .0 .0 .0 .0 .0 .0 .0 .0 .0 .1 (sym e)),
+      ne-eqb 15 n (λ e. other .0 .0 .0 .0 .0 .0 .0 .0 .0 .0 .0 .0 .1 (sym e)),
+      ne-eqb 16 n (λ e. other .0 .0 .0 .0 .0 .0 .0 .0 .0 .0 .0 .1 (sym e)),
+      ne-eqb 17 n (λ e. other .0 .0 .0 .0 .0 .0 .0 .0 .0 .0 .1 (sym e)),
+      ne-eqb 18 n (λ e. other .0 .0 .0 .0 .0 .0 .0 .0 .0 .1 (sym e)),
+      ne-eqb 26 n (λ e. other .0 .0 .0 .0 .0 .0 .0 .0 .1 (sym e)),
+      ne-eqb 19 n (λ e. other .0 .0 .0 .0 .0 .0 .0 .1 (sym e)),
+      ne-eqb 20 n (λ e. other .0 .0 .0 .0 .0 .0 .1 (sym e)),
+      ne-eqb 21 n (λ e. other .0 .0 .0 .0 .0 .1 (sym e)),
+      ne-eqb 22 n (λ e. other .0 .0 .0 .0 .1 (sym e)),
+      ne-eqb 27 n (λ e. other .0 .0 .0 .1 (sym e)),
       ne-eqb 23 n (λ e. other .0 .0 .1 (sym e)),
       ne-eqb 24 n (λ e. other .0 .1 (sym e)),
       ne-eqb 25 n (λ e. other .1 (sym e)),
@@ -351,6 +373,10 @@ words-spec =
     held-requires-25
     slice-aggregate-held-26
     held-requires-26
+    slice-aggregate-held-27
+    held-requires-27
+    slice-aggregate-held-28
+    held-requires-28
     returns
     returns-2
     returns-3
@@ -376,4 +402,6 @@ words-spec =
     returns-23
     returns-24
     returns-25
-    returns-26)
+    returns-26
+    returns-27
+    returns-28)

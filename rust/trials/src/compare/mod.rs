@@ -1,5 +1,6 @@
 //! Core and model on the same inputs.
 
+pub mod bans;
 pub mod feeding;
 pub mod lines;
 pub mod log;

@@ -4,7 +4,7 @@ use model::refusal::number_of;
 use model::relay::{take as model_take, Relayed};
 use model::Table;
 
-use crate::convert::core_table;
+use crate::convert::{core_bans, core_head};
 use crate::inputs::{lines, tables};
 use crate::lent::{output_length, Lent};
 use crate::rng::Rng;
@@ -43,20 +43,25 @@ pub fn compare_take(table: &mut Table, link: u32, line: &[u8], out: Lent, tally:
     let told = || format!("link {link} \"{}\"", line.escape_ascii());
     let before = *table;
     let lent_line = line.to_vec();
-    let mut core_out = out.clone();
-    let answer = relay::process(&core_table(table), link, &lent_line, core_out.room());
+    let lent_lists = Lent::holding(&core_bans(table));
+    let (mut lists, mut core_out) = (lent_lists.clone(), out.clone());
+    let (head, room) = (core_head(table), core_out.room());
+    let answer = relay::process(&head, lists.lists(), link, &lent_line, room);
     let mut model_out = out.clone();
     let expected = model_take(table, link, line, model_out.room());
 
     assert_eq!(answer.number, number_of(&expected), "{}\n{before:?}", told());
-    let relayed = expected.unwrap_or(Relayed { set: 0, count: 0, len: 0 });
+    let relayed = expected.unwrap_or_default();
     let answered = Relayed { set: answer.set, count: answer.count, len: answer.len };
     assert_eq!(answered, relayed, "{}\n{before:?}", told());
-    assert!(answer.table == core_table(table), "{}\n{before:?}\n{:?}", told(), answer.table);
+    assert!(answer.head == core_head(table), "{}\n{before:?}\n{:?}", told(), answer.head);
+    assert!(lists == Lent::holding(&core_bans(table)), "lists: {}\n{before:?}", told());
     assert_eq!(core_out, model_out, "{}\n{before:?}", told());
     assert_eq!(lent_line, line);
-    if answer.number != relay::ACCEPTED {
-        assert!(answer.table == core_table(&before) && core_out == out, "{}", told());
+    if answer.number == relay::ACCEPTED {
+        tally.decide(answer.len != 0);
+    } else {
+        assert!(answer.head == head && lists == lent_lists && core_out == out, "{}", told());
     }
     tally.count(answer.number);
 }

@@ -3,19 +3,20 @@
 use model::channel::LETTERS;
 use model::{Record, Table};
 
-use super::words;
+use super::{lists, words};
 use crate::rng::Rng;
 
-/// A line for a relay with that table: an SJOIN, PART or QUIT, perhaps with one thing wrong, or
-/// another message, or noise; some damaged after that, some brought to a length near the limit.
+/// A line for a relay with that table: an SJOIN, PART, QUIT or BMASK, perhaps with one thing wrong,
+/// or another message, or noise; some damaged after that, some brought to a length near the limit.
 pub fn line(rng: &mut Rng, table: &Table) -> Vec<u8> {
-    let mut line = match rng.below(12) {
+    let mut line = match rng.below(16) {
         0..=5 => sjoin(rng),
         6..=7 => part(rng, table),
         8 => quit(rng, table),
         9 => other(rng),
         10 => noise(rng),
-        _ => crowd(rng),
+        11 => crowd(rng),
+        _ => bmask(rng, table),
     };
     if rng.one_in(4) {
         damage(rng, &mut line);
@@ -198,10 +199,15 @@ fn crowd(rng: &mut Rng) -> Vec<u8> {
     [b":1AB SJOIN 1 ".as_slice(), &name, b" + :", &ids.join(&b' '), b"\r\n"].concat()
 }
 
+/// A used slot of a well-formed table, if there is one.
+fn used_slot<'a>(rng: &mut Rng, table: &'a Table) -> Option<&'a Record> {
+    let used: Vec<&Record> = table.slots.iter().filter(|r| r.count != 0).collect();
+    used.get(rng.below(used.len().max(1))).copied()
+}
+
 /// A user of a used slot and the slot's name, if a slot of a well-formed table is used.
 fn someone_of(rng: &mut Rng, table: &Table) -> Option<(Vec<u8>, Vec<u8>)> {
-    let used: Vec<&Record> = table.slots.iter().filter(|r| r.count != 0).collect();
-    let record = used.get(rng.below(used.len().max(1)))?;
+    let record = used_slot(rng, table)?;
     let member = record.members()[rng.below(record.count)];
     Some((member.id.to_vec(), record.name().to_vec()))
 }
@@ -233,6 +239,39 @@ fn quit(rng: &mut Rng, table: &Table) -> Vec<u8> {
     message(rng, Some(&source), b"QUIT", &params)
 }
 
+/// A BMASK, mostly of a channel that is there, at its time or near it, perhaps with one thing wrong.
+fn bmask(rng: &mut Rng, table: &Table) -> Vec<u8> {
+    let (time, name) = match used_slot(rng, table) {
+        Some(record) => (time_near(rng, record.time), words::respelled(rng, record.name())),
+        None => (words::time(rng), words::channel_name(rng)),
+    };
+    let mut source = words::server_id(rng);
+    let mut params =
+        vec![time.to_string().into_bytes(), name, b"b".to_vec(), lists::line_list(rng)];
+    match rng.below(20) {
+        0 => source = words::bad_server_id(rng),
+        1 => params[0] = words::bad_time(rng),
+        2 => params[1] = words::bad_channel_name(rng),
+        3 => params[1] = words::channel_name(rng),
+        4..=5 => params[2] = lists::bad_type(rng),
+        6..=7 => params[3] = lists::bad_line_list(rng),
+        8 => drop(params.pop()),
+        9 => params.insert(rng.below(5), b"x".to_vec()),
+        _ => {}
+    }
+    message(rng, Some(&source), b"BMASK", &params)
+}
+
+/// A time: mostly this one, the one before it or the one after it.
+fn time_near(rng: &mut Rng, time: u32) -> u32 {
+    match rng.below(6) {
+        0 => time.saturating_add(1),
+        1 => time.saturating_sub(1).max(1),
+        2 => words::time(rng),
+        _ => time,
+    }
+}
+
 /// No reason, one, or too many.
 fn reasons(rng: &mut Rng) -> Vec<Vec<u8>> {
     let reasons: &[&[u8]] = &[b"gone", b"gone home", b"", b":", b" ", b":-) bye ", b"\x01\xff"];
@@ -240,11 +279,11 @@ fn reasons(rng: &mut Rng) -> Vec<Vec<u8>> {
     (0..count).map(|_| rng.pick(reasons).to_vec()).collect()
 }
 
-/// A message of another command, or one of the three with any parameters.
+/// A message of another command, or one of the four with any parameters.
 fn other(rng: &mut Rng) -> Vec<u8> {
     let commands: &[&[u8]] = &[
         b"PING", b"SJOINS", b"SJOI", b"PARTY", b"QUI", b"X", b"001", b"999", b"12", b"1234", b"A1",
-        b"SJOIN", b"PART", b"QUIT", b"", b"\x80",
+        b"SJOIN", b"PART", b"QUIT", b"BMASK", b"BMASKS", b"BMAS", b"", b"\x80",
     ];
     let params: &[&[u8]] = &[b"a", b"b:", b"#race", b"\x01", b"1"];
     let count = rng.pick(&[0, 1, 2, 3, 13, 14, 15, 16, 17]);

@@ -2,6 +2,7 @@
 
 pub mod feeders;
 pub mod lines;
+pub mod lists;
 pub mod masks;
 pub mod messages;
 pub mod streams;

@@ -2,9 +2,9 @@
 
 use model::channel::{K, L, MEMBERS};
 use model::names;
-use model::{Member, Record, Table};
+use model::{Member, Record, Table, WholeRecord};
 
-use super::words;
+use super::{lists, words};
 use crate::rng::Rng;
 
 /// A well-formed record of that name and that many members.
@@ -47,6 +47,16 @@ pub fn record(rng: &mut Rng) -> Record {
     record_of(rng, &name, count)
 }
 
+/// A well-formed record of that name and that many members, with a ban list.
+pub fn whole_of(rng: &mut Rng, name: &[u8], count: usize) -> WholeRecord {
+    WholeRecord { record: record_of(rng, name, count), bans: lists::list(rng) }
+}
+
+/// A well-formed record with a ban list.
+pub fn whole(rng: &mut Rng) -> WholeRecord {
+    WholeRecord { record: record(rng), bans: lists::list(rng) }
+}
+
 /// A well-formed table: any number of slots used, often none or all, in any places.
 pub fn table(rng: &mut Rng) -> Table {
     let mut table = Table { links: links(rng), ..Table::EMPTY };
@@ -61,6 +71,7 @@ pub fn table(rng: &mut Rng) -> Table {
         let record = record(rng);
         if table.slots.iter().all(|r| !names::equal(r.name(), record.name())) {
             table.slots[place] = record;
+            table.bans[place] = lists::list(rng);
         }
     }
     if used == table.slots.len() {
@@ -76,6 +87,7 @@ fn fill_free_slots(rng: &mut Rng, table: &mut Table) {
             let name = format!("#only-{place}");
             let count = member_count(rng);
             table.slots[place] = record_of(rng, name.as_bytes(), count);
+            table.bans[place] = lists::list(rng);
         }
     }
 }
@@ -149,13 +161,14 @@ pub fn damage_record(rng: &mut Rng, record: &mut Record) {
     }
 }
 
-/// Damages one slot of a table, or makes two alike. Now and then the table stays well formed.
+/// Damages one slot of a table or its list, makes two slots alike, or gives a slot, free or not,
+/// another list. Now and then the table stays well formed.
 pub fn damage_table(rng: &mut Rng, table: &mut Table) {
     let slot = rng.below(table.slots.len());
-    if rng.one_in(6) {
-        let other = table.slots[rng.below(table.slots.len())];
-        table.slots[slot] = other;
-    } else {
-        damage_record(rng, &mut table.slots[slot]);
+    match rng.below(7) {
+        0 => table.slots[slot] = table.slots[rng.below(table.slots.len())],
+        1..=2 => lists::damage_list(rng, &mut table.bans[slot]),
+        3 => table.bans[slot] = lists::list(rng),
+        _ => damage_record(rng, &mut table.slots[slot]),
     }
 }

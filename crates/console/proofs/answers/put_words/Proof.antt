@@ -1,5 +1,4 @@
 -- `put_words` meets its contract: a SPACE and the words are added one after the other, or nothing. Assumes nothing.
-use mathlib.Core.Path.{sym, _∙_}
 use mathlib.Core.List.{[], _∷_}
 use borrow.Author.Tests.{not-true, not-false}
 use Rattle.octets.specs.Bytes.{space}

@@ -7,10 +7,10 @@ use Rattle.console.proofs.listing.say_channels.Statement.{statement}
 use Rattle.console.proofs.listing.say_channels.Tie as tie
 
 abbrev Inv-loop : tie.InvT-loop
-Inv-loop t k₀ t5 k = k ≤ slotCount
+Inv-loop bans t k₀ t6 k = k ≤ slotCount
 
 abbrev μ-loop : tie.MeasureT-loop
-μ-loop t k₀ t5 k = slotCount - k
+μ-loop bans t k₀ t6 k = slotCount - k
 
 loop-holds : tie.Need-loop-holds Inv-loop μ-loop
 loop-holds c = search needs
@@ -36,6 +36,15 @@ say-channel-requires c κs = search needs
 returns : tie.Need-returns Inv-loop μ-loop
 returns c = search needs
 
+list-at-requires : tie.Need-list-at-requires Inv-loop μ-loop
+list-at-requires c κs = search needs
+
+say-masks-requires : tie.Need-say-masks-requires Inv-loop μ-loop
+say-masks-requires c κs = search needs
+
+returns-2 : tie.Need-returns-2 Inv-loop μ-loop
+returns-2 c = search needs
+
 add-k-2 : tie.Need-add-k-2 Inv-loop μ-loop
 add-k-2 c = omega arith
 
@@ -51,8 +60,8 @@ slice-aggregate-print c = search needs
 print-requires : tie.Need-print-requires Inv-loop μ-loop
 print-requires c κs = search needs
 
-returns-2 : tie.Need-returns-2 Inv-loop μ-loop
-returns-2 c = search needs
+returns-3 : tie.Need-returns-3 Inv-loop μ-loop
+returns-3 c = search needs
 
 pub say-channels-spec : {M : Type 1} → statement M
 say-channels-spec =
@@ -68,9 +77,12 @@ say-channels-spec =
     loop-again
     say-channel-requires
     returns
+    list-at-requires
+    say-masks-requires
+    returns-2
     add-k-2
     loop-less-2
     loop-again-2
     slice-aggregate-print
     print-requires
-    returns-2)
+    returns-3)

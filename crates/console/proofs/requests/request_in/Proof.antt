@@ -7,7 +7,7 @@ use borrow.Author.Needs.{needs}
 use Rattle.laws.specs.Lists.{isNil}
 use Rattle.console.specs.declared.requests.Request.the-variants.{Register, Unregister, Channels, Unknown}
 use Rattle.console.specs.Requests.{ended, linkIn, numbered}
-use Rattle.console.proofs.Asking.{asks-nothing, asks-register, asks-unregister, asks-channels, asks-line}
+use Rattle.console.proofs.Asking.{asks-nothing, asks-register, asks-unregister, asks-channels, asks-worded}
 use Rattle.console.proofs.requests.request_in.Statement.{statement}
 use Rattle.console.proofs.requests.request_in.Tie as tie
 
@@ -68,14 +68,14 @@ returns-4 c =
     ∙ ap (λ (s : List ℕ). cond (isNil s) Channels Unknown) (c .before .ended3 .ensures ∙ ap ended (c .before .before .part3 .ensures .0))
     ∙ asks-channels (some .before .before .args .input .now) (some .if1 .left) (test .before .before .if2 .left) (test .before .if3 .left) (test .if4 .taken)
 
-taking-requires : tie.Need-taking-requires
-taking-requires c κs = search needs
+worded-requires : tie.Need-worded-requires
+worded-requires c κs = search needs
 
 returns-5 : tie.Need-returns-5
 returns-5 c =
     let test = c .before in
     let some = test .before .before .before .before in
-    c .taking .ensures ∙ asks-line (some .before .before .args .input .now) (some .if1 .left) (test .before .before .if2 .left) (test .before .if3 .left) (test .if4 .left)
+    c .worded .ensures ∙ asks-worded (some .before .before .args .input .now) (some .if1 .left) (test .before .before .if2 .left) (test .before .if3 .left) (test .if4 .left)
 
 pub request-in-spec : {M : Type 1} → statement M
 request-in-spec =
@@ -95,5 +95,5 @@ request-in-spec =
     ended-requires-3
     listing-requires
     returns-4
-    taking-requires
+    worded-requires
     returns-5)

@@ -22,7 +22,7 @@ joins-requires c κs = search needs
 
 returns-2 : tie.Need-returns-2
 unfolding joinsHeld
-returns-2 c = rw (sym (c .before .before .combine .ensures), c .before .if1 .left) (c .joins .ensures)
+returns-2 c = rw (sym (c .before .before .before .before .combine .ensures), c .before .before .before .if1 .left) (c .joins .ensures)
 
 pub joins-held-spec : {M : Type 1} → statement M
 joins-held-spec =

@@ -15,12 +15,12 @@ small c = search needs
 returns : tie.Need-returns
 returns c =
     let a = c .before .args in
-    sym (entry-ill-formed (a .good) (a .links .set) (a .link) (a .n) (not-true _ (c .if1 .taken)))
+    sym (entry-ill-formed (a .good) (a .links) (a .link) (a .n) (not-true _ (c .if1 .taken)))
 
 returns-2 : tie.Need-returns-2
 returns-2 c =
     let a = c .before .before .args in
-    sym (entry-short (a .good) (a .links .set) (a .link) (a .n) (not-false _ (c .before .if1 .left)) (c .if2 .taken))
+    sym (entry-short (a .good) (a .links) (a .link) (a .n) (not-false _ (c .before .if1 .left)) (c .if2 .taken))
 
 has-link-requires : tie.Need-has-link-requires
 has-link-requires c κs = search needs
@@ -30,7 +30,7 @@ returns-3 c =
     let s = c .before .before .before .before in
     let a = s .args in
     sym
-    (entry-unlinked (a .good) (a .links .set) (a .link) (a .n) (not-false _ (c .before .before .before .if1 .left)) (c .before .before .if2 .left) (small s)
+    (entry-unlinked (a .good) (a .links) (a .link) (a .n) (not-false _ (c .before .before .before .if1 .left)) (c .before .before .if2 .left) (small s)
     (sym (c .before .has-link .ensures) ∙ not-true _ (c .if3 .taken)))
 
 returns-4 : tie.Need-returns-4
@@ -38,7 +38,7 @@ returns-4 c =
     let s = c .before .before .before .before in
     let a = s .args in
     sym
-    (entry-passes (a .good) (a .links .set) (a .link) (a .n) (not-false _ (c .before .before .before .if1 .left)) (c .before .before .if2 .left) (small s)
+    (entry-passes (a .good) (a .links) (a .link) (a .n) (not-false _ (c .before .before .before .if1 .left)) (c .before .before .if2 .left) (small s)
     (sym (c .before .has-link .ensures) ∙ not-false _ (c .if3 .left)))
 
 pub entry-number-spec : {M : Type 1} → statement M

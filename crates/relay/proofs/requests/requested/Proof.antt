@@ -15,7 +15,7 @@ use Rattle.message.specs.Parts.{contentBy}
 use Rattle.message.specs.Reading.{readingOf, isRead}
 use Rattle.message.proofs.Readings.{reading-line, reading-refused, read-small, answers}
 use Rattle.relay.specs.declared.Command.{Command}
-use Rattle.relay.specs.declared.Command.the-variants.{Sjoin, Part, Quit, Unknown}
+use Rattle.relay.specs.declared.Command.the-variants.{Sjoin, Part, Quit, Bmask, Unknown}
 use Rattle.relay.specs.declared.Asked.{Asked}
 use Rattle.relay.specs.Commands.{meaningOf, commandAmong, commandOf}
 use Rattle.relay.specs.Private.Work.{nothing}
@@ -65,6 +65,9 @@ after1 c = c .before .before .before
 abbrev after2 : tie.Else2 → Worded
 after2 c = after1 (c .before .before .before)
 
+abbrev after3 : tie.Else3 → Worded
+after3 c = after2 (c .before .before .before)
+
 is-join : (c : tie.After-is-word) → isWord (word (c .before .before)) (meaningOf Sjoin .word) ≡ c .is-word .result
 is-join c = sym (c .is-word .ensures)
 
@@ -74,14 +77,19 @@ is-part c = sym (c .is-word2 .ensures)
 is-quit : (c : tie.After-is-word3) → isWord (word (after2 (c .before .before))) (meaningOf Quit .word) ≡ c .is-word3 .result
 is-quit c = sym (c .is-word3 .ensures)
 
-not-join : (c : tie.Else1) → commandOf (word (after1 c)) ≡ commandAmong (Part ∷ Quit ∷ []) (map capital (word (after1 c)))
+is-mask : (c : tie.After-is-word4) → isWord (word (after3 (c .before .before))) (meaningOf Bmask .word) ≡ c .is-word4 .result
+is-mask c = sym (c .is-word4 .ensures)
+
+not-join : (c : tie.Else1) → commandOf (word (after1 c)) ≡ commandAmong (Part ∷ Quit ∷ Bmask ∷ []) (map capital (word (after1 c)))
 not-join c = among-next Sjoin _ (word (after1 c)) (is-join (c .before) ∙ c .if1 .left)
 
-not-part : (c : tie.Else2) → commandOf (word (after2 c)) ≡ commandAmong (Quit ∷ []) (map capital (word (after2 c)))
+not-part : (c : tie.Else2) → commandOf (word (after2 c)) ≡ commandAmong (Quit ∷ Bmask ∷ []) (map capital (word (after2 c)))
 not-part c = not-join (c .before .before .before) ∙ among-next Part _ (word (after2 c)) (is-part (c .before) ∙ c .if2 .left)
 
--- ---- the needs
+not-quit : (c : tie.Else3) → commandOf (word (after3 c)) ≡ commandAmong (Bmask ∷ []) (map capital (word (after3 c)))
+not-quit c = not-part (c .before .before .before) ∙ among-next Quit _ (word (after3 c)) (is-quit (c .before) ∙ c .if3 .left)
 
+-- ---- the needs
 enum-told : tie.Need-enum-told
 enum-told c = search needs
 
@@ -148,15 +156,30 @@ returns-4 c =
     let w = after2 e in
     asks w Quit (not-part e ∙ among-here Quit _ (word w) (is-quit (c .before .before) ∙ c .before .if3 .taken)) (c .quit-request .result) (c .quit-request .ensures)
 
-nothing-requires-2 : tie.Need-nothing-requires-2
-nothing-requires-2 c κs = search needs
+slice-aggregate-is-word-4 : tie.Need-slice-aggregate-is-word-4
+slice-aggregate-is-word-4 c = search needs
+
+is-word-requires-4 : tie.Need-is-word-requires-4
+is-word-requires-4 c κs = search needs
+
+mask-request-requires : tie.Need-mask-request-requires
+mask-request-requires c κs = search needs
 
 returns-5 : tie.Need-returns-5
 returns-5 c =
+    let e = c .before .before .before .before in
+    let w = after3 e in
+    asks w Bmask (not-quit e ∙ among-here Bmask _ (word w) (is-mask (c .before .before) ∙ c .before .if4 .taken)) (c .mask-request .result) (c .mask-request .ensures)
+
+nothing-requires-2 : tie.Need-nothing-requires-2
+nothing-requires-2 c κs = search needs
+
+returns-6 : tie.Need-returns-6
+returns-6 c =
     let q = c .before .before in
     let e = q .before .before in
-    let w = after2 e in
-    let unknown = not-part e ∙ among-next Quit _ (word w) (is-quit q ∙ c .before .if3 .left) ∙ among-none (word w) in
+    let w = after3 e in
+    let unknown = not-quit e ∙ among-next Bmask _ (word w) (is-mask q ∙ c .before .if4 .left) ∙ among-none (word w) in
     asks w Unknown unknown (c .nothing2 .result) (c .nothing2 .ensures ∙ asked-refused Unknown _ (content w) _ (stop _ _ refl) (λ z. omega (arith, z)))
 
 pub requested-spec : {M : Type 1} → statement M
@@ -181,5 +204,9 @@ requested-spec =
     is-word-requires-3
     quit-request-requires
     returns-4
+    slice-aggregate-is-word-4
+    is-word-requires-4
+    mask-request-requires
+    returns-5
     nothing-requires-2
-    returns-5)
+    returns-6)

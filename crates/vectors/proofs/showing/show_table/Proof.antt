@@ -1,15 +1,15 @@
 -- `show_table` is safe and ends: it counts to the number of slots. Assumes nothing.
 use Prim.Native.Nat.{_≤_, _-_}
-use borrow.Author.Needs.{needs}
 use Rattle.channel.specs.Limits.{slotCount}
+use borrow.Author.Needs.{needs}
 use Rattle.vectors.proofs.showing.show_table.Statement.{statement}
 use Rattle.vectors.proofs.showing.show_table.Tie as tie
 
 abbrev Inv-loop : tie.InvT-loop
-Inv-loop t k₀ k = k ≤ slotCount
+Inv-loop bans t k₀ k = k ≤ slotCount
 
 abbrev μ-loop : tie.MeasureT-loop
-μ-loop t k₀ k = slotCount - k
+μ-loop bans t k₀ k = slotCount - k
 
 slice-aggregate-show-links : tie.Need-slice-aggregate-show-links Inv-loop μ-loop
 slice-aggregate-show-links c = search needs
@@ -25,6 +25,9 @@ mul-r c = search needs
 
 element-copy-out-r : tie.Need-element-copy-out-r Inv-loop μ-loop
 element-copy-out-r c = search needs
+
+list-at-requires : tie.Need-list-at-requires Inv-loop μ-loop
+list-at-requires c κs = search needs
 
 show-slot-requires : tie.Need-show-slot-requires Inv-loop μ-loop
 show-slot-requires c κs = search needs
@@ -52,6 +55,7 @@ show-table-spec =
     loop-holds
     mul-r
     element-copy-out-r
+    list-at-requires
     show-slot-requires
     add-k
     loop-less

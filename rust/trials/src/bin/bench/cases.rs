@@ -2,7 +2,8 @@
 
 use std::ops::Range;
 
-use model::{Member, Record, Table};
+use model::bans::{self, Masks};
+use model::{BanList, Member, Record, Table, WholeRecord};
 use trials::rng::Rng;
 
 /// The link that every line comes by.
@@ -22,6 +23,112 @@ pub struct Case {
     pub table: Table,
     /// The line.
     pub line: Vec<u8>,
+}
+
+/// The ban list of each channel of a table: so many masks of so many bytes.
+#[derive(Clone, Copy)]
+pub struct Lists {
+    /// The number of masks, at most 32.
+    pub masks: usize,
+    /// The bytes of each, from 8 to 100.
+    pub bytes: usize,
+}
+
+/// The lists that are timed.
+pub const LISTS: [Lists; 3] =
+    [Lists { masks: 0, bytes: 24 }, Lists { masks: 8, bytes: 24 }, Lists { masks: 32, bytes: 100 }];
+
+impl Case {
+    /// Whether a library that has no ban lists answers it too.
+    pub fn is_without_lists(&self) -> bool {
+        !self.line[5..].starts_with(b"BMASK") && self.table.bans == Table::EMPTY.bans
+    }
+
+    /// The slot whose list the line changes, by the model.
+    pub fn changed_list(&self) -> Option<usize> {
+        let mut table = self.table;
+        model::relay::take(&mut table, LINK, &self.line, &mut [0; 512]).ok()?;
+        (0..table.bans.len()).find(|&slot| table.bans[slot] != self.table.bans[slot])
+    }
+}
+
+impl Lists {
+    /// Masks of such a list, by their numbers: those below `masks` are in it. They differ at their
+    /// ends, so that each comparison of two goes through both.
+    fn numbered(&self, numbers: Range<usize>) -> Masks {
+        let mask = |n: usize| format!("*!*@{}{n:02}", ".".repeat(self.bytes - 6)).into_bytes();
+        numbers.map(mask).collect()
+    }
+
+    /// The list.
+    fn list(&self) -> BanList {
+        let masks = bans::add(&Vec::new(), &self.numbered(0..self.masks));
+        BanList::of(&masks.expect("at most 32"))
+    }
+
+    /// What a row says of it.
+    pub fn told(&self) -> String {
+        match self.masks {
+            0 => "no masks".to_string(),
+            masks => format!("{masks} masks of {} bytes", self.bytes),
+        }
+    }
+
+    /// A table of one channel, or of sixteen, each with the list.
+    pub fn table(&self, full_channels: usize) -> Table {
+        let mut table = table(full_channels);
+        for (slot, list) in table.slots.iter().zip(&mut table.bans) {
+            if slot.count != 0 {
+                *list = self.list();
+            }
+        }
+        table
+    }
+
+    /// A BMASK of the mask that comes last, a new one if there is room for it.
+    fn short_line(&self) -> Vec<u8> {
+        let number = self.masks.min(bans::MASKS - 1);
+        self.line(TIME, number..number + 1)
+    }
+
+    /// A BMASK of the first masks, as many of them as a line holds.
+    fn long_line(&self, time: u32) -> Vec<u8> {
+        let most = (510 - self.line(time, 0..0).len()) / (self.bytes + 1);
+        self.line(time, 0..most)
+    }
+
+    /// A BMASK of the masks of some numbers.
+    fn line(&self, time: u32, numbers: Range<usize>) -> Vec<u8> {
+        let start = format!(":1AB BMASK {time} #race b :");
+        let masks = self.numbered(numbers);
+        [start.as_bytes(), &masks.join(&b' '), b"\r\n"].concat()
+    }
+
+    /// The lines that are timed with each list, by name.
+    pub fn lines(&self) -> Vec<(&'static str, Vec<u8>)> {
+        vec![
+            ("SJOIN, equal time, 10 members", join("#race", TIME, 10, false)),
+            ("SJOIN, later time, 10 members", join("#race", TIME + 1, 10, false)),
+            ("SJOIN, earlier time, 10 members", join("#race", TIME - 1, 10, false)),
+            ("PART", part()),
+            ("QUIT", quit()),
+            ("refused by 11", unknown()),
+            ("BMASK of one mask", self.short_line()),
+            ("BMASK of a line full of masks", self.long_line(TIME)),
+            ("BMASK, later, of a line full of masks", self.long_line(TIME + 1)),
+        ]
+    }
+
+    /// Texts by name: one that no mask matches, and one that the last of the masks matches.
+    pub fn texts(&self) -> [(&'static str, Vec<u8>); 2] {
+        let last = self.masks.saturating_sub(1);
+        let mask = &self.numbered(last..last + 1)[0];
+        let banned = [b"nick!~user@".as_slice(), &mask[4..]].concat();
+        [
+            ("is banned: no", b"nick!~user@a-host.example".to_vec()),
+            ("is banned: by the last", banned),
+        ]
+    }
 }
 
 /// The id of a user by its number: ids ascend with the numbers.
@@ -77,9 +184,9 @@ fn lines() -> Vec<(String, Vec<u8>)> {
         }
     }
     lines.extend([
-        ("PART".to_string(), format!(":{} PART #race :gone home\r\n", text(20)).into_bytes()),
-        ("QUIT".to_string(), format!(":{} QUIT :gone home\r\n", text(20)).into_bytes()),
-        ("refused by 11".to_string(), b":1AB PRIVMSG #race :a line of another kind\r\n".to_vec()),
+        ("PART".to_string(), part()),
+        ("QUIT".to_string(), quit()),
+        ("refused by 11".to_string(), unknown()),
         ("refused by 18, at the last of 47 members".to_string(), bad_join()),
     ]);
     lines
@@ -88,6 +195,18 @@ fn lines() -> Vec<(String, Vec<u8>)> {
 /// An SJOIN of 47 members, as long as a line can nearly be.
 pub fn long_line() -> Vec<u8> {
     join("#race", TIME, 47, false)
+}
+
+fn part() -> Vec<u8> {
+    format!(":{} PART #race :gone home\r\n", text(20)).into_bytes()
+}
+
+fn quit() -> Vec<u8> {
+    format!(":{} QUIT :gone home\r\n", text(20)).into_bytes()
+}
+
+fn unknown() -> Vec<u8> {
+    b":1AB PRIVMSG #race :a line of another kind\r\n".to_vec()
 }
 
 fn text(user: usize) -> String {
@@ -151,6 +270,21 @@ pub fn by_members() -> Vec<Case> {
     let line = |members| join("#race", TIME, members, false);
     let case = |n: usize| Case { name: n.to_string(), table: table(0), line: line(n) };
     [1, 2, 5, 10, 20, 30, 40, 47].map(case).into()
+}
+
+/// Two records of 47 members with lists that have no mask in common, by what they show.
+pub fn merged() -> Vec<(String, WholeRecord, WholeRecord)> {
+    let side = |name, users, masks: Masks| {
+        let list = bans::add(&Vec::new(), &masks).expect("at most 32");
+        WholeRecord { record: record(name, users), bans: BanList::of(&list) }
+    };
+    let sides = |each: usize, bytes: usize| {
+        let lists = Lists { masks: each, bytes };
+        let first = side(b"#a", 0..47, lists.numbered(0..each));
+        let second = side(b"#A", 17..64, lists.numbered(each..2 * each));
+        (format!("merging 47 members with 47, {} each", lists.told()), first, second)
+    };
+    vec![sides(0, 24), sides(8, 24), sides(16, 100)]
 }
 
 /// Masks for a text of 512 times 'a', by what they show.

@@ -14,10 +14,10 @@ pub struct Clock {
     pub runs: usize,
 }
 
-/// The times of the best runs.
+/// The times of the best runs; the other's only where it was asked.
 pub struct Times {
     core: Duration,
-    other: Duration,
+    other: Option<Duration>,
 }
 
 /// The calls of one run: enough for the clock's own grain not to show, and so few that many runs are
@@ -40,6 +40,21 @@ impl Clock {
         }
     }
 
+    /// The same where the earlier library may not know what is asked: then the core is timed alone.
+    pub fn time_if(
+        &self,
+        known: bool,
+        core: impl FnMut() -> u8,
+        earlier: impl FnMut() -> u8,
+        model: impl FnMut() -> u8,
+    ) -> Times {
+        if earlier::IS_GIVEN && !known {
+            self.alone(core)
+        } else {
+            self.time(core, earlier, model)
+        }
+    }
+
     /// The best times of calls that take turns, one call a run.
     pub fn best<const N: usize>(&self, mut calls: [&mut dyn FnMut(); N]) -> [Duration; N] {
         let mut best = [Duration::MAX; N];
@@ -55,12 +70,17 @@ impl Clock {
 
     fn by_turns(&self, mut core: impl FnMut() -> u8, mut other: impl FnMut() -> u8) -> Times {
         assert_eq!(core(), other(), "core and {OTHER} differ");
-        let mut best = Times { core: Duration::MAX, other: Duration::MAX };
+        let mut best = [Duration::MAX; 2];
         for _ in 0..self.runs {
-            best.core = best.core.min(run(&mut core));
-            best.other = best.other.min(run(&mut other));
+            best[0] = best[0].min(run(&mut core));
+            best[1] = best[1].min(run(&mut other));
         }
-        best
+        Times { core: best[0], other: Some(best[1]) }
+    }
+
+    fn alone(&self, mut core: impl FnMut() -> u8) -> Times {
+        let best = (0..self.runs).map(|_| run(&mut core)).min();
+        Times { core: best.unwrap_or(Duration::MAX), other: None }
     }
 }
 
@@ -76,10 +96,17 @@ fn run(call: &mut impl FnMut() -> u8) -> Duration {
 impl Times {
     /// A call of the core, one of the other, and their ratio, as columns of a table.
     pub fn columns(&self) -> String {
-        let [core, other] =
-            [self.core, self.other].map(|time| time.as_secs_f64() * 1e6 / f64::from(CALLS));
-        format!("{} | {} | {:.2}", digits(core), digits(other), core / other)
+        let core = microseconds(self.core);
+        match self.other.map(microseconds) {
+            Some(other) => format!("{} | {} | {:.2}", digits(core), digits(other), core / other),
+            None => format!("{} | – | –", digits(core)),
+        }
     }
+}
+
+/// The time of a call, by that of a run.
+fn microseconds(run: Duration) -> f64 {
+    run.as_secs_f64() * 1e6 / f64::from(CALLS)
 }
 
 /// Microseconds, with nanoseconds where there is nothing before the point.

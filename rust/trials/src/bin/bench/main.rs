@@ -4,12 +4,14 @@
 //!
 //! A figure is the best of RUNS runs (101 unless told), in which core and model take turns, in
 //! microseconds a call. Both take the line with a table of their own by its pointer, as an embedding
-//! program does, and both test the whole table. A copy of the table that the line is taken with is
-//! in each figure, since most lines change it. Bytes made into lines are told in megabytes a second,
-//! beside a splitter that finds LF by C's `memchr`, and as a share of the time of taking the lines.
+//! program does, and both test the whole table, its ban lists too. A copy of the table's head, and of
+//! the ban list that the line changes if it changes one, is in each figure, since most lines change
+//! them. Bytes made into lines are told in megabytes a second, beside a splitter that finds LF by C's
+//! `memchr`, and as a share of the time of taking the lines.
 //!
 //! With RELAY_EARLIER_LIB=FILE, the path of an earlier libcapi.a, that library takes the model's place,
-//! but not the place of its feeder where it has none.
+//! but not the place of its feeder where it has none; and where it knows no ban lists, a row with
+//! masks in it has figures of the core alone.
 
 mod cases;
 mod clock;
@@ -20,10 +22,10 @@ mod stack;
 use std::hint::black_box;
 
 use model::refusal::number_of;
-use relay::{earlier, Answer, Feeder, Table};
-use trials::convert::{core_record, core_table};
+use relay::{earlier, Answer, Feeder, Table, LIST};
+use trials::convert::{core_table, core_whole};
 
-use cases::{Case, LINK};
+use cases::{Case, LINK, LISTS};
 use clock::{Clock, Times, OTHER};
 
 fn main() {
@@ -32,6 +34,7 @@ fn main() {
     let runs = std::env::args().nth(1).and_then(|arg| arg.parse().ok()).unwrap_or(101);
     let clock = Clock { runs };
     lines(&clock);
+    with_lists(&clock);
     by_channels(&clock);
     by_members(&clock);
     masks(&clock);
@@ -42,12 +45,23 @@ fn main() {
 
 /// Takes a case's line.
 fn take(clock: &Clock, case: &Case) -> Times {
+    let known = earlier::HAS_LISTS || case.is_without_lists();
+    let (core, other) = (by_library(case, relay::take), by_library(case, earlier::take));
+    clock.time_if(known, core, other, by_model(case))
+}
+
+/// The taking of a case's line by the model, to be called again and again.
+fn by_model(case: &Case) -> impl FnMut() -> u8 + '_ {
     let (mut table, mut out) = (Page::of(case.table), Page::of([0; 512]));
-    let model = || {
-        table.0.clone_from(black_box(&case.table));
+    let changed = case.changed_list();
+    move || {
+        let start = black_box(&case.table);
+        (table.0.slots, table.0.links) = (start.slots, start.links);
+        if let Some(slot) = changed {
+            table.0.bans[slot] = start.bans[slot];
+        }
         number_of(&model::relay::take(&mut table.0, LINK, &case.line, &mut out.0))
-    };
-    clock.time(by_library(case, relay::take), by_library(case, earlier::take), model)
+    }
 }
 
 /// The taking of a case's line by a library, to be called again and again.
@@ -57,8 +71,11 @@ fn by_library<'a>(
 ) -> impl FnMut() -> u8 + 'a {
     let start = Page::of(core_table(&case.table));
     let (mut table, mut out) = (Page::of(start.0), Page::of([0; 512]));
+    let changed = case.changed_list().map_or(0..0, |slot| slot * LIST..(slot + 1) * LIST);
     move || {
-        table.0.clone_from(black_box(&start.0));
+        let start = black_box(&start.0);
+        table.0.head.clone_from(&start.head);
+        table.0.bans[changed.clone()].copy_from_slice(&start.bans[changed.clone()]);
         take(&mut table.0, LINK, &case.line, &mut out.0).number
     }
 }
@@ -83,6 +100,40 @@ fn lines(clock: &Clock) {
         let (few, many) = (take(clock, one), take(clock, &full));
         println!("| {} | {} | {} |", one.name, few.columns(), many.columns());
     }
+}
+
+fn with_lists(clock: &Clock) {
+    heading(
+        "With ban lists, µs",
+        &["1 channel: core", OTHER, "ratio", "16 full: core", OTHER, "ratio"],
+    );
+    for lists in LISTS {
+        let tables = [lists.table(0), lists.table(15)];
+        let row = |name: &str, times: [Times; 2]| {
+            let [few, many] = times.map(|times| times.columns());
+            println!("| {name}; {} | {few} | {many} |", lists.told());
+        };
+        for (name, line) in lists.lines() {
+            let case = |table| Case { name: name.to_string(), table, line: line.clone() };
+            row(name, tables.map(|table| take(clock, &case(table))));
+        }
+        for (name, text) in lists.texts() {
+            row(name, tables.map(|table| ask(clock, &table, &text)));
+        }
+    }
+}
+
+/// Asks whether a text is banned from #race.
+fn ask(clock: &Clock, table: &model::Table, text: &[u8]) -> Times {
+    let core = Page::of(core_table(table));
+    let (head, bans) = (&core.0.head, &core.0.bans);
+    assert_eq!(relay::is_banned(head, bans, b"#race", text).number, relay::ACCEPTED);
+    clock.time_if(
+        earlier::HAS_LISTS,
+        || u8::from(relay::is_banned(head, bans, b"#race", text).yes),
+        || u8::from(earlier::is_banned(head, bans, b"#race", text).yes),
+        || u8::from(table.is_banned(b"#race", text) == Ok(true)),
+    )
 }
 
 fn by_channels(clock: &Clock) {
@@ -120,20 +171,23 @@ fn others(clock: &Clock) {
     let mut table = cases::full()[0].table;
     let core = core_table(&table);
     let times = clock.time(
-        || relay::register(&core, 9).number,
-        || earlier::register(&core, 9).number,
+        || relay::register(&core.head, &core.bans, 9).number,
+        || earlier::register(&core.head, &core.bans, 9).number,
         || number_of(&table.register(9)),
     );
     row("registering a link, 16 full channels", times);
 
-    let (first, second) = (cases::record(b"#a", 0..47), cases::record(b"#A", 17..64));
-    let (core_first, core_second) = (core_record(&first), core_record(&second));
-    let times = clock.time(
-        || relay::merge(&core_first, &core_second).number,
-        || earlier::merge(&core_first, &core_second).number,
-        || number_of(&model::channel::merge(&first, &second)),
-    );
-    row("merging 47 members with 47", times);
+    for (name, first, second) in cases::merged() {
+        let known = earlier::HAS_LISTS || first.bans == model::BanList::EMPTY;
+        let (core_first, core_second) = (core_whole(&first), core_whole(&second));
+        let times = clock.time_if(
+            known,
+            || relay::merge(&core_first, &core_second).number,
+            || earlier::merge(&core_first, &core_second).number,
+            || number_of(&model::channel::merge(&first, &second)),
+        );
+        row(&name, times);
+    }
 
     let line = cases::long_line();
     let times = clock.time(
@@ -167,15 +221,22 @@ fn feeding(clock: &Clock) {
 fn stacks() {
     heading("Stack of one call, bytes", &["core"]);
     let row = |name: &str, bytes: usize| println!("| {name} | {bytes} |");
-    let table = core_table(&cases::full()[0].table);
-    let record = &table.slots[0];
+    let lists = LISTS[2];
+    let mut table = core_table(&lists.table(15));
+    let record = &table.channel(15);
     let line = cases::long_line();
+    let lines = lists.lines();
     let parts = relay::parts(&line);
     let feeder = Feeder::empty();
     let mut out = [0; 517];
-    row("taking a line", stack::taken(|| relay::process(&table, LINK, &line, &mut out)));
-    row("registering a link", stack::taken(|| relay::register(&table, 9)));
+    row("taking an SJOIN", stack::taken(|| table.take(LINK, &line, &mut out)));
+    for (name, line) in &lines[2..] {
+        row(&format!("taking: {name}"), stack::taken(|| table.take(LINK, line, &mut out)));
+    }
+    row("registering a link", stack::taken(|| table.register(9)));
+    row("asking for a ban", stack::taken(|| table.is_banned(b"#race", &line)));
     row("merging two records", stack::taken(|| relay::merge(record, record)));
+    row("emptying a table", stack::taken(|| relay::empty_head(&mut table.bans)));
     row("reading a line", stack::taken(|| relay::read(&line)));
     row("its parts", stack::taken(|| relay::parts(&line)));
     row("writing a line", stack::taken(|| relay::write(&line, &parts, &mut out)));

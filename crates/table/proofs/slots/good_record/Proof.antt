@@ -1,9 +1,9 @@
--- `is_good` meets its contract: its test is the definition's. Assumes nothing.
+-- `good_record` meets its contract: its test is the definition's. Assumes nothing.
 use mathlib.Core.Path.{sym, _∙_}
 use borrow.Author.Needs.{needs}
 use Rattle.table.proofs.WellFormed.{good-free, good-used}
-use Rattle.table.proofs.slots.is_good.Statement.{statement}
-use Rattle.table.proofs.slots.is_good.Tie as tie
+use Rattle.table.proofs.slots.good_record.Statement.{statement}
+use Rattle.table.proofs.slots.good_record.Tie as tie
 
 is-blank-requires : tie.Need-is-blank-requires
 is-blank-requires c κs = search needs
@@ -17,5 +17,5 @@ is-well-formed-requires c κs = search needs
 returns-2 : tie.Need-returns-2
 returns-2 c = c .is-well-formed .ensures ∙ sym (good-used _ (c .before .if1 .left))
 
-pub is-good-spec : {M : Type 1} → statement M
-is-good-spec = tie.close (tie.spec is-blank-requires returns is-well-formed-requires returns-2)
+pub good-record-spec : {M : Type 1} → statement M
+good-record-spec = tie.close (tie.spec is-blank-requires returns is-well-formed-requires returns-2)
