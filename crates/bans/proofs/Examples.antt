@@ -2,7 +2,7 @@
 use mathlib.Core.Path.{_≡_, refl}
 use mathlib.Core.Bool.{Bool, true, false, not}
 use mathlib.Core.List.{List, [], _∷_, _++_, map}
-use Prim.Native.Nat.{ℕ, _+_}
+use Prim.Native.Nat.{ℕ, _+_, _*_}
 use lib.ListN.{replicate}
 use Rattle.refusal.specs.Rules.{firstOf}
 use Rattle.laws.specs.Lists.{all, padded}
@@ -13,14 +13,27 @@ use Rattle.ascending.specs.Ascending.{insert, put, unite, ascends}
 use Rattle.names.specs.Fold.{fold}
 use Rattle.glob.specs.Mask.{matchAnswer, matchRules, afterRun, firstThen, matchesByte}
 use Rattle.glob.specs.Mask as mask
-use Rattle.channel.specs.Limits.{maskLimit}
+use Rattle.channel.specs.Limits.{slotCount, banLimit, maskLimit}
 use Rattle.bans.specs.declared.BanList.{BanList}
-use Rattle.bans.specs.Limits.{listSize, bansSize}
+use Rattle.bans.specs.Limits.{roomSize, roomsSize, listSize, bansSize}
 use Rattle.bans.specs.Masks.{isMask, maskIn, roomOf, bySpelling, chunks, rooms, maskCount, usedRooms, masks, maskStart, encodeList}
 use Rattle.bans.specs.WellFormed.{goodRoom, wellFormedList, isUnused, goodList}
 use Rattle.bans.specs.Putting.{putIn, withRooms, putAnswer, putAll, addAnswer, uniteAnswer}
 use Rattle.bans.specs.Slots.{offset, listWith}
 use Rattle.bans.specs.Matching.{someMatches}
+
+-- the sizes are those of their parts
+room-size : roomSize ≡ 1 + maskLimit
+room-size = refl
+
+rooms-size : roomsSize ≡ banLimit * roomSize
+rooms-size = refl
+
+list-size : listSize ≡ 1 + roomsSize
+list-size = refl
+
+bans-size : bansSize ≡ slotCount * listSize
+bans-size = refl
 
 are-masks : all isMask ((42 ∷ []) ∷ (colon ∷ comma ∷ bell ∷ 255 ∷ []) ∷ replicate maskLimit 97 ∷ []) ≡ true
 unfolding all isMask isPlain

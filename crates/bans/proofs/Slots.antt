@@ -1,5 +1,4 @@
--- Laws of slots: what is stored is loaded, other slots stay, a cleared slot is a free one's, the list without masks is zero, and what a good slot holds is well
--- formed. Assumes nothing.
+-- Laws of slots: where a list is, which are good, what storing one does to it and to the others, and the list without masks. Assumes nothing.
 use mathlib.Core.Path.{_≡_, refl, sym, ap, _∙_}
 use mathlib.Core.Bool.{Bool, true, false}
 use mathlib.Core.List.{List, []}
@@ -8,12 +7,12 @@ use native.Mathlib.Omega.{arith}
 use lib.ListN.{length, drop, replicate, length-take, length-drop, length-replicate}
 use lib.Dec.{eqb, ltb}
 use borrow.Author.Tests.{eq-eqb, eqb-true, ltb-true, ltb-false}
-use Rattle.laws.specs.Lists.{all, padded}
+use Rattle.laws.specs.Lists.{all}
 use Rattle.laws.proofs.Bools.{and-left, and-right, and-intro}
 use Rattle.laws.proofs.Lists.{padded-whole, all-head, all-drop, all-take, all-replicate}
 use Rattle.octets.specs.Room.{part, putAt}
 use Rattle.octets.specs.Bytes.{isZero}
-use Rattle.octets.proofs.Room.{part-next, length-part, part-short, part-put, part-before, part-behind, length-put, put-same}
+use Rattle.octets.proofs.Room.{part-next, length-part, part-short, part-put, part-before, part-behind, put-same}
 use Rattle.ascending.proofs.Ascends.{ascends-short}
 use Rattle.channel.specs.Limits.{slotCount}
 use Rattle.channel.proofs.Records.{zeros}
@@ -39,7 +38,18 @@ pub list-there : (a : List ℕ) (k : ℕ) → length a ≡ bansSize → k < slot
 unfolding listAt offset
 list-there a k e h = length-part a (offset k) (offset k + listSize) (omega arith) ∙ omega arith
 
--- a good list is there, its slot used or not
+-- ---- good lists
+-- the list of a slot in use is good where it is well formed
+pub used-list : (s : List ℕ) → goodList true s ≡ wellFormedList s
+unfolding goodList
+used-list s = refl
+
+-- and that of a free slot where it is zero
+pub free-list : (s : List ℕ) → goodList false s ≡ isUnused s
+unfolding goodList
+free-list s = refl
+
+-- either way it is there
 pub good-there : (u : Bool) (s : List ℕ) → goodList u s ≡ true → length s ≡ listSize
 unfolding goodList wellFormedList isUnused
 good-there true s h = eqb-true (length s) listSize (all-head (λ t. t) _ _ h)
@@ -47,11 +57,6 @@ good-there false s h = eqb-true (length s) listSize (and-left (eqb (length s) li
 
 -- ---- a list stored
 module _ (a : List ℕ) (k : ℕ) (b : BanList) where
-  -- what is stored leaves the lent bytes as many as they are
-  pub length-stored : length (stored a k b) ≡ length a
-  unfolding stored
-  length-stored = length-put a (offset k) (b .room)
-
   -- the list that is there stored again changes nothing
   pub stored-same : length (listAt a k) ≡ listSize → listAt a k ≡ b .room → stored a k b ≡ a
   unfolding stored listAt
@@ -65,11 +70,6 @@ module _ (a : List ℕ) (k : ℕ) (b : BanList) where
     pub list-stored : listAt (stored a k b) k ≡ b .room
     unfolding listAt stored
     list-stored = ap (λ (n : ℕ). part (putAt a (offset k) (b .room)) (offset k) (offset k + n)) (sym whole) ∙ part-put a (offset k) (b .room) fits
-
-    -- so that it is what is loaded
-    pub load-stored : listOf (listAt (stored a k b) k) ≡ b
-    unfolding listOf
-    load-stored = ap (λ (s : List ℕ). record { room = padded listSize 0 s }) list-stored ∙ ap (λ (s : List ℕ). record { room = s }) (padded-whole 0 listSize (b .room) whole)
 
     -- any other slot holds what it held
     pub list-other : (j : ℕ) → j < slotCount → k < slotCount → (j ≡ k → ⊥) → listAt (stored a k b) j ≡ listAt a j
@@ -139,19 +139,3 @@ lists-empty k h =
     (and-intro (eqb (length (listAt emptyLists k)) listSize) (all isZero (listAt emptyLists k))
     (eq-eqb _ listSize (list-there emptyLists k empty-size h))
     (all-take isZero (offset k + listSize - offset k) _ (all-drop isZero (offset k) emptyLists empty-zero)))
-
--- ---- good slots
--- a cleared slot is a free slot's
-pub clear-good : (a : List ℕ) (k : ℕ) → length (listAt a k) ≡ listSize → goodList false (listAt (stored a k emptyList) k) ≡ true
-unfolding goodList
-clear-good a k there = ap isUnused (list-stored a k emptyList there empty-whole) ∙ empty-unused
-
--- a slot in which a well-formed list is stored is good
-pub store-good : (a : List ℕ) (k : ℕ) (b : BanList) → length (listAt a k) ≡ listSize → wellFormedList (b .room) ≡ true → goodList true (listAt (stored a k b) k) ≡ true
-unfolding goodList
-store-good a k b there w = ap wellFormedList (list-stored a k b there (good-there true (b .room) w)) ∙ w
-
--- what is loaded of a good slot in use is well formed, and is what the slot holds
-pub load-good : (s : List ℕ) → goodList true s ≡ true → (listOf s .room ≡ s) × (wellFormedList (listOf s .room) ≡ true)
-unfolding goodList
-load-good s h = let e : listOf s .room ≡ s = load-whole s (good-there true s h) in (e, ap wellFormedList e ∙ h)

@@ -21,13 +21,12 @@ use Rattle.links.specs.Links.{hasLink, setBelow, lessLink, relaySet, linksFrom,
 use Rattle.message.specs.Reading.{contentOf}
 use Rattle.channel.specs.Limits.{slotCount}
 use Rattle.channel.specs.Record.{encode, emptyRecord}
-use Rattle.channel.specs.WellFormed.{wellFormed}
 use Rattle.channel.proofs.Examples.{2cd, 1ab, stored, incoming}
 use Rattle.channel.proofs.Blank.{empty-free}
 use Rattle.bans.specs.declared.WholeRecord.{WholeRecord}
-use Rattle.bans.specs.WellFormed.{wellFormedList}
 use Rattle.bans.specs.Slots.{emptyList}
 use Rattle.bans.specs.Records.{whole, wellFormedWhole}
+use Rattle.bans.proofs.Records.{whole-says}
 use Rattle.merging.specs.declared.Merged.{Merged}
 use Rattle.merging.specs.Merging.{mergeRules}
 use Rattle.merging.specs.Plain.{earliest, entries, everyone}
@@ -313,17 +312,17 @@ never-refusing-meets = record {
     unrefused m = record { number = accepted; result = cond (eqb (m .number) accepted) (m .result) none }
 
 -- no channel merged with no channel is to be refused: a well-formed record has members
-empty-ill : wellFormed emptyRecord ≡ false
-empty-ill = go (wellFormed emptyRecord) refl
+empty-ill : wellFormedWhole none ≡ false
+empty-ill = go (wellFormedWhole none) refl
   where
-    go : (t : Bool) → wellFormed emptyRecord ≡ t → t ≡ false
-    go true e = absurd (true≢false (sym (eq-eqb (emptyRecord .count) 0 empty-free) ∙ well-used emptyRecord e))
+    go : (t : Bool) → wellFormedWhole none ≡ t → t ≡ false
+    go true e = absurd (true≢false (sym (eq-eqb (emptyRecord .count) 0 empty-free) ∙ well-used emptyRecord (whole-says none e .0)))
     go false e = refl
 
 -- the rules refuse two empty records as not well formed
 pub empty-number : ruledMerge none none ≡ notWellFormed
-unfolding mergeRules wellFormedWhole
-empty-number = stop _ _ (ap (λ (t : Bool). not ((t && wellFormedList (emptyList .room)) && (t && wellFormedList (emptyList .room)))) empty-ill)
+unfolding mergeRules
+empty-number = stop _ _ (ap (λ (t : Bool). not (t && t)) empty-ill)
 
 -- and so don't accept them
 pub empty-refused : ruledMerge none none ≡ accepted → ⊥

@@ -15,7 +15,7 @@ use Rattle.refusal.specs.Rules.{Rule, _when_, firstOf}
 use Rattle.refusal.proofs.Rules.{skip, stop, first-nil, append-some, append-none}
 use Rattle.ascending.specs.Ascending.{onePass}
 use Rattle.ascending.proofs.Ascends.{Ascending, pass-unite}
-use Rattle.laws.proofs.Bools.{and-left, and-right, and-intro}
+use Rattle.laws.proofs.Bools.{and-intro}
 use Rattle.names.specs.Fold.{sameName}
 use Rattle.channel.specs.declared.Member.{Member}
 use Rattle.channel.specs.declared.Record.{Record}
@@ -34,9 +34,9 @@ use Rattle.channel.proofs.Statuses.{stays-byId}
 use Rattle.channel.proofs.Standing.{ascending-standing}
 use Rattle.bans.specs.declared.Added.{Added}
 use Rattle.bans.specs.declared.WholeRecord.{WholeRecord}
-use Rattle.bans.specs.WellFormed.{wellFormedList}
 use Rattle.bans.specs.Slots.{emptyList}
 use Rattle.bans.specs.Records.{whole, wellFormedWhole}
+use Rattle.bans.proofs.Records.{whole-well, whole-says}
 use Rattle.bans.proofs.Slots.{empty-masks, empty-well}
 use Rattle.merging.specs.declared.Combined.{Combined}
 use Rattle.merging.specs.declared.sides.Given.{Given}
@@ -123,10 +123,6 @@ module _ (a b : WholeRecord) where
             rw n
 
 -- ---- in the terms of the code, once both are well formed and of one channel
-whole-says : (a : WholeRecord) → wellFormedWhole a ≡ true → (wellFormed (a .«record») ≡ true) × (wellFormedList (a .bans .room) ≡ true)
-unfolding wellFormedWhole
-whole-says a w = (and-left (wellFormed (a .«record»)) (wellFormedList (a .bans .room)) w, and-right (wellFormed (a .«record»)) (wellFormedList (a .bans .room)) w)
-
 module _ (a b : WholeRecord) (w : wellFormedWhole a ≡ true) (v : wellFormedWhole b ≡ true) (s : sameName (decode (a .«record») .name) (decode (b .«record») .name) ≡ true)
     (r : Combined) (is : r ≡ combined (a .«record») (b .«record»)) where
   joined : r ≡ answered (roomRules (mergedChannel a b)) (a .«record») (mergedChannel a b)
@@ -156,8 +152,7 @@ module _ (a b : WholeRecord) (w : wellFormedWhole a ≡ true) (v : wellFormedWho
 -- ---- the records of two channels without masks
 -- the record of a proper channel is well formed without masks
 bare-well : (a : Channel) → Proper a → wellFormedWhole (whole (encode a) emptyList) ≡ true
-unfolding wellFormedWhole
-bare-well a p = and-intro _ _ (encode-well a p) empty-well
+bare-well a p = whole-well (whole (encode a) emptyList) (encode-well a p) empty-well
 
 -- merged they have none
 pub answer-encoded : (a b : Channel) → Proper a → Proper b → sameName (a .name) (b .name) ≡ true → length (merge a b .members) ≤ memberLimit

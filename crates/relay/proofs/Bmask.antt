@@ -18,10 +18,10 @@ use Rattle.channel.specs.Limits.{slotCount, banLimit}
 use Rattle.channel.specs.Record.{emptyRecord}
 use Rattle.bans.specs.declared.Added.{Added}
 use Rattle.bans.specs.Masks.{isMask}
-use Rattle.bans.specs.WellFormed.{wellFormedList, goodList}
+use Rattle.bans.specs.WellFormed.{wellFormedList}
 use Rattle.bans.specs.Putting.{addAnswer}
 use Rattle.bans.specs.Slots.{listAt, listOf, listWith}
-use Rattle.bans.proofs.Slots.{load-whole}
+use Rattle.bans.proofs.Slots.{used-list, load-whole}
 use Rattle.bans.proofs.Uniting.{add-full, add-keeps, add-list}
 use Rattle.table.specs.declared.Found.{Found}
 use Rattle.table.specs.declared.Slot.{Slot}
@@ -73,8 +73,7 @@ module _ (n : Network) (a : Arrival) where
 
       -- its list is well formed, and is what is loaded
       well : wellFormedList (listIn n k .room) ≡ true
-      unfolding goodList
-      well = rw used at (list-good n good k emptyRecord inside)
+      well = sym (used-list (listAt (n .bans) k)) ∙ (rw used at (list-good n good k emptyRecord inside))
 
       loaded : listOf (listAt (n .bans) k) ≡ listIn n k
       loaded = ap (λ (s : List ℕ). record { room = s }) (load-whole (listAt (n .bans) k) (list-whole n good k inside))

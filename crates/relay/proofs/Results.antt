@@ -26,7 +26,7 @@ use Rattle.channel.proofs.Proper.{Proper, proper-fits, well-says, encode-well}
 use Rattle.channel.proofs.Records.{decode-encode}
 use Rattle.bans.specs.WellFormed.{goodList}
 use Rattle.bans.specs.Slots.{listAt}
-use Rattle.bans.proofs.Slots.{unused-well}
+use Rattle.bans.proofs.Slots.{used-list, free-list, unused-well}
 use Rattle.merging.specs.declared.Combined.{Combined}
 use Rattle.merging.specs.Merging.{merge, answered, roomRules, combined}
 use Rattle.merging.proofs.Proper.{proper-merge}
@@ -217,11 +217,10 @@ module _ (n : Network) (good : goodNetwork n ≡ true) (c : Channel) (p : Proper
 
   -- the list of a slot that is used already is well formed, and that of a free one is zero, which is a list without masks
   list-left : goodList true (listAt (n .bans) place) ≡ true
-  unfolding goodList
   list-left = go (isFree (getD (n .slots) place emptyRecord)) (list-good n good place emptyRecord (place-used .0))
     where
       go : (t : Bool) → goodList (not t) (listAt (n .bans) place) ≡ true → goodList true (listAt (n .bans) place) ≡ true
-      go true h = unused-well (listAt (n .bans) place) h
+      go true h = used-list (listAt (n .bans) place) ∙ unused-well (listAt (n .bans) place) (sym (free-list (listAt (n .bans) place)) ∙ h)
       go false h = h
 
   -- The network stays well formed.

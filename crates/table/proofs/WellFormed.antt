@@ -28,7 +28,7 @@ use Rattle.bans.specs.WellFormed.{wellFormedList, goodList}
 use Rattle.bans.specs.Slots.{listAt, emptyList, emptyLists, stored}
 use Rattle.bans.specs.Records.{whole, goodWhole}
 use Rattle.bans.proofs.Records.{whole-parts}
-use Rattle.bans.proofs.Slots.{good-there, list-stored, list-other, empty-unused, empty-well, lists-empty}
+use Rattle.bans.proofs.Slots.{used-list, free-list, good-there, list-stored, list-other, empty-unused, empty-well, lists-empty}
 use Rattle.table.specs.Network.{Table, Network, networkOf, withSlots, withBans, withList, emptiedIf, emptyNetwork}
 use Rattle.table.specs.Table.{isFree, wholesFrom, wholes, holds, alike, distinct, goodNetwork, goodTable, emptyTable}
 use Rattle.table.specs.Private.Parts.{goodRecord, goodLists}
@@ -178,9 +178,8 @@ module _ (n : Network) where
 -- ---- the empty table
 -- the list without masks is good for any slot
 pub empty-either : (used : Bool) → goodList used (emptyList .room) ≡ true
-unfolding goodList
-empty-either true = empty-well
-empty-either false = empty-unused
+empty-either true = used-list (emptyList .room) ∙ empty-well
+empty-either false = free-list (emptyList .room) ∙ empty-unused
 
 -- and where no list has masks, each is
 pub empty-lists : (slots : List Record) → length slots ≤ slotCount → goodLists 0 slots emptyLists ≡ true
@@ -214,9 +213,8 @@ module _ (n : Network) (g : goodNetwork n ≡ true) (k : ℕ) (h : k < length (n
 
   -- Another list that is well formed leaves the network so, where the slot is used.
   pub list-change : (b : BanList) → isFree (getD (n .slots) k emptyRecord) ≡ false → wellFormedList (b .room) ≡ true → goodNetwork (withList n k b) ≡ true
-  unfolding goodList
   list-change b used w =
-      network-made (withList n k b) (slots-few n g) (slots-good n g) (stored-lists (n .slots) b refl (λ j ne. refl) (rw used w)) (slots-distinct n g)
+      network-made (withList n k b) (slots-few n g) (slots-good n g) (stored-lists (n .slots) b refl (λ j ne. refl) (rw used (used-list (b .room) ∙ w))) (slots-distinct n g)
 
   -- Another record leaves the network well formed where it is good and no slot is like it, its list emptied or good for it: no other test looks at them.
   pub slot-change : (r : Record) (b : Bool) → goodRecord r ≡ true → distinct (set (n .slots) k r) ≡ true → (b ≡ false → goodList (not (isFree r)) (listAt (n .bans) k) ≡ true)
