@@ -332,6 +332,7 @@ def test_control_c_at_a_terminal(tree):
     tree.built(WAITS)
     child, terminal = pty.fork()
     if child == 0:
+        restored()
         os.execve(tree.folder / "bin" / "relay", ["relay"], tree.environment())
     wait_for(lambda: b"started" in os.read(terminal, 100))
     os.write(terminal, b"\x03")
@@ -341,8 +342,9 @@ def test_control_c_at_a_terminal(tree):
 
 
 def restored():
-    signal.signal(signal.SIGINT, signal.default_int_handler)
-    signal.signal(signal.SIGINT, signal.SIG_DFL)
+    """Hear every signal, as from a terminal: what a shell starts in the background, or under nohup, ignores some."""
+    for sent in (signal.SIGHUP, signal.SIGINT, signal.SIGQUIT, signal.SIGTERM):
+        signal.signal(sent, signal.SIG_DFL)
 
 
 def main():
