@@ -59,7 +59,7 @@ extern "C" {
 #endif
 
 /* The version of the whole project, as the file VERSION has it. */
-#define RELAY_VERSION "0.4.0"
+#define RELAY_VERSION "0.5.0"
 
 /* The bytes of stack that are enough for a call. */
 #define RELAY_STACK 131072
@@ -236,7 +236,11 @@ relay_fed relay_feed(relay_feeder state, relay_bytes bytes);
 /* Whether two names are equal, without regard to case; '[', ']' and '\' are the capitals of '{', '}' and '|'. */
 bool relay_same_name(relay_bytes a, relay_bytes b);
 
-/* Whether a mask matches a text: '?' matches one byte, '*' any run, the empty one too, every other byte as in names. Number 23. */
+/*
+ * Whether a mask matches a text: '?' matches one byte, '*' any run, the empty one too, every other byte as in names. Number 23. However many
+ * stars the mask has, (its length + 1) * (the text's length + 1) steps always reach the answer, and no step looks at more than one byte of
+ * the mask and one of the text.
+ */
 relay_matched relay_match(relay_bytes mask, relay_bytes text);
 
 /* Whether the second key is the greater one: by the first byte that differs, unsigned; a proper beginning is smaller. */

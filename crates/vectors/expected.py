@@ -76,7 +76,8 @@ An empty line follows each record's.
 What is below is made from the text of document 01 ("Reading one line",
 "Names and ids", "SJOIN", "What goes out", "The numbers a caller may get") and
 of document 02, section 2, alone. It shares nothing with the program that it
-judges.
+judges. A mask is followed through all places of the text at once, so that many
+stars (02, section 3) take no longer than few.
 """
 
 import argparse
@@ -313,19 +314,26 @@ FOLD = bytes.maketrans(
 )
 
 
-def mask_pattern(mask: bytes) -> bytes:
-    """Return a regular expression that matches what a folded mask does."""
-    wild = {b"*": b".*", b"?": b"."}
-    single = [mask[i : i + 1] for i in range(len(mask))]
-    return b"".join(wild.get(byte) or re.escape(byte) for byte in single)
+def places_after(
+    byte: bytes, places: FrozenSet[int], text: bytes
+) -> FrozenSet[int]:
+    """Return the places of a text to which one more byte of a mask leads."""
+    end = len(text) + 1
+    if byte == b"*":
+        return frozenset(range(min(places, default=end), end))
+    single = (i for i in places if i < len(text))
+    return frozenset(i + 1 for i in single if byte in (b"?", text[i : i + 1]))
 
 
 def matches(mask: bytes, text: bytes) -> bool:
     """Match a mask, or refuse it or the text for its length."""
     if len(mask) > LONGEST_TEXT or len(text) > LONGEST_TEXT:
         raise Refused(23)
-    pattern = mask_pattern(mask.translate(FOLD))
-    return bool(re.fullmatch(pattern, text.translate(FOLD), re.DOTALL))
+    mask, text = mask.translate(FOLD), text.translate(FOLD)
+    places = frozenset({0})
+    for i in range(len(mask)):
+        places = places_after(mask[i : i + 1], places, text)
+    return len(text) in places
 
 
 # --- The table --------------------------------------------------------------

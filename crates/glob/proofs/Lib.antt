@@ -1,5 +1,8 @@
--- Laws of masks, which the crates above cite; then those of a match in steps, for the functions of this crate, and examples.
+-- Laws of masks, and the claim about a match's steps, which the crates above may cite; what is behind that claim, for the functions of this crate; and
+-- examples.
 pub mod Masks
+mod Looks
 mod Sound
-mod Steps
+mod Stepwise
+pub mod Claim
 mod Examples

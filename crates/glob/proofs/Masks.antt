@@ -1,5 +1,5 @@
 -- Laws of what a mask matches: after a run, and by the next byte of mask and text. Assumes nothing.
-use mathlib.Core.Path.{_≡_, refl, sym, _∙_}
+use mathlib.Core.Path.{_≡_, refl, sym, ap, _∙_}
 use mathlib.Core.Bool.{Bool, true, false, true≢false, _||_, or-true}
 use mathlib.Core.List.{List, [], _∷_}
 use Prim.Native.Nat.{ℕ, _+_, _≤_, _<_}
@@ -13,6 +13,7 @@ use Rattle.refusal.specs.Rules.{_when_, firstOf, ascend, ascendFrom, placeIn}
 use Rattle.refusal.proofs.Rules.{skip, stop, first-nil}
 use Rattle.laws.proofs.Bools.{and-right}
 use Rattle.laws.proofs.Lists.{drop-step}
+use Rattle.glob.specs.declared.Match.{Match}
 use Rattle.glob.specs.Mask.{textLimit, star, matchesByte, firstThen, afterRun, matches, matchRules, matchAnswer}
 
 -- The rules stand in the order of their numbers: the first in it that applies is given.
@@ -34,6 +35,9 @@ module _ (mask text : List ℕ) where
       let n : firstOf (matchRules mask text) ≡ accepted = skip _ _ (simp (le-ltb textLimit (length mask) m, le-ltb textLimit (length text) s)) ∙ first-nil in
       rw (n, e)
 
+  pub answer-yes : length mask ≤ textLimit → length text ≤ textLimit → matchAnswer mask text .yes ≡ matches mask text
+  answer-yes m s = ap (λ (a : Match). a .yes) (sym (answers-within m s (matches mask text) refl))
+
 -- ---- after a run
 module _ (f : List ℕ → Bool) where
   -- the run may be empty
@@ -46,6 +50,12 @@ module _ (f : List ℕ → Bool) where
   run-more : (b : ℕ) (s : List ℕ) → afterRun f s ≡ true → afterRun f (b ∷ s) ≡ true
   unfolding afterRun
   run-more b s e = rw e (or-true (f (b ∷ s)))
+
+  -- or all there is
+  pub run-all : f [] ≡ true → (s : List ℕ) → afterRun f s ≡ true
+  unfolding afterRun
+  run-all e [] = e
+  run-all e (b ∷ s) = run-more b s (run-all e s)
 
   pub run-nil : afterRun f [] ≡ f []
   unfolding afterRun

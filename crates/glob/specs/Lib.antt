@@ -1,2 +1,3 @@
 pub mod Mask
+pub mod Stepping
 pub mod Private

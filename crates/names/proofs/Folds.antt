@@ -8,12 +8,14 @@ use Prim.Native.Nat.{ℕ, _+_, _≤_, _<_}
 use native.Mathlib.Omega.{arith}
 use lib.ListN.{length, drop, getD, length-map}
 use lib.Dec.{eqb, leb}
+use lib.Bits.{bitOr}
 use borrow.Author.Tests.{eq-eqb, ne-eqb, eqb-true, eqb-false, leb-true, leb-false}
 use Rattle.octets.specs.Bytes.{within}
 use Rattle.octets.proofs.Bytes.{within-bounds, bounds-within, below-within, above-within, same-refl, same-true}
 use Rattle.laws.specs.Lists.{sameBy}
+use Rattle.laws.proofs.Bounded.{allBelow, all-below}
 use Rattle.laws.proofs.Lists.{map-twice, sameBy-lengths, sameBy-differ, sameBy-map-left, sameBy-map-right, sameBy-past, sameBy-stop, sameBy-go}
-use Rattle.names.specs.Fold.{fold, sameName}
+use Rattle.names.specs.Fold.{fold, alike, sameName}
 use Rattle.names.specs.Names.{hash}
 
 -- ---- single bytes
@@ -70,6 +72,21 @@ hash-fold b e = go (folded b)
     go (inl h) = absurd (omega arith)
     go (inr f) = sym f ∙ e
 
+-- a fold changes no bit but that of 32
+abbrev keepsOthers : ℕ → Bool
+keepsOthers b = eqb (bitOr (fold b) 32) (bitOr b 32)
+
+all-keep : allBelow 256 keepsOthers ≡ true
+unfolding allBelow fold within
+all-keep = refl
+
+fold-keeps : (b : ℕ) → b < 256 → bitOr (fold b) 32 ≡ bitOr b 32
+fold-keeps b h = eqb-true (bitOr (fold b) 32) (bitOr b 32) (all-below keepsOthers 256 b all-keep h)
+
+-- so bytes that differ in another bit have different folds
+pub folds-differ : (a b : ℕ) → a < 256 → b < 256 → (bitOr a 32 ≡ bitOr b 32 → ⊥) → fold a ≡ fold b → ⊥
+folds-differ a b h k ne e = ne (sym (fold-keeps a h) ∙ ap (λ (x : ℕ). bitOr x 32) e ∙ fold-keeps b k)
+
 -- ---- whole names
 -- the fold keeps the length
 pub length-folds : (a : List ℕ) → length (map fold a) ≡ length a
@@ -99,33 +116,30 @@ pub name-trans : (a b c : List ℕ) → sameName a b ≡ true → sameName b c �
 name-trans a b c e f = folds-name a c (name-folds a b e ∙ name-folds b c f)
 
 -- ---- byte by byte
-abbrev sameByte : ℕ → ℕ → Bool
-sameByte x y = eqb (fold x) (fold y)
-
-name-bytes : (a b : List ℕ) → sameName a b ≡ sameBy sameByte a b
+name-bytes : (a b : List ℕ) → sameName a b ≡ sameBy alike a b
 unfolding sameName
 name-bytes a b = sameBy-map-left eqb fold a (map fold b) ∙ sameBy-map-right (λ x y. eqb (fold x) y) fold a b
 
 -- equal names are equally long
 module _ (a b : List ℕ) where
   pub name-lengths : sameName a b ≡ true → length a ≡ length b
-  name-lengths e = sameBy-lengths sameByte a b (sym (name-bytes a b) ∙ e)
+  name-lengths e = sameBy-lengths alike a b (sym (name-bytes a b) ∙ e)
 
   -- names of other lengths are other names
   pub lengths-differ : (length a ≡ length b → ⊥) → sameName a b ≡ false
-  lengths-differ ne = name-bytes a b ∙ sameBy-differ sameByte a b ne
+  lengths-differ ne = name-bytes a b ∙ sameBy-differ alike a b ne
 
 -- at a place of both
 module _ (a b : List ℕ) (i : ℕ) where
   module _ (h : i < length a) (k : i < length b) where
     -- other bytes make other names
     pub name-stop : (fold (getD a i 0) ≡ fold (getD b i 0) → ⊥) → sameName (drop i a) (drop i b) ≡ false
-    name-stop ne = name-bytes (drop i a) (drop i b) ∙ sameBy-stop sameByte a b i 0 h k (ne-eqb _ _ ne)
+    name-stop ne = name-bytes (drop i a) (drop i b) ∙ sameBy-stop alike a b i 0 h k (ne-eqb _ _ ne)
 
     -- behind equal bytes the others decide
     pub name-go : fold (getD a i 0) ≡ fold (getD b i 0) → sameName (drop i a) (drop i b) ≡ sameName (drop (i + 1) a) (drop (i + 1) b)
-    name-go e = name-bytes (drop i a) (drop i b) ∙ sameBy-go sameByte a b i 0 h k (eq-eqb _ _ e) ∙ sym (name-bytes (drop (i + 1) a) (drop (i + 1) b))
+    name-go e = name-bytes (drop i a) (drop i b) ∙ sameBy-go alike a b i 0 h k (eq-eqb _ _ e) ∙ sym (name-bytes (drop (i + 1) a) (drop (i + 1) b))
 
   -- past both there is nothing that could differ
   pub name-past : length a ≤ i → length b ≤ i → sameName (drop i a) (drop i b) ≡ true
-  name-past h k = name-bytes (drop i a) (drop i b) ∙ sameBy-past sameByte a b i h k
+  name-past h k = name-bytes (drop i a) (drop i b) ∙ sameBy-past alike a b i h k

@@ -3,7 +3,7 @@
 ghost use mathlib.Core.Path.{_≡_};
 ghost use Rattle.laws.specs.Lists.{padded};
 ghost use Rattle.octets.specs.Order.{compare};
-ghost use Rattle.names.specs.Fold.{fold as foldOf, sameName};
+ghost use Rattle.names.specs.Fold.{fold as foldOf, alike, sameName};
 ghost use Rattle.names.specs.Names.{userIdLength, isChannel, isServerId, isUserId};
 use octets::Class;
 use octets::Order;
@@ -48,7 +48,20 @@ pub fn folded(b: u8) -> u8
     b + 32
 }
 
-// Whether two names are equal: their folds are. Bytes that are the same need not be folded.
+// Whether two bytes are alike: their folds are equal. Bytes that are the same need not be folded, and a fold changes no bit but that of 32.
+pub fn is_alike(a: u8, b: u8) -> bool
+    ensures { λ r. ⌜ r ≡ alike a b ⌝ }
+{
+    if a == b {
+        return true;
+    }
+    if a | 32 != b | 32 {
+        return false;
+    }
+    fold(a) == fold(b)
+}
+
+// Whether two names are equal: their folds are.
 pub fn equal(a: &[u8], b: &[u8]) -> bool
     ensures { λ r. ⌜ r ≡ sameName (now (a .entry)) (now (b .entry)) ⌝ }
 {
@@ -57,11 +70,7 @@ pub fn equal(a: &[u8], b: &[u8]) -> bool
     }
     let mut i = 0;
     while i < a.len() {
-        if a[i] == b[i] {
-            i += 1;
-            continue;
-        }
-        if fold(a[i]) != fold(b[i]) {
+        if !is_alike(a[i], b[i]) {
             return false;
         }
         i += 1;

@@ -72,7 +72,8 @@ pub fn same_name(a: &[u8], b: &[u8]) -> bool {
     unsafe { relay_same_name(Bytes::of(a), Bytes::of(b)) }
 }
 
-/// Whether a mask matches a text.
+/// Whether a mask matches a text. However many stars the mask has, (its length + 1) × (the text's
+/// length + 1) steps always reach the answer.
 pub fn matches(mask: &[u8], text: &[u8]) -> Matched {
     // SAFETY: the bytes are lent for the call.
     unsafe { relay_match(Bytes::of(mask), Bytes::of(text)) }

@@ -2,85 +2,76 @@
 use mathlib.Core.Path.{sym, _∙_}
 use borrow.Author.Needs.{needs}
 use borrow.Author.Tests.{eq-eqb, ne-eqb}
-use Rattle.glob.specs.Private.Stepping.{step}
+use Rattle.glob.specs.Stepping.{compared, step}
 use Rattle.glob.proofs.step.Statement.{statement}
 use Rattle.glob.proofs.step.Tie as tie
 
+enum-known-mask : tie.Need-enum-known-mask
+enum-known-mask c = search needs
+
+enum-told : tie.Need-enum-told
+enum-told c = search needs
+
+mask-ended-requires : tie.Need-mask-ended-requires
+mask-ended-requires c κs = search needs
+
 returns : tie.Need-returns
 unfolding step
-returns c = simp (eq-eqb _ _ (c .before .if1 .taken), eq-eqb _ _ (c .if2 .taken))
+returns c = rw (c .before .enum-told .given .1) (c .mask-ended .ensures)
 
-back-requires : tie.Need-back-requires
-back-requires c κs = search needs
+passed-requires : tie.Need-passed-requires
+passed-requires c κs = search needs
 
 returns-2 : tie.Need-returns-2
 unfolding step
-returns-2 c = simp (eq-eqb _ _ (c .before .before .if1 .taken), ne-eqb _ _ (c .before .if2 .left)) (c .back .ensures)
+returns-2 c = simp (c .before .before .before .mask .given .1, eq-eqb _ _ (c .before .if1 .taken)) (c .passed .ensures)
 
-shared-slice-read-if3 : tie.Need-shared-slice-read-if3
-shared-slice-read-if3 c = search needs
+enum-known-text : tie.Need-enum-known-text
+enum-known-text c = search needs
 
-add-t12 : tie.Need-add-t12
-add-t12 c = search needs
-
-add-t13 : tie.Need-add-t13
-add-t13 c = search needs
+enum-told-2 : tie.Need-enum-told-2
+enum-told-2 c = search needs
 
 returns-3 : tie.Need-returns-3
-unfolding step
-returns-3 c = simp (ne-eqb _ _ (c .before .before .if1 .left), eq-eqb _ _ (c .if3 .taken))
-
-returns-4 : tie.Need-returns-4
-unfolding step
-returns-4 c = simp (ne-eqb _ _ (c .before .before .before .if1 .left), ne-eqb _ _ (c .before .if3 .left), eq-eqb _ _ (c .if4 .taken))
-
-shared-slice-read-takes : tie.Need-shared-slice-read-takes
-shared-slice-read-takes c = search needs
-
-shared-slice-read-takes-2 : tie.Need-shared-slice-read-takes-2
-shared-slice-read-takes-2 c = search needs
+unfolding step compared
+returns-3 c = simp (c .before .before .before .before .mask .given .1, ne-eqb _ _ (c .before .before .if1 .left), c .enum-told2 .given .1)
 
 takes-requires : tie.Need-takes-requires
 takes-requires c κs = search needs
 
-add-t19 : tie.Need-add-t19
-add-t19 c = search needs
+taken-requires : tie.Need-taken-requires
+taken-requires c κs = search needs
 
-add-t20 : tie.Need-add-t20
-add-t20 c = search needs
+returns-4 : tie.Need-returns-4
+unfolding step compared
+returns-4 c =
+    let p = c .before .before in
+    simp (p .before .before .before .before .before .before .mask .given .1, ne-eqb _ _ (p .before .before .before .before .if1 .left), p .before .before .text .given .1, sym (p .takes .ensures) ∙ c .before .if2 .taken) (c .taken .ensures)
+
+back-requires : tie.Need-back-requires
+back-requires c κs = search needs
 
 returns-5 : tie.Need-returns-5
-unfolding step
+unfolding step compared
 returns-5 c =
-    let p = c .before in
-    simp (ne-eqb _ _ (p .before .before .before .before .before .before .if1 .left), ne-eqb _ _ (p .before .before .before .before .if3 .left), ne-eqb _ _ (p .before .before .before .if4 .left), sym (p .takes .ensures) ∙ c .if5 .taken)
-
-back-requires-2 : tie.Need-back-requires-2
-back-requires-2 c κs = search needs
-
-returns-6 : tie.Need-returns-6
-unfolding step
-returns-6 c =
     let p = c .before .before in
-    simp (ne-eqb _ _ (p .before .before .before .before .before .before .if1 .left), ne-eqb _ _ (p .before .before .before .before .if3 .left), ne-eqb _ _ (p .before .before .before .if4 .left), sym (p .takes .ensures) ∙ c .before .if5 .left) (c .back2 .ensures)
+    simp (p .before .before .before .before .before .before .mask .given .1, ne-eqb _ _ (p .before .before .before .before .if1 .left), p .before .before .text .given .1, sym (p .takes .ensures) ∙ c .before .if2 .left) (c .back .ensures)
 
 pub step-spec : {M : Type 1} → statement M
 step-spec =
     tie.close
     (tie.spec
+    enum-known-mask
+    enum-told
+    mask-ended-requires
     returns
-    back-requires
+    passed-requires
     returns-2
-    shared-slice-read-if3
-    add-t12
-    add-t13
+    enum-known-text
+    enum-told-2
     returns-3
-    returns-4
-    shared-slice-read-takes
-    shared-slice-read-takes-2
     takes-requires
-    add-t19
-    add-t20
-    returns-5
-    back-requires-2
-    returns-6)
+    taken-requires
+    returns-4
+    back-requires
+    returns-5)

@@ -287,23 +287,37 @@ pub fn merged() -> Vec<(String, WholeRecord, WholeRecord)> {
     vec![sides(0, 24), sides(8, 24), sides(16, 100)]
 }
 
-/// Masks for a text of 512 times 'a', by what they show.
-pub fn masks() -> Vec<(&'static str, Vec<u8>)> {
+/// A mask and the text that it is tried on.
+pub struct Trial {
+    /// What it shows.
+    pub name: &'static str,
+    /// The mask.
+    pub mask: Vec<u8>,
+    /// The text.
+    pub text: Vec<u8>,
+}
+
+/// Masks on 512 times 'a': stars few and many, and what follows them; at the end one as people have
+/// them, on a user's text.
+pub fn masks() -> Vec<Trial> {
+    let on_a = |name, mask: Vec<u8>| Trial { name, mask, text: vec![b'a'; 512] };
     let star_and = |count| [b"*".as_slice(), &vec![b'a'; count], b"b"].concat();
+    let (ones, threes) = (b"*a".repeat(255), b"*aaa".repeat(127));
     vec![
-        ("512 bytes, no star: yes", vec![b'a'; 512]),
-        ("`*`: yes", b"*".to_vec()),
-        ("128 stars, 3 bytes after each: yes", b"*aaa".repeat(128)),
-        ("256 stars, a byte after each: yes", b"*a".repeat(256)),
-        (
-            "128 stars, 3 bytes after each, then `b`: no",
-            [&b"*aaa".repeat(127), b"*b".as_slice()].concat(),
-        ),
-        (
-            "255 stars, a byte after each, then `b`: no",
-            [&b"*a".repeat(255), b"b".as_slice()].concat(),
-        ),
-        ("a star, 255 bytes, then `b`: no", star_and(255)),
-        ("a star, 510 bytes, then `b`: no", star_and(510)),
+        on_a("`*a*a*a*a*a*`: yes", b"*a*a*a*a*a*".to_vec()),
+        on_a("`*a*a*a*a*a*b`: no", b"*a*a*a*a*a*b".to_vec()),
+        on_a("512 bytes, no star: yes", vec![b'a'; 512]),
+        on_a("`*`: yes", b"*".to_vec()),
+        on_a("128 stars, 3 bytes after each: yes", b"*aaa".repeat(128)),
+        on_a("256 stars, a byte after each: yes", b"*a".repeat(256)),
+        on_a("128 stars, 3 bytes after each, then `b`: no", [&threes, b"*b".as_slice()].concat()),
+        on_a("255 stars, a byte after each, then `b`: no", [&ones, b"b".as_slice()].concat()),
+        on_a("a star, 255 bytes, then `b`: no", star_and(255)),
+        on_a("a star, 510 bytes, then `b`: no", star_and(510)),
+        Trial {
+            name: "`*!*@*.example`, on `nick!~user@a-host.example`: yes",
+            mask: b"*!*@*.example".to_vec(),
+            text: b"nick!~user@a-host.example".to_vec(),
+        },
     ]
 }

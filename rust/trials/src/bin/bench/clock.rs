@@ -68,8 +68,9 @@ impl Clock {
         best
     }
 
-    fn by_turns(&self, mut core: impl FnMut() -> u8, mut other: impl FnMut() -> u8) -> Times {
-        assert_eq!(core(), other(), "core and {OTHER} differ");
+    /// Times the core and another by turns. Both answer a number, which must be the same.
+    pub fn by_turns(&self, mut core: impl FnMut() -> u8, mut other: impl FnMut() -> u8) -> Times {
+        assert_eq!(core(), other(), "the core and what it is timed beside differ");
         let mut best = [Duration::MAX; 2];
         for _ in 0..self.runs {
             best[0] = best[0].min(run(&mut core));
@@ -96,10 +97,14 @@ fn run(call: &mut impl FnMut() -> u8) -> Duration {
 impl Times {
     /// A call of the core, one of the other, and their ratio, as columns of a table.
     pub fn columns(&self) -> String {
-        let core = microseconds(self.core);
+        format!("{} | {}", digits(microseconds(self.core)), self.beside())
+    }
+
+    /// The other's call and the ratio alone.
+    pub fn beside(&self) -> String {
         match self.other.map(microseconds) {
-            Some(other) => format!("{} | {} | {:.2}", digits(core), digits(other), core / other),
-            None => format!("{} | – | –", digits(core)),
+            Some(other) => format!("{} | {:.2}", digits(other), microseconds(self.core) / other),
+            None => "– | –".to_string(),
         }
     }
 }

@@ -6,8 +6,9 @@
 //! microseconds a call. Both take the line with a table of their own by its pointer, as an embedding
 //! program does, and both test the whole table, its ban lists too. A copy of the table's head, and of
 //! the ban list that the line changes if it changes one, is in each figure, since most lines change
-//! them. Bytes made into lines are told in megabytes a second, beside a splitter that finds LF by C's
-//! `memchr`, and as a share of the time of taking the lines.
+//! them. Masks are tried beside C's `fnmatch` too, and beside a matcher that goes back to every star
+//! and is stopped after a million steps. Bytes made into lines are told in megabytes a second, beside
+//! a splitter that finds LF by C's `memchr`, and as a share of the time of taking the lines.
 //!
 //! With RELAY_EARLIER_LIB=FILE, the path of an earlier libcapi.a, that library takes the model's place,
 //! but not the place of its feeder where it has none; and where it knows no ban lists, a row with
@@ -16,6 +17,7 @@
 mod cases;
 mod clock;
 mod feeding;
+mod matchers;
 mod splitter;
 mod stack;
 
@@ -25,8 +27,9 @@ use model::refusal::number_of;
 use relay::{earlier, Answer, Feeder, Table, LIST};
 use trials::convert::{core_table, core_whole};
 
-use cases::{Case, LINK, LISTS};
+use cases::{Case, Trial, LINK, LISTS};
 use clock::{Clock, Times, OTHER};
+use matchers::Fnmatch;
 
 fn main() {
     assert!(relay::layout_matches(), "the library's structs are not laid out as this program's");
@@ -150,16 +153,25 @@ fn by_members(clock: &Clock) {
     }
 }
 
+/// Masks, beside C's own matcher and one that goes back to every star, where that comes to an end.
 fn masks(clock: &Clock) {
-    heading("Mask on a text of 512 bytes, µs", &["core", OTHER, "ratio"]);
-    let text = [b'a'; 512];
-    for (name, mask) in cases::masks() {
+    let columns = ["core", OTHER, "ratio", "fnmatch", "ratio", "backtracking", "ratio"];
+    heading("Mask on 512 times `a`, µs", &columns);
+    for Trial { name, mask, text } in cases::masks() {
+        let mut core = || u8::from(relay::matches(&mask, &text).yes);
         let times = clock.time(
-            || u8::from(relay::matches(&mask, &text).yes),
+            &mut core,
             || u8::from(earlier::matches(&mask, &text).yes),
             || u8::from(model::mask::matches(&mask, &text) == Ok(true)),
         );
-        println!("| {name} | {} |", times.columns());
+        let by_c = Fnmatch::new(&mask, &text);
+        let by_c = clock.by_turns(&mut core, || u8::from(by_c.matches()));
+        let by_all = || u8::from(matchers::backtracking(&mask, &text) == Some(true));
+        let by_all = match matchers::backtracking(&mask, &text) {
+            Some(_) => clock.by_turns(&mut core, by_all).beside(),
+            None => format!("over {} steps | –", matchers::CAP),
+        };
+        println!("| {name} | {} | {} | {by_all} |", times.columns(), by_c.beside());
     }
 }
 

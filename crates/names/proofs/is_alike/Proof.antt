@@ -1,0 +1,28 @@
+-- `is_alike` meets its contract: a byte has one fold, and bytes that differ in a bit other than that of 32 have two. Assumes nothing.
+use mathlib.Core.Path.{sym, ap}
+use borrow.Author.Needs.{needs}
+use borrow.Author.Tests.{eq-eqb, ne-eqb}
+use Rattle.names.specs.Fold.{fold}
+use Rattle.names.proofs.Folds.{folds-differ}
+use Rattle.names.proofs.is_alike.Statement.{statement}
+use Rattle.names.proofs.is_alike.Tie as tie
+
+returns : tie.Need-returns
+returns c = sym (eq-eqb _ _ (ap fold (c .if1 .taken)))
+
+returns-2 : tie.Need-returns-2
+returns-2 c =
+    let a = c .before .before .args in
+    sym (ne-eqb _ _ (folds-differ (a .a) (a .b) (search needs) (search needs) (c .if2 .taken)))
+
+fold-requires : tie.Need-fold-requires
+fold-requires c κs = search needs
+
+fold-requires-2 : tie.Need-fold-requires-2
+fold-requires-2 c κs = search needs
+
+returns-3 : tie.Need-returns-3
+returns-3 c = rw (c .before .fold .ensures, c .fold2 .ensures)
+
+pub is-alike-spec : {M : Type 1} → statement M
+is-alike-spec = tie.close (tie.spec returns returns-2 fold-requires fold-requires-2 returns-3)
