@@ -30,7 +30,8 @@ abbrev rest : List ℕ → List ℕ → State → Bool
 rest mask text s = matches (drop (s .mask) mask) (drop (s .text) text)
 
 pub record Sound (mask text : List ℕ) (s : State) : Type 0 where
-  pub passed : s .after ≤ s .mask
+  -- the last star passed stands before the place in the mask
+  pub star-before : s .after ≤ s .mask
   pub in-mask : s .mask ≤ length mask
   pub in-text : s .text ≤ length text
   -- since the star as many bytes of the text are taken as of the mask
@@ -53,7 +54,7 @@ Leads mask text s (Done answer) = answer ≡ matches mask text
 
 pub start-sound : (mask text : List ℕ) → Sound mask text start
 start-sound mask text = record {
-  passed = omega arith;
+  star-before = omega arith;
   in-mask = omega arith;
   in-text = omega arith;
   level = refl;
@@ -64,7 +65,7 @@ start-sound mask text = record {
 
 module _ (mask text : List ℕ) (s : State) (ok : Sound mask text s) where
   pub run-in : s .run ≤ s .text
-  run-in = omega (arith, ok .passed, ok .level)
+  run-in = omega (arith, ok .star-before, ok .level)
 
   no-star : s .after ≡ 0 → matches mask text ≡ rest mask text s
   no-star e = ok .whole ∙ rw (eq-eqb (s .after) 0 e) (ok .here)
@@ -89,7 +90,7 @@ module _ (mask text : List ℕ) (s : State) (ok : Sound mask text s) where
   later : (g : List ℕ → Bool) → ((t : List ℕ) → matches (drop (s .mask) mask) t ≡ true → afterRun g t ≡ true)
       → afterRun (since mask s) (drop (s .run) text) ≡ true → afterRun g (drop (s .text) text) ≡ true
   later g imp e =
-      let place : s .run + (s .mask - s .after) ≡ s .text = omega (arith, ok .passed, ok .level) in
+      let place : s .run + (s .mask - s .after) ≡ s .text = omega (arith, ok .star-before, ok .level) in
       rw (drop-drop (s .mask - s .after) (s .run) text, place) at (run-first (since mask s) g (s .mask - s .after)
       (λ t h. imp (drop (s .mask - s .after) t) (ok .exact t h)) (drop (s .run) text) e)
 
@@ -125,7 +126,7 @@ module _ (mask text : List ℕ) (s : State) (ok : Sound mask text s) where
     star-leads : Leads mask text s (passed s)
     star-leads = (
       record {
-        passed = omega arith;
+        star-before = omega arith;
         in-mask = omega arith;
         in-text = ok .in-text;
         level = refl;
@@ -154,12 +155,12 @@ module _ (mask text : List ℕ) (s : State) (ok : Sound mask text s) where
       → Leads mask text s (taken s)
   byte-leads lt ne h e = (
     record {
-      passed = omega (arith, ok .passed);
+      star-before = omega (arith, ok .star-before);
       in-mask = omega arith;
       in-text = omega arith;
       level = omega (arith, ok .level);
       exact = λ t h.
-          let n : s .mask - s .after + 1 ≡ s .mask + 1 - s .after = omega (arith, ok .passed) in
+          let n : s .mask - s .after + 1 ≡ s .mask + 1 - s .after = omega (arith, ok .star-before) in
           rw (drop-drop 1 (s .mask - s .after) t, n) at (matches-one mask (s .mask) lt ne (drop (s .mask - s .after) t) (ok .exact t h));
       here = ok .here ∙ ap (matches (drop (s .mask) mask)) (cons h) ∙ matches-agree mask (s .mask) lt ne (getD text (s .text) 0) (drop (s .text + 1) text) e;
       whole = ok .whole;
@@ -177,8 +178,8 @@ module _ (mask text : List ℕ) (s : State) (ok : Sound mask text s) where
     longer-leads : eqb (s .after) 0 ≡ false → Leads mask text s (longer s)
     longer-leads e = (
       record {
-        passed = omega arith;
-        in-mask = omega (arith, ok .passed, ok .in-mask);
+        star-before = omega arith;
+        in-mask = omega (arith, ok .star-before, ok .in-mask);
         in-text = omega (arith, run-in);
         level = refl;
         exact = λ t h. let z : s .after - s .after ≡ 0 = omega arith in rw z h;
@@ -188,15 +189,15 @@ module _ (mask text : List ℕ) (s : State) (ok : Sound mask text s) where
       omega (arith, ok .in-mask),
     )
 
-    no-run : eqb (s .after) 0 ≡ true → false ≡ matches mask text
-    no-run e = sym (no-star (eqb-true (s .after) 0 e) ∙ no)
+    no-way-back : eqb (s .after) 0 ≡ true → false ≡ matches mask text
+    no-way-back e = sym (no-star (eqb-true (s .after) 0 e) ∙ no)
 
     back-leads : Leads mask text s (back s)
     unfolding back
     back-leads = go (eqb (s .after) 0) refl
       where
         go : (z : Bool) → eqb (s .after) 0 ≡ z → Leads mask text s (back s)
-        go true e = rw e (no-run e)
+        go true e = rw e (no-way-back e)
         go false e = rw e (longer-leads e)
 
   -- ---- a mask that is used up
@@ -216,7 +217,7 @@ module _ (mask text : List ℕ) (s : State) (ok : Sound mask text s) where
         go : (h : Bool) → eqb (s .text) (length text) ≡ h → (i : Bool) → eqb (s .after) 0 ≡ i → (j : Bool) → eqb (s .after) (s .mask) ≡ j
             → Leads mask text s (maskEnded s (look text (s .text)))
         go true t i z j e = let n = eqb-true (s .text) (length text) t in rw (look-end text (s .text) (omega arith)) (sym (ends m n))
-        go false t true z j e = rw (look-byte text (s .text) (text-left t), z) (no-run (text-left t) (rest-over (text-left t)) z)
+        go false t true z j e = rw (look-byte text (s .text) (text-left t), z) (no-way-back (text-left t) (rest-over (text-left t)) z)
         go false t false z true e = rw (look-byte text (s .text) (text-left t), z, e) (last-star z (eqb-true (s .after) (s .mask) e))
         go false t false z false e = rw (look-byte text (s .text) (text-left t), z, e) (longer-leads (text-left t) (rest-over (text-left t)) z)
 
