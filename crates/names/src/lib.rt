@@ -58,7 +58,7 @@ pub fn is_alike(a: u8, b: u8) -> bool
     if a | 32 != b | 32 {
         return false;
     }
-    fold(a) == fold(b)
+    folded(a) == folded(b)
 }
 
 // Whether two names are equal: their folds are.

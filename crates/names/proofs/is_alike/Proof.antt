@@ -15,14 +15,14 @@ returns-2 c =
     let a = c .before .before .args in
     sym (ne-eqb _ _ (folds-differ (a .a) (a .b) (search needs) (search needs) (c .if2 .taken)))
 
-fold-requires : tie.Need-fold-requires
-fold-requires c κs = search needs
+folded-requires : tie.Need-folded-requires
+folded-requires c κs = search needs
 
-fold-requires-2 : tie.Need-fold-requires-2
-fold-requires-2 c κs = search needs
+folded-requires-2 : tie.Need-folded-requires-2
+folded-requires-2 c κs = search needs
 
 returns-3 : tie.Need-returns-3
-returns-3 c = rw (c .before .fold .ensures, c .fold2 .ensures)
+returns-3 c = rw (c .before .folded .ensures, c .folded2 .ensures)
 
 pub is-alike-spec : {M : Type 1} → statement M
-is-alike-spec = tie.close (tie.spec returns returns-2 fold-requires fold-requires-2 returns-3)
+is-alike-spec = tie.close (tie.spec returns returns-2 folded-requires folded-requires-2 returns-3)

@@ -297,16 +297,21 @@ pub struct Trial {
     pub text: Vec<u8>,
 }
 
-/// Masks on 512 times 'a': stars few and many, and what follows them; at the end one as people have
-/// them, on a user's text.
+/// Masks on 512 times 'a': stars few and many, what follows them, and bytes that have to be folded; at
+/// the end one as people have them, on a user's text.
 pub fn masks() -> Vec<Trial> {
-    let on_a = |name, mask: Vec<u8>| Trial { name, mask, text: vec![b'a'; 512] };
+    let on = |byte, name, mask: Vec<u8>| Trial { name, mask, text: vec![byte; 512] };
+    let on_a = |name, mask: Vec<u8>| on(b'a', name, mask);
     let star_and = |count| [b"*".as_slice(), &vec![b'a'; count], b"b"].concat();
     let (ones, threes) = (b"*a".repeat(255), b"*aaa".repeat(127));
     vec![
         on_a("`*a*a*a*a*a*`: yes", b"*a*a*a*a*a*".to_vec()),
         on_a("`*a*a*a*a*a*b`: no", b"*a*a*a*a*a*b".to_vec()),
         on_a("512 bytes, no star: yes", vec![b'a'; 512]),
+        on_a("512 capitals, no star: yes", vec![b'A'; 512]),
+        on_a("`*b`: no", b"*b".to_vec()),
+        on_a("`*?b`: no", b"*?b".to_vec()),
+        on(b'`', "`*@`, on 512 backticks: no", b"*@".to_vec()),
         on_a("`*`: yes", b"*".to_vec()),
         on_a("128 stars, 3 bytes after each: yes", b"*aaa".repeat(128)),
         on_a("256 stars, a byte after each: yes", b"*a".repeat(256)),
