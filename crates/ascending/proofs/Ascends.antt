@@ -99,6 +99,13 @@ module _ {E P : Type 0} (K : Kind E P) where
   above-at x (e ∷ l) zero d h = λ k. h .0
   above-at x (e ∷ l) (suc i) d h = λ k. above-at x l i d (h .1) (omega arith)
 
+  -- of two places the earlier one has the smaller key
+  pub ascending-at : (l : List E) (i j : ℕ) (d : E) → Ascending K l → i < j → j < length l → Below (K .key (getD l i d)) (K .key (getD l j d))
+  ascending-at [] i j d h = λ b k. absurd (omega arith)
+  ascending-at (e ∷ l) i zero d h = λ b k. absurd (omega arith)
+  ascending-at (e ∷ l) zero (suc j) d h = λ b k. above-at (K .key e) l j d (h .0) (omega arith)
+  ascending-at (e ∷ l) (suc i) (suc j) d h = λ b k. ascending-at l i j d (h .1) (omega arith) (omega arith)
+
   -- what stands before a place is below the entry there
   pub under-take : (l : List E) (i : ℕ) (d : E) → Ascending K l → i < length l → Under K (K .key (getD l i d)) (take i l)
   under-take [] i d h = λ k. absurd (omega arith)

@@ -10,7 +10,7 @@ use borrow.Author.Tests.{eq-eqb, eqb-true, leb-true}
 use Rattle.laws.specs.Lists.{all, padded}
 use Rattle.laws.specs.Joins.{concatenated}
 use Rattle.laws.proofs.Bools.{and-left, and-right}
-use Rattle.laws.proofs.Lists.{all-head, all-tail, all-cons, all-from, padded-take, padded-behind, drop-behind}
+use Rattle.laws.proofs.Lists.{all-head, all-tail, all-cons, all-from, padded-take, length-padded, padded-behind, drop-behind}
 use Rattle.octets.specs.Bytes.{isZero}
 use Rattle.octets.proofs.Room.{part-next}
 use Rattle.channel.specs.Limits.{maskLimit, banLimit}
@@ -61,6 +61,11 @@ made-again (x ∷ t) e c z r =
 -- a well-formed list is the one that its masks make
 pub encode-masks : (s : List ℕ) → wellFormedList s ≡ true → encodeList (masks s) ≡ s
 encode-masks s w = made-again s (well-size s w) (well-count s w) (well-clear s w) (rooms-masks (usedRooms s) (well-good s w) (sized-used s (well-size s w)))
+
+-- any masks make a whole list
+pub length-encode : (l : List (List ℕ)) → length (encodeList l) ≡ listSize
+unfolding encodeList
+length-encode l = omega (arith, length-padded 0 roomsSize (concatenated (map roomOf l)))
 
 -- ---- and masks are found again
 masks-rooms : (l : List (List ℕ)) → all isMask l ≡ true → map maskIn (map roomOf l) ≡ l

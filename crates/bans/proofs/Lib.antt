@@ -3,6 +3,7 @@ pub mod Slots
 pub mod Records
 pub mod Keeping
 pub mod Uniting
+pub mod Misplaced
 pub mod Encoding
 pub mod Matching
 pub mod Texts

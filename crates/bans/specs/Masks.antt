@@ -7,6 +7,7 @@ use lib.Dec.{leb, ltb}
 use Rattle.laws.specs.Lists.{all, padded}
 use Rattle.laws.specs.Joins.{concatenated}
 use Rattle.octets.specs.Bytes.{isPlain, isNonSpace}
+use Rattle.octets.specs.Order.{compare, isLess}
 use Rattle.octets.specs.Room.{part}
 use Rattle.ascending.specs.Ascending.{Kind}
 use Rattle.names.specs.Fold.{fold}
@@ -29,6 +30,10 @@ roomOf m = length (take maskLimit m) ∷ padded maskLimit 0 m
 -- masks in folded byte order; equal folds stand once, in the first spelling: the one that was there is kept
 abbrev pub bySpelling : Kind (List ℕ) (List ℕ)
 bySpelling = record { key = λ m. map fold m; load = λ m. m; make = λ k m. m; join = λ m d. d }
+
+-- a mask comes before another: its fold is the smaller one
+abbrev pub comesBefore : List ℕ → List ℕ → Bool
+comesBefore m d = isLess (compare (map fold m) (map fold d))
 
 -- rooms in the order of their masks, of two with one fold the one that was there
 abbrev pub byFold : Kind (List ℕ) (List ℕ)

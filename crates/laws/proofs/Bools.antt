@@ -1,6 +1,6 @@
 -- Laws of `&&`, `||` and `not`, and of two tests that imply or equal each other. Assumes nothing.
 use Prim.Native.Nat.{ℕ}
-use mathlib.Core.Path.{_≡_, refl, sym}
+use mathlib.Core.Path.{_≡_, refl, sym, _∙_}
 use mathlib.Core.Bool.{Bool, true, false, true≢false, not, _&&_, _||_, Bool·beq}
 use lib.Dec.{eqb}
 use borrow.Author.Tests.{eq-eqb, eqb-true}
@@ -38,6 +38,15 @@ pub both-ways : (a b : Bool) → (a ≡ true → b ≡ true) → (b ≡ true →
 both-ways true b f g = sym (f refl)
 both-ways false true f g = g refl
 both-ways false false f g = refl
+
+-- a test that can't succeed fails
+pub refuted : (a : Bool) → (a ≡ true → ⊥) → a ≡ false
+refuted true f = absurd (f refl)
+refuted false f = refl
+
+-- so does one that would make another succeed that fails
+pub refuted-by : (a b : Bool) → (a ≡ true → b ≡ true) → b ≡ false → a ≡ false
+refuted-by a b f e = refuted a (λ h. true≢false (sym (f h) ∙ e))
 
 -- the test of equal numbers, turned
 pub eqb-swap : (x y : ℕ) → eqb x y ≡ eqb y x

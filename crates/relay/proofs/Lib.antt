@@ -17,4 +17,6 @@ pub mod Taking
 mod Acted
 pub mod Answering
 pub mod Joined
+pub mod IllFormed
 mod Examples
+mod Clashing

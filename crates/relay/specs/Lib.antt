@@ -7,4 +7,5 @@ pub mod Quit
 pub mod Bmask
 pub mod Commands
 pub mod Relay
+pub mod IllFormed
 pub mod Private

@@ -6,6 +6,6 @@ pub mod Using
 pub mod Changing
 pub mod Alone
 pub mod Questions
-mod Registering
+pub mod Registering
 mod Pairs
 mod Examples

@@ -10,7 +10,7 @@ use lib.Seq.{getD-set-same, getD-set-other}
 use lib.Dec.{eqb, leb, ltb}
 use borrow.Author.Tests.{eq-eqb, ne-eqb, eqb-true, eqb-false, le-leb, leb-true, ltb-true, ltb-false, not-true}
 use Rattle.laws.specs.Lists.{all}
-use Rattle.laws.proofs.Bools.{and-left, and-right, and-intro, and-three, and-swap}
+use Rattle.laws.proofs.Bools.{and-left, and-right, and-intro, and-three, and-swap, refuted, refuted-by}
 use Rattle.laws.proofs.Lists.{drop-step, all-at, all-replicate}
 use Rattle.laws.proofs.Replaced.{all-set}
 use Rattle.octets.specs.Room.{part}
@@ -283,3 +283,14 @@ module _ (name : List ℕ) where
       go true x b y = absurd (two-hold (t .slots) d i j q (ltb-true i j x) k e f)
       go false x true y = absurd (two-hold (t .slots) d j i q (ltb-true j i y) h f e)
       go false x false y = omega (arith, ltb-false i j x, ltb-false j i y)
+
+-- ---- what isn't a well-formed table
+module _ (t : Table) where
+  -- one with two slots that hold a name
+  pub held-twice : (name : List ℕ) (d : Record) (i j : ℕ) → (i ≡ j → ⊥) → i < length (t .slots) → j < length (t .slots)
+      → holds name (getD (t .slots) i d) ≡ true → holds name (getD (t .slots) j d) ≡ true → goodTable t ≡ false
+  held-twice name d i j ne h k e f = refuted (goodTable t) (λ g. ne (held-once name t g d i j h k e f))
+
+  -- one with a used slot whose list isn't well formed
+  pub list-ill : (d : Record) (k : ℕ) → k < length (t .slots) → isFree (getD (t .slots) k d) ≡ false → wellFormedList (listAt (t .bans) k) ≡ false → goodTable t ≡ false
+  list-ill d k h used = refuted-by (goodTable t) _ (λ g. sym (used-list (listAt (t .bans) k)) ∙ rw used at (list-good (networkOf t) g k d h))

@@ -1,0 +1,71 @@
+-- What isn't well formed gets 1 from every function that judges it; and what isn't: a table with two slots that hold one name, and a ban list in which a mask
+-- stands before one that has to come first, or before one with the same fold. True since 1 is the first rule of each. Assumes nothing.
+use Prim.Native.Nat.{ℕ, _<_}
+use mathlib.Core.Path.{_≡_, sym, ap, _∙_}
+use mathlib.Core.Bool.{Bool, false, true, _&&_, and-false}
+use mathlib.Core.List.{List, []}
+use native.Mathlib.Omega.{arith}
+use lib.ListN.{length, getD}
+use Rattle.refusal.specs.Numbers.{accepted, notWellFormed}
+use Rattle.refusal.specs.Rules.{firstOf}
+use Rattle.links.specs.Links.{withLink, withoutLink}
+use Rattle.channel.specs.declared.Record.{Record}
+use Rattle.channel.specs.Record.{emptyRecord}
+use Rattle.bans.specs.declared.WholeRecord.{WholeRecord}
+use Rattle.bans.specs.Masks.{comesBefore, masks}
+use Rattle.bans.specs.Slots.{listAt}
+use Rattle.bans.specs.Records.{wellFormedWhole}
+use Rattle.bans.proofs.Misplaced.{misplaced, list-decides}
+use Rattle.merging.proofs.Answers.{answer-ill}
+use Rattle.table.specs.Network.{Table}
+use Rattle.table.specs.Table.{isFree, holds, goodTable}
+use Rattle.table.proofs.WellFormed.{held-twice, list-ill}
+use Rattle.table.proofs.Registering.{links-ill-formed}
+use Rattle.table.proofs.Questions.{banned-ill}
+use Rattle.relay.specs.Arrival.{Arrival}
+use Rattle.relay.specs.Relay.{processRules}
+use Rattle.relay.specs.IllFormed.{TableGets1, RecordGets1}
+use Rattle.relay.proofs.Entering.{entry-ill-formed, entry-refuses}
+use Rattle.relay.proofs.Answering.{answer-refused, sent-nothing}
+
+-- ---- what isn't well formed gets 1
+pub table-gets-1 : (t : Table) → goodTable t ≡ false → TableGets1 t
+table-gets-1 t ill = record {
+  taking = λ a n. sym (answer-refused t a n notWellFormed (number a n) some);
+  sending = λ a n. sent-nothing t a n notWellFormed (number a n) some;
+  registering = λ link. links-ill-formed t link (withLink (t .links) link) ill;
+  dropping = λ link. links-ill-formed t link (withoutLink (t .links) link) ill;
+  asking = λ name text. sym (banned-ill t name text ill);
+}
+  where
+    some : notWellFormed ≡ accepted → ⊥
+    some z = omega (arith, z)
+
+    number : (a : Arrival) (n : ℕ) → firstOf (processRules t a n) ≡ notWellFormed
+    number a n =
+        let e = entry-ill-formed (goodTable t) (t .links) (a .link) n ill in
+        entry-refuses t a n (λ z. some (sym e ∙ z)) ∙ e
+
+pub record-gets-1 : (w : WholeRecord) → wellFormedWhole w ≡ false → RecordGets1 w
+record-gets-1 w ill = record {
+  first = λ v. answer-ill w v (rw ill);
+  second = λ v. answer-ill v w (ap (λ (t : Bool). wellFormedWhole v && t) ill ∙ and-false (wellFormedWhole v));
+}
+
+-- ---- two slots that hold one name
+module _ (t : Table) where
+  abbrev slot : ℕ → Record
+  slot k = getD (t .slots) k emptyRecord
+
+  pub named-twice : (name : List ℕ) (i j : ℕ) → (i ≡ j → ⊥) → i < length (t .slots) → j < length (t .slots) → holds name (slot i) ≡ true → holds name (slot j) ≡ true → TableGets1 t
+  named-twice name i j ne h k e f = table-gets-1 t (held-twice t name emptyRecord i j ne h k e f)
+
+  -- ---- a used slot's list in which the mask at place i doesn't come before the one at place j
+  pub table-misplaced : (k : ℕ) → k < length (t .slots) → isFree (slot k) ≡ false → (i j : ℕ) → i < j → j < length (masks (listAt (t .bans) k))
+      → comesBefore (getD (masks (listAt (t .bans) k)) i []) (getD (masks (listAt (t .bans) k)) j []) ≡ false → TableGets1 t
+  table-misplaced k h used i j l m e = table-gets-1 t (list-ill t emptyRecord k h used (misplaced (listAt (t .bans) k) i j l m e))
+
+-- ---- the same in a record
+pub record-misplaced : (w : WholeRecord) (i j : ℕ) → i < j → j < length (masks (w .bans .room))
+    → comesBefore (getD (masks (w .bans .room)) i []) (getD (masks (w .bans .room)) j []) ≡ false → RecordGets1 w
+record-misplaced w i j l m e = record-gets-1 w (list-decides w (misplaced (w .bans .room) i j l m e))
