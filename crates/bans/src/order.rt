@@ -1,10 +1,8 @@
 // The order of masks: by the bytes of their folds. Where a mask stands, or is to stand, in a list.
 ghost use mathlib.Core.Path.{_≡_};
-ghost use mathlib.Core.Bool.{cond};
 ghost use mathlib.Core.List.{map};
 ghost use Prim.Native.Nat.{_+_, _≤_};
 ghost use lib.ListN.{length, take, drop};
-ghost use lib.Dec.{eqb};
 ghost use Rattle.octets.specs.Order.{compare, isLess};
 ghost use Rattle.ascending.specs.Ascending.{ascends};
 ghost use Rattle.names.specs.Fold.{fold as foldOf};
@@ -16,7 +14,7 @@ use crate::rooms::mask_count;
 use crate::rooms::mask_in;
 use crate::rooms::room_at;
 use names::fold;
-use names::folded;
+use names::unlike;
 use octets::Order;
 use octets::lesser;
 
@@ -27,16 +25,6 @@ const BLOCK: usize = 16;
 pub(crate) struct Place {
     pub at: usize,
     pub there: bool,
-}
-
-// 0 for bytes that have the same fold, 1 for any others.
-fn unlike(x: u8, y: u8) -> u8
-    ensures { λ r. ⌜ r ≡ cond (eqb (foldOf x) (foldOf y)) 0 1 ⌝ }
-{
-    if folded(x) == folded(y) {
-        return 0;
-    }
-    1
 }
 
 // 0 only if the blocks of a and b at a place have the same fold.

@@ -1,5 +1,4 @@
--- Laws of the fold and of equal names. Only this file, the proof of `fold`, and examples that are computed open the
--- fold's definition. Assumes nothing.
+-- Laws of the fold and of equal names. Only this file, and examples that are computed, open the fold's definition. Assumes nothing.
 use mathlib.Core.Path.{_≡_, refl, sym, ap, _∙_}
 use mathlib.Core.Bool.{Bool, true, false}
 use mathlib.Core.Logic.{_⊎_, inl, inr}
@@ -11,12 +10,13 @@ use lib.Dec.{eqb, leb}
 use lib.Bits.{bitOr}
 use borrow.Author.Tests.{eq-eqb, ne-eqb, eqb-true, eqb-false, leb-true, leb-false}
 use Rattle.octets.specs.Bytes.{within}
-use Rattle.octets.proofs.Bytes.{within-bounds, bounds-within, below-within, above-within, same-refl, same-true}
+use Rattle.octets.proofs.Bytes.{bounds-within, below-within, above-within, same-refl, same-true}
 use Rattle.laws.specs.Lists.{sameBy}
 use Rattle.laws.proofs.Bounded.{allBelow, all-below}
 use Rattle.laws.proofs.Lists.{map-twice, sameBy-lengths, sameBy-differ, sameBy-map-left, sameBy-map-right, sameBy-past, sameBy-stop, sameBy-go}
 use Rattle.names.specs.Fold.{fold, alike, sameName}
 use Rattle.names.specs.Names.{hash}
+use Rattle.names.specs.Private.Likeness.{likeness}
 
 -- ---- single bytes
 -- no byte below 'A' is folded
@@ -41,17 +41,14 @@ pub fold-high : (b : ℕ) → 93 < b → fold b ≡ b
 unfolding fold
 fold-high b h = simp (above-within 65 b 90 (omega arith), ne-eqb b 91 (λ q. omega arith), ne-eqb b 93 (λ q. omega arith), ne-eqb b 92 (λ q. omega arith))
 
--- a byte's fold lies above ']', or is the byte itself
+-- a byte's fold is the byte itself, or lies above ']'
 folded : (b : ℕ) → (93 < fold b) ⊎ (fold b ≡ b)
-unfolding fold
-folded b = go (within 65 b 90) refl (eqb b 91) refl (eqb b 93) refl (eqb b 92) refl
+folded b = go (leb 65 b) refl (leb b 93) refl
   where
-    go : (t : Bool) → within 65 b 90 ≡ t → (u : Bool) → eqb b 91 ≡ u → (v : Bool) → eqb b 93 ≡ v → (w : Bool) → eqb b 92 ≡ w → (93 < fold b) ⊎ (fold b ≡ b)
-    go true e u f v g w h = inl (rw e (omega (arith, within-bounds 65 b 90 e)))
-    go false e true f v g w h = inl (simp (e, f) (omega arith))
-    go false e false f true g w h = inl (simp (e, f, g) (omega arith))
-    go false e false f false g true h = inl (simp (e, f, g, h) (omega arith))
-    go false e false f false g false h = inr (simp (e, f, g, h))
+    go : (t : Bool) → leb 65 b ≡ t → (u : Bool) → leb b 93 ≡ u → (93 < fold b) ⊎ (fold b ≡ b)
+    go false e u f = inr (fold-low b (leb-false 65 b e))
+    go true e true f = inl (omega (arith, fold-between b (leb-true 65 b e) (leb-true b 93 f), leb-true 65 b e))
+    go true e false f = inr (fold-high b (leb-false b 93 f))
 
 pub fold-idempotent : (b : ℕ) → fold (fold b) ≡ fold b
 fold-idempotent b = go (folded b)
@@ -61,8 +58,7 @@ fold-idempotent b = go (folded b)
     go (inr e) = ap fold e
 
 pub fold-hash : fold hash ≡ hash
-unfolding fold
-fold-hash = rw (below-within 65 hash 90 (omega arith))
+fold-hash = fold-low hash (omega arith)
 
 -- no other byte's fold is '#'
 pub hash-fold : (b : ℕ) → fold b ≡ hash → b ≡ hash
@@ -84,8 +80,23 @@ fold-keeps : (b : ℕ) → b < 256 → bitOr (fold b) 32 ≡ bitOr b 32
 fold-keeps b h = eqb-true (bitOr (fold b) 32) (bitOr b 32) (all-below keepsOthers 256 b all-keep h)
 
 -- so bytes that differ in another bit have different folds
-pub folds-differ : (a b : ℕ) → a < 256 → b < 256 → (bitOr a 32 ≡ bitOr b 32 → ⊥) → fold a ≡ fold b → ⊥
-folds-differ a b h k ne e = ne (sym (fold-keeps a h) ∙ ap (λ (x : ℕ). bitOr x 32) e ∙ fold-keeps b k)
+pub folds-differ : (a b : ℕ) → a < 256 → b < 256 → (bitOr a 32 ≡ bitOr b 32 → ⊥) → alike a b ≡ false
+folds-differ a b h k ne = ne-eqb (fold a) (fold b) (λ e. ne (sym (fold-keeps a h) ∙ ap (λ (x : ℕ). bitOr x 32) e ∙ fold-keeps b k))
+
+-- ---- the likeness of a byte
+-- it is the fold
+fold-likeness : (b : ℕ) → fold b ≡ likeness b
+unfolding likeness
+fold-likeness b = go (leb 65 b) refl (leb b 93) refl
+  where
+    go : (t : Bool) → leb 65 b ≡ t → (u : Bool) → leb b 93 ≡ u → fold b ≡ likeness b
+    go false e u f = let h = leb-false 65 b e in rw (below-within 65 b 93 h) (fold-low b h)
+    go true e true f = let h = leb-true 65 b e in let k = leb-true b 93 f in rw (bounds-within 65 b 93 h k) (fold-between b h k)
+    go true e false f = let k = leb-false b 93 f in rw (above-within 65 b 93 k) (fold-high b k)
+
+-- so bytes are alike exactly if it is the same of both
+pub alike-likeness : (a b : ℕ) → alike a b ≡ eqb (likeness a) (likeness b)
+alike-likeness a b = rw (fold-likeness a, fold-likeness b)
 
 -- ---- whole names
 -- the fold keeps the length

@@ -1,10 +1,12 @@
 // Channel names, server ids and user ids (document 01, 'Names and ids'): the fold that makes names equal, a test for each kind, and the order
 // of user ids. Any bytes are taken and nothing is refused.
 ghost use mathlib.Core.Path.{_≡_};
+ghost use mathlib.Core.Bool.{cond};
 ghost use Rattle.laws.specs.Lists.{padded};
 ghost use Rattle.octets.specs.Order.{compare};
 ghost use Rattle.names.specs.Fold.{fold as foldOf, alike, sameName};
 ghost use Rattle.names.specs.Names.{userIdLength, isChannel, isServerId, isUserId};
+ghost use Rattle.names.specs.Private.Likeness.{likeness as likenessOf};
 use octets::Class;
 use octets::Order;
 use octets::all_in;
@@ -35,9 +37,9 @@ pub fn fold(b: u8) -> u8
     }
 }
 
-// The same for a loop over many bytes, which has no branch this way: the bytes that are folded lie side by side, and so do their folds.
-pub fn folded(b: u8) -> u8
-    ensures { λ r. ⌜ r ≡ foldOf b ⌝ }
+// What bytes that are alike have in common. Those that change lie side by side, so that it is two comparisons and an addition.
+fn likeness(b: u8) -> u8
+    ensures { λ r. ⌜ r ≡ likenessOf b ⌝ }
 {
     if b < b'A' {
         return b;
@@ -48,7 +50,7 @@ pub fn folded(b: u8) -> u8
     b + 32
 }
 
-// Whether two bytes are alike: their folds are equal. Bytes that are the same need not be folded, and a fold changes no bit but that of 32.
+// Whether two bytes are alike: their folds are equal. The same byte is, and a fold changes no bit but that of 32.
 pub fn is_alike(a: u8, b: u8) -> bool
     ensures { λ r. ⌜ r ≡ alike a b ⌝ }
 {
@@ -58,7 +60,17 @@ pub fn is_alike(a: u8, b: u8) -> bool
     if a | 32 != b | 32 {
         return false;
     }
-    folded(a) == folded(b)
+    likeness(a) == likeness(b)
+}
+
+// 0 for bytes that are alike, 1 for any others: what `is_alike` says, for a loop over many bytes, of which the compiler makes code without branches.
+pub fn unlike(a: u8, b: u8) -> u8
+    ensures { λ r. ⌜ r ≡ cond (alike a b) 0 1 ⌝ }
+{
+    if likeness(a) == likeness(b) {
+        return 0;
+    }
+    1
 }
 
 // Whether two names are equal: their folds are.

@@ -1,0 +1,8 @@
+-- What bytes that are alike have in common. Bytes are alike exactly if it is the same of both (`alike-likeness`, proofs/Folds.antt).
+use Prim.Native.Nat.{ℕ, _+_}
+use mathlib.Core.Bool.{cond}
+use Rattle.octets.specs.Bytes.{within}
+
+-- 'A' to ']' become 'a' to '}'
+unfoldable pub likeness : ℕ → ℕ
+likeness b = cond (within 65 b 93) (b + 32) b
