@@ -25,6 +25,7 @@ use Rattle.bans.proofs.Encoding.{length-encode, masks-encode}
 use Rattle.table.specs.Network.{Table}
 use Rattle.table.specs.Table.{holds}
 use Rattle.relay.specs.IllFormed.{TableGets1, RecordGets1}
+use Rattle.relay.proofs.Examples.{race, water}
 use Rattle.relay.proofs.IllFormed.{named-twice, table-misplaced, record-misplaced}
 
 -- ---- names
@@ -42,9 +43,9 @@ unfolding both under stored 2cd withMode encode decode padded holds sameName sam
 brackets = named-twice (both (35 ∷ 65 ∷ 91 ∷ []) (35 ∷ 97 ∷ 123 ∷ [])) (35 ∷ 65 ∷ 91 ∷ []) 0 1 (λ q. omega (arith, q)) (omega arith) (omega arith) refl refl
 
 -- ---- masks
--- the table whose first slot has these
+-- the table of document 01's whole case, whose first slot has these
 listed : List (List ℕ) → Table
-listed l = record { slots = encode stored ∷ replicate (slotCount - 1) emptyRecord; links = links 41; bans = lists.stored emptyLists 0 (listWith l) }
+listed l = record { slots = water .slots; links = water .links; bans = lists.stored (water .bans) 0 (listWith l) }
 
 -- that table, and the record with these
 module _ (l : List (List ℕ)) (few : length l ≤ banLimit) (good : all isMask l ≡ true) (i j : ℕ) (h : i < j) (k : j < length l) where
@@ -52,12 +53,12 @@ module _ (l : List (List ℕ)) (few : length l ≤ banLimit) (good : all isMask 
   own = masks-encode l few good
 
   first : masks (listAt (listed l .bans) 0) ≡ l
-  unfolding listed
+  unfolding listed water
   first = ap masks (list-stored emptyLists 0 (listWith l) (list-there emptyLists 0 empty-size (omega arith)) (length-encode l)) ∙ own
 
   -- where the mask at place i doesn't come before the one at place j
   out-of-order : comesBefore (getD l i []) (getD l j []) ≡ false → TableGets1 (listed l) × RecordGets1 (whole (encode stored) (listWith l))
-  unfolding listed stored 2cd withMode encode padded
+  unfolding listed water race stored 2cd withMode encode padded
   out-of-order e =
       (table-misplaced (listed l) 0 (omega arith) refl i j h (rw first k) (rw first e), record-misplaced (whole (encode stored) (listWith l)) i j h (rw own k) (rw own e))
 

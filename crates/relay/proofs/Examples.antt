@@ -64,11 +64,11 @@ use Rattle.relay.proofs.Taking.{taken-good, relayed-reads, join-one, af
 use Rattle.relay.proofs.Answering.{answer-accepted}
 
 -- the first slot holds the record
-race : Record → List Record
+unfoldable pub race : Record → List Record
 race r = r ∷ replicate (slotCount - 1) emptyRecord
 
 -- links 0, 3 and 5, and no masks
-water : Table
+unfoldable pub water : Table
 water = record { slots = race (encode stored); links = links 41; bans = emptyLists }
 
 -- a line from link 3

@@ -1,4 +1,4 @@
--- What isn't well formed gets 1 from every function that judges it; and what isn't: a table with two slots that hold one name, and a ban list in which a mask
+-- What isn't well formed gets 1 from every function that gives it; and what isn't: a table with two slots that hold one name, and a ban list in which a mask
 -- stands before one that has to come first, or before one with the same fold. True since 1 is the first rule of each. Assumes nothing.
 use Prim.Native.Nat.{ℕ, _<_}
 use mathlib.Core.Path.{_≡_, sym, ap, _∙_}

@@ -1,6 +1,6 @@
 -- What a table, or a record with its ban list, that isn't well formed gets (document 01, number 1: "table or record not well formed"): from every function that
--- judges one, whatever else it is given, 1 and nothing else, and what was given stays as it is. A feeder's state, and a record that is described by itself,
--- have no two names and no masks, and are judged apart.
+-- gives 1 for one, whatever else it is given, 1 and nothing else, and what was given stays as it is. A feeder's state, and a record that is described by
+-- itself, have no two names and no masks, and are judged apart.
 use Prim.Native.Nat.{ℕ}
 use mathlib.Core.Path.{_≡_}
 use mathlib.Core.Bool.{false}
