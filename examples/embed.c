@@ -263,7 +263,8 @@ static bool hands_back_first(void)
 
 static void names_masks_keys(void)
 {
-    printf("names: %d %d\n", relay_same_name(text("#A["), text("#a{")), relay_same_name(text("#~"), text("#^")));
+    printf("names: %d %d %d\n", relay_same_name(text("#A["), text("#a{")), relay_same_name(text("#~"), text("#^")),
+           relay_same_name(text("#@"), text("#`")));
     printf("masks: %d %d\n", relay_match(text("a*b*c"), text("abxbc")).yes, relay_match(text("?"), text("")).yes);
     printf("greater key: ");
     print(relay_greater_key(text("buoy"), text("buoys")));

@@ -59,7 +59,7 @@ extern "C" {
 #endif
 
 /* The version of the whole project, as the file VERSION has it. */
-#define RELAY_VERSION "0.5.0"
+#define RELAY_VERSION "0.6.0"
 
 /* The bytes of stack that are enough for a call. */
 #define RELAY_STACK 131072
@@ -233,7 +233,7 @@ relay_fed relay_feed(relay_feeder state, relay_bytes bytes);
 
 /* ---- names, masks and keys: any bytes ---- */
 
-/* Whether two names are equal, without regard to case; '[', ']' and '\' are the capitals of '{', '}' and '|'. */
+/* Whether two names are equal, without regard to case; '[', ']', '\' and '~' are the capitals of '{', '}', '|' and '^'. */
 bool relay_same_name(relay_bytes a, relay_bytes b);
 
 /*

@@ -75,9 +75,9 @@ An empty line follows each record's.
 
 What is below is made from the text of document 01 ("Reading one line",
 "Names and ids", "SJOIN", "What goes out", "The numbers a caller may get") and
-of document 02, section 2, alone. It shares nothing with the program that it
-judges. A mask is followed through all places of the text at once, so that many
-stars (02, section 3) take no longer than few.
+of document 02, sections 2 and 4, alone. It shares nothing with the program
+that it judges. A mask is followed through all places of the text at once, so
+that many stars (02, section 3) take no longer than few.
 """
 
 import argparse
@@ -310,7 +310,7 @@ CHANNEL = re.compile(rb"#[^ \x07\0\r\n,]{1,49}")
 SERVER_ID = re.compile(rb"[0-9][A-Z0-9]{2}")
 USER_ID = re.compile(rb"[0-9][A-Z0-9]{2}[A-Z][A-Z0-9]{5}")
 FOLD = bytes.maketrans(
-    b"ABCDEFGHIJKLMNOPQRSTUVWXYZ[]\\", b"abcdefghijklmnopqrstuvwxyz{}|"
+    b"ABCDEFGHIJKLMNOPQRSTUVWXYZ[]\\~", b"abcdefghijklmnopqrstuvwxyz{}|^"
 )
 
 

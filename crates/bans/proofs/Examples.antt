@@ -43,18 +43,20 @@ no-masks : all (λ m. not (isMask m)) ([] ∷ replicate (maskLimit + 1) 97 ∷ (
 unfolding all isMask isPlain
 no-masks = refl
 
--- b, A, a, ab, ^, _: the first of A and a is kept, a beginning comes first, and ^ and _ come before the letters
-in-order : unite bySpelling [] ((98 ∷ []) ∷ (65 ∷ []) ∷ (97 ∷ []) ∷ (97 ∷ 98 ∷ []) ∷ (95 ∷ []) ∷ (94 ∷ []) ∷ [])
-    ≡ (94 ∷ []) ∷ (95 ∷ []) ∷ (65 ∷ []) ∷ (97 ∷ 98 ∷ []) ∷ (98 ∷ []) ∷ []
+-- b, A, a, ab, _, ~, ^: of A and a, and of ~ and ^, the first is kept; a beginning comes first; ~ stands where ^ would, before _, and _ before the letters
+in-order : unite bySpelling [] ((98 ∷ []) ∷ (65 ∷ []) ∷ (97 ∷ []) ∷ (97 ∷ 98 ∷ []) ∷ (95 ∷ []) ∷ (126 ∷ []) ∷ (94 ∷ []) ∷ [])
+    ≡ (126 ∷ []) ∷ (95 ∷ []) ∷ (65 ∷ []) ∷ (97 ∷ 98 ∷ []) ∷ (98 ∷ []) ∷ []
 unfolding unite put insert compare fold within
 in-order = refl
 
--- A, b is a list; b, A is none, nor is A, a
-lists : wellFormedList (encodeList ((65 ∷ []) ∷ (98 ∷ []) ∷ [])) ≡ true
+-- A, b is a list, and ~, _, a; b, A is none, nor is A, a, nor _, ~, nor ^, ~
+lists : all (λ l. wellFormedList (encodeList l)) (((65 ∷ []) ∷ (98 ∷ []) ∷ []) ∷ ((126 ∷ []) ∷ (95 ∷ []) ∷ (97 ∷ []) ∷ []) ∷ []) ≡ true
 unfolding wellFormedList encodeList all ascends goodRoom isMask isPlain maskIn part roomOf padded chunks rooms maskCount usedRooms compare fold within
 lists = refl
 
-no-lists : all (λ l. not (wellFormedList (encodeList l))) (((98 ∷ []) ∷ (65 ∷ []) ∷ []) ∷ ((65 ∷ []) ∷ (97 ∷ []) ∷ []) ∷ []) ≡ true
+no-lists : all (λ l. not (wellFormedList (encodeList l)))
+    (((98 ∷ []) ∷ (65 ∷ []) ∷ []) ∷ ((65 ∷ []) ∷ (97 ∷ []) ∷ []) ∷ ((95 ∷ []) ∷ (126 ∷ []) ∷ []) ∷ ((94 ∷ []) ∷ (126 ∷ []) ∷ []) ∷ [])
+    ≡ true
 unfolding wellFormedList encodeList all ascends goodRoom isMask isPlain maskIn part roomOf padded chunks rooms maskCount usedRooms compare fold within
 no-lists = refl
 

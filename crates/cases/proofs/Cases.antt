@@ -1,4 +1,4 @@
--- Every case of document 01 that is marked P holds, as computed from the definitions; with another expected answer none does, so that the claim isn't
+-- Every case marked P holds, as computed from the definitions; with another expected answer none does, so that the claim isn't
 -- hollow. Assumes nothing.
 use mathlib.Core.Path.{_≡_, refl}
 use mathlib.Core.Bool.{true, false, not}
@@ -51,7 +51,7 @@ wrong =
     ∷ reads (49 ∷ 50 ∷ []) (record { prefix = none; command = 49 ∷ 50 ∷ []; params = [] })
     -- names and masks the other way round
     ∷ equals (35 ∷ 65 ∷ 91 ∷ []) (35 ∷ 97 ∷ 123 ∷ []) false
-    ∷ equals (35 ∷ 126 ∷ []) (35 ∷ 94 ∷ []) true
+    ∷ equals (35 ∷ 126 ∷ []) (35 ∷ 94 ∷ []) false
     ∷ matches (star ∷ []) [] false
     ∷ matches (question ∷ []) [] true
     ∷ matches (97 ∷ star ∷ 98 ∷ star ∷ 99 ∷ []) (97 ∷ 98 ∷ 120 ∷ 98 ∷ 99 ∷ []) false

@@ -1,5 +1,5 @@
--- Document 01's cases marked P ('From the water') in a single table, and what it is for a case to hold: that the definitions in the contracts of
--- `message::read`, `prefix`, `command`, `param`, `names::equal`, `glob::matches` and `merging::merge` answer as the paper says.
+-- Document 01's cases marked P ('From the water') in a single table, one of them turned round by document 02, §4, and what it is for a case to hold: that the
+-- definitions in the contracts of `message::read`, `prefix`, `command`, `param`, `names::equal`, `glob::matches` and `merging::merge` answer as the papers say.
 use Prim.Native.Nat.{ℕ}
 use mathlib.Core.Bool.{Bool, true, false, _&&_, Bool·beq}
 use mathlib.Core.List.{List, [], _∷_, _++_}
@@ -23,7 +23,7 @@ use Rattle.bans.specs.Records.{whole}
 use Rattle.merging.specs.declared.Merged.{Merged}
 use Rattle.merging.specs.Merging.{mergeAnswer}
 
--- ---- what the paper says
+-- ---- what the papers say
 pub data Case : Type 0 where
   -- a line's text reads as a message
   reads : List ℕ → Content → Case
@@ -88,8 +88,8 @@ cases =
     ∷ gets (49 ∷ 50 ∷ []) badCommand
     -- `#A[` equals `#a{`
     ∷ equals (35 ∷ 65 ∷ 91 ∷ []) (35 ∷ 97 ∷ 123 ∷ []) true
-    -- `#~` and `#^` differ
-    ∷ equals (35 ∷ 126 ∷ []) (35 ∷ 94 ∷ []) false
+    -- `#~` equals `#^` (document 02, §4; they differed in document 01)
+    ∷ equals (35 ∷ 126 ∷ []) (35 ∷ 94 ∷ []) true
     -- `*` matches the empty text
     ∷ matches (star ∷ []) [] true
     -- `?` doesn't

@@ -12,8 +12,8 @@ use Rattle.glob.specs.Mask.{star, question, matchesByte, firstThen, afte
 use Rattle.glob.specs.Stepping.{look, state, start, back, maskEnded, compared, step, onward, steps, budget}
 use Rattle.glob.proofs.Claim.{steps-right, steps-answer}
 
--- bytes match by their folds: `[*]` matches `{a}`
-folded : matches (91 ∷ star ∷ 93 ∷ []) (123 ∷ 97 ∷ 125 ∷ []) ≡ true
+-- bytes match by their folds: `[*]~` matches `{a}^`
+folded : matches (91 ∷ star ∷ 93 ∷ 126 ∷ []) (123 ∷ 97 ∷ 125 ∷ 94 ∷ []) ≡ true
 unfolding matches afterRun firstThen matchesByte fold within
 folded = refl
 

@@ -8,11 +8,17 @@ use Rattle.octets.specs.Bytes.{nul, bell, lf, cr, space, comma, within, isPlain
 use Rattle.laws.specs.Lists.{all}
 use Rattle.names.specs.Fold.{fold}
 use Rattle.names.specs.Names.{hash, nameLimit, isChannel, isServerId, isUserId}
+use Rattle.names.specs.Private.Likeness.{likeness}
 
--- A Z [ ] \ are folded; @ ^ _ are not
-folds : map fold (65 ∷ 90 ∷ 91 ∷ 93 ∷ 92 ∷ 64 ∷ 94 ∷ 95 ∷ []) ≡ 97 ∷ 122 ∷ 123 ∷ 125 ∷ 124 ∷ 64 ∷ 94 ∷ 95 ∷ []
+-- A Z [ ] \ ~ are folded; @ ^ _ } and DEL are not
+folds : map fold (65 ∷ 90 ∷ 91 ∷ 93 ∷ 92 ∷ 126 ∷ 64 ∷ 94 ∷ 95 ∷ 125 ∷ 127 ∷ []) ≡ 97 ∷ 122 ∷ 123 ∷ 125 ∷ 124 ∷ 94 ∷ 64 ∷ 94 ∷ 95 ∷ 125 ∷ 127 ∷ []
 unfolding fold within
 folds = refl
+
+-- ^ and ~ both have the likeness ~, which isn't their fold; @, `, _ and DEL each have their own
+likenesses : map likeness (94 ∷ 126 ∷ 64 ∷ 96 ∷ 95 ∷ 127 ∷ []) ≡ 126 ∷ 126 ∷ 64 ∷ 96 ∷ 95 ∷ 127 ∷ []
+unfolding likeness within
+likenesses = refl
 
 -- the letter a, n times
 letters : ℕ → List ℕ

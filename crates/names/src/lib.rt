@@ -1,4 +1,4 @@
-// Channel names, server ids and user ids (document 01, 'Names and ids'): the fold that makes names equal, a test for each kind, and the order
+// Channel names, server ids and user ids (document 01, 'Names and ids'; document 02, §4): the fold that makes names equal, a test for each kind, and the order
 // of user ids. Any bytes are taken and nothing is refused.
 ghost use mathlib.Core.Path.{_≡_};
 ghost use mathlib.Core.Bool.{cond};
@@ -24,7 +24,7 @@ pub const SERVER_ID: usize = 3;
 // The bytes of a user id.
 pub const USER_ID: usize = 9;
 
-// The byte as names are compared: without case, '[', ']' and '\' being the capitals of '{', '}' and '|'.
+// The byte as names are compared: without case, '[', ']', '\' and '~' being the capitals of '{', '}', '|' and '^'.
 pub fn fold(b: u8) -> u8
     ensures { λ r. ⌜ r ≡ foldOf b ⌝ }
 {
@@ -33,18 +33,20 @@ pub fn fold(b: u8) -> u8
         b'[' => b'{',
         b']' => b'}',
         b'\\' => b'|',
+        b'~' => b'^',
         _ => b,
     }
 }
 
-// What bytes that are alike have in common. Those that change lie side by side, so that it is two comparisons and an addition.
+// What bytes that are alike have in common. Those that change lie side by side, so that it is two comparisons and an addition. Of '^'
+// and '~' it is '~', and so not the fold.
 fn likeness(b: u8) -> u8
     ensures { λ r. ⌜ r ≡ likenessOf b ⌝ }
 {
     if b < b'A' {
         return b;
     }
-    if b']' < b {
+    if b'^' < b {
         return b;
     }
     b + 32

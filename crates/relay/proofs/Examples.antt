@@ -111,11 +111,11 @@ later : List ℕ
 later = telling (98 ∷ 109 ∷ 97 ∷ 115 ∷ 107 ∷ []) 49
 
 -- ---- what they come to
-stored-well : wellFormed (encode stored) ≡ true
+pub stored-well : wellFormed (encode stored) ≡ true
 unfolding stored 2cd withMode encode decode padded wellFormed inRoom clear channelTests goodTime goodSettings goodKey goodLimit goodMembers goodMember isChannel isNameByte isPlain isKey isKeyByte startsWith within hasBit isUserId isServerId isDigit isIdByte ascends all
 stored-well = refl
 
-water-good : goodTable water ≡ true
+pub water-good : goodTable water ≡ true
 unfolding water race
 water-good = alone-good (encode stored) stored-well water (slotCount - 1) (omega arith) refl refl
 

@@ -257,6 +257,11 @@ module _ (name : List ℕ) where
   unfolding holds
   holding-name r e = and-right (not (isFree r)) (sameName (decode r .name) name) e
 
+  -- so it holds every name that equals it
+  pub holding-equal : (other : List ℕ) (r : Record) → sameName name other ≡ true → holds name r ≡ true → holds other r ≡ true
+  unfolding holds
+  holding-equal other r q e = rw (holding-used r e) (name-trans (decode r .name) name other (holding-name r e) q)
+
   holding-alike : (r s : Record) → holds name r ≡ true → holds name s ≡ true → alike r s ≡ true
   unfolding alike holds
   holding-alike r s e f =

@@ -119,15 +119,16 @@ mod tests {
     #[test]
     fn folded_byte_order() {
         let ordered =
-            masks(&[b"!", b"*", b"A", b"a*", b"B", b"^", b"z", b"[", b"{a", b"~", b"\x80"]);
+            masks(&[b"!", b"*", b"A", b"a*", b"B", b"^", b"z", b"[", b"{a", b"~a", b"\x80"]);
         let mut sorted = ordered.clone();
         sorted.sort_by_key(|mask| folded(mask));
         assert_eq!(
             sorted,
-            masks(&[b"!", b"*", b"^", b"A", b"a*", b"B", b"z", b"[", b"{a", b"~", b"\x80"])
+            masks(&[b"!", b"*", b"^", b"~a", b"A", b"a*", b"B", b"z", b"[", b"{a", b"\x80"])
         );
         assert!(ascend(&sorted) && !ascend(&ordered));
         assert!(!ascend(&masks(&[b"a", b"A"])) && !ascend(&masks(&[b"ab", b"a"])));
+        assert!(!ascend(&masks(&[b"^", b"~"])) && !ascend(&masks(&[b"a", b"~"])));
         assert!(ascend(&masks(&[b"a", b"AB"])) && ascend(&masks(&[b"\x7f", b"\x80"])));
     }
 

@@ -6,13 +6,14 @@ pub const NAME: usize = 50;
 /// A user id is nine bytes, held whole.
 pub type UserId = [u8; 9];
 
-/// 'A' to 'Z' become 'a' to 'z'; '[', ']', '\' become '{', '}', '|'.
+/// 'A' to 'Z' become 'a' to 'z'; '[', ']', '\' become '{', '}', '|', and '~' becomes '^'.
 pub fn fold(byte: u8) -> u8 {
     match byte {
         b'A'..=b'Z' => byte - b'A' + b'a',
         b'[' => b'{',
         b']' => b'}',
         b'\\' => b'|',
+        b'~' => b'^',
         _ => byte,
     }
 }
@@ -58,16 +59,16 @@ mod tests {
     #[test]
     fn names_from_the_water() {
         assert!(equal(b"#A[", b"#a{"));
-        assert!(!equal(b"#~", b"#^"));
+        assert!(equal(b"#~", b"#^"));
     }
 
     #[test]
-    fn fold_is_as_the_paper_lists_it() {
+    fn fold_is_as_the_papers_list_it() {
         let folded: Vec<u8> = (0..=255).filter(|&b| fold(b) != b).collect();
-        assert_eq!(folded, b"ABCDEFGHIJKLMNOPQRSTUVWXYZ[\\]");
+        assert_eq!(folded, b"ABCDEFGHIJKLMNOPQRSTUVWXYZ[\\]~");
         assert_eq!(
             folded.iter().map(|&b| fold(b)).collect::<Vec<u8>>(),
-            b"abcdefghijklmnopqrstuvwxyz{|}"
+            b"abcdefghijklmnopqrstuvwxyz{|}^"
         );
     }
 

@@ -115,7 +115,7 @@ fn lists_that_are_not_well_formed() {
         |room| room[101] = 1,
         |room| room[304] = 1,
         |room| room[LIST - 1] = 1,
-        |room| room[2] = b'~',
+        |room| room[2] = b'}',
         |room| room.copy_within(102..203, 203),
         |room| room[203..209].copy_from_slice(b"\x04SPEC\0"),
     ];

@@ -81,6 +81,7 @@ pub fn respelled(rng: &mut Rng, name: &[u8]) -> Vec<u8> {
         b'{' => b'[',
         b'}' => b']',
         b'|' => b'\\',
+        b'^' => b'~',
         _ => b,
     };
     let small = model::names::fold;
