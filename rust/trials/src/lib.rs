@@ -9,6 +9,7 @@ pub mod inputs;
 pub mod joins;
 pub mod lent;
 pub mod rng;
+pub mod taken;
 pub mod tally;
 
 use rng::Rng;

@@ -2,6 +2,7 @@
 //! model's. The numbers in brackets are those of the decisions on it.
 
 use relay::{Answer, Banned, Merged, Table, WholeRecord, BANS, LIST};
+use trials::taken::take;
 
 /// The links 0, 3 and 5, and the channel #Race of time 1000 with two members.
 fn race() -> Table {
@@ -29,7 +30,7 @@ fn say(table: &mut Table, text: &str) -> Result<String, u8> {
 fn say_bytes(table: &mut Table, text: &[u8]) -> Result<Vec<u8>, u8> {
     let before = *table;
     let mut out = [7; 600];
-    let Answer { number, set, count, len } = table.take(3, &[text, b"\r\n"].concat(), &mut out);
+    let Answer { number, set, count, len } = take(table, 3, &[text, b"\r\n"].concat(), &mut out);
     if number != 0 || len == 0 {
         assert_eq!((set, count, len), (0, 0, 0));
         assert!(*table == before && out == [7; 600], "{}", text.escape_ascii());
@@ -100,7 +101,7 @@ fn numbers_before_the_line() {
     let number = |mut table: Table, link, room: usize, line: &[u8]| {
         let before = table;
         let mut out = vec![7; room];
-        let number = table.take(link, line, &mut out).number;
+        let number = take(&mut table, link, line, &mut out).number;
         assert!(number == 0 || table == before && out == vec![7; room]);
         number
     };

@@ -2,7 +2,8 @@
 //! not the model's. Of the functions that give 1, `relay_describe` judges a record by itself, with one
 //! name and no masks, and `relay_feed` a feeder: the letters are nothing to them.
 
-use relay::{Answer, Banned, Merged, Table, Taken, WholeRecord};
+use relay::{Answer, Banned, Merged, Table, WholeRecord};
+use trials::taken::take;
 
 /// The links 0, 3 and 5.
 fn linked() -> Table {
@@ -73,14 +74,14 @@ fn numbers(table: &Table) -> Vec<u8> {
         "",
     ] {
         for (link, room) in [(3, 512), (3, 600), (3, 511), (4, 512), (32, 0)] {
-            let mut bans = table.bans;
+            let mut after = *table;
             let mut out = vec![7; room];
             let line = format!("{line}\r\n");
-            let Taken { head, number, set, count, len } =
-                relay::process(&table.head, &mut bans, link, line.as_bytes(), &mut out);
+            let Answer { number, set, count, len } =
+                take(&mut after, link, line.as_bytes(), &mut out);
             if number != 0 {
                 assert_eq!((set, count, len), (0, 0, 0));
-                assert!(head == table.head && bans == table.bans && out == vec![7; room], "{line}");
+                assert!(after == *table && out == vec![7; room], "{line}");
             }
             numbers.push(number);
         }

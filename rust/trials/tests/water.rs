@@ -2,6 +2,7 @@
 //! names, run on the core alone: here the expected answers are the paper's and not the model's.
 
 use relay::{Answer, Member, Record, Table};
+use trials::taken::take;
 
 /// The links of the paper's whole case: 0, 3 and 5.
 const LINKS: u32 = 0b10_1001;
@@ -21,7 +22,7 @@ fn say(table: &mut Table, text: &str) -> Result<String, u8> {
     let before = *table;
     let mut out = [7; 600];
     let Answer { number, set, count, len } =
-        table.take(3, format!("{text}\r\n").as_bytes(), &mut out);
+        take(table, 3, format!("{text}\r\n").as_bytes(), &mut out);
     if number != 0 {
         assert_eq!((set, count, len), (0, 0, 0));
         assert!(*table == before && out == [7; 600]);
