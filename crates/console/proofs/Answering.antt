@@ -1,12 +1,11 @@
--- Laws of answers: a text that was put into an empty buffer stands there if it has room, and every answer has. Assumes nothing.
+-- Laws of answers: every one has room in its buffer. Assumes nothing.
 use Prim.Native.Nat.{ℕ, zero, suc, _+_, _-_, _*_, _^_, _≤_, _<_}
 use mathlib.Core.Path.{_≡_, refl, sym, ap, _∙_}
 use mathlib.Core.Bool.{Bool, true, false, cond}
 use mathlib.Core.List.{List, [], _∷_, _++_, map}
 use native.Mathlib.Numerals.{add-one}
 use native.Mathlib.Omega.{arith}
-use lib.ListN.{length, take, drop, getD, length-append, length-drop, length-take, drop-of-length-le}
-use lib.Seq.{take-append-seam}
+use lib.ListN.{length, take, length-append, length-take}
 use borrow.Author.Tests.{ne-eqb, eqb-false, ltb-true}
 use Rattle.refusal.specs.Rules.{emitted}
 use Rattle.refusal.proofs.Rules.{emitted-all}
@@ -14,11 +13,11 @@ use Rattle.octets.specs.Bytes.{lf, space, comma}
 use Rattle.laws.specs.Bits.{hasBit}
 use Rattle.laws.specs.Lists.{isNil, prefixed, separated}
 use Rattle.octets.specs.Decimals.{digitsOf}
-use Rattle.octets.specs.Room.{part, putAt, endOf, front}
-use Rattle.octets.specs.Private.Additions.{Adds}
+use Rattle.octets.specs.Room.{part, front}
+use Rattle.octets.specs.Private.Additions.{AtFront}
 use Rattle.octets.proofs.Digits.{digits-ten, digits-within}
-use Rattle.laws.proofs.Lists.{nil-length, drop-step}
-use Rattle.octets.proofs.Room.{part-front, end-fits, put-behind, holds-nothing}
+use Rattle.laws.proofs.Lists.{nil-length}
+use Rattle.octets.proofs.Room.{part-front, at-front}
 use Rattle.links.specs.Links.{linkCount, isLink, linksFrom, linksIn}
 use Rattle.message.specs.Grammar.{lineLimit}
 use Rattle.journal.specs.declared.Logged.{Logged}
@@ -28,19 +27,7 @@ use Rattle.wording.specs.declared.Text.{Text}
 use Rattle.wording.specs.Wording.{wordsOf, textLimit, textOf}
 use Rattle.wording.proofs.Fitting.{words-few, words-back}
 use Rattle.console.specs.Answers.{spaced, numberedText, noLink, linksText, relayedText}
-use Rattle.console.specs.Buffers.{answerRoom, recordRoom, AtFront}
-
--- ---- what stands at the front
--- what was added to an empty buffer stands at its front, if there is room for it
-pub added-at-front : (empty out : List ℕ) (n : ℕ) (w : List ℕ) → Adds empty 0 out n w → length w ≤ length empty → AtFront out n w
-added-at-front empty out n w adds fits =
-    let held = adds .adds [] (holds-nothing empty) in
-    let counts : n ≡ length w = omega (arith, held .counts, adds .keeps) in
-    record { counts = counts; begins = held .begins (omega (arith, adds .keeps)) }
-
--- what was put at the front stands there
-pub at-front : (out next : List ℕ) (n : ℕ) (w : List ℕ) → n ≡ length w → next ≡ front w out → AtFront next n w
-at-front out next n w e f = record { counts = e; begins = rw (e, f) (take-append-seam w (drop (length w) out)) }
+use Rattle.console.specs.Buffers.{answerRoom, recordRoom}
 
 -- the front of some room is no longer than the room
 pub front-few : {m : ℕ} (s p : List ℕ) (n : ℕ) → p ≡ part s 0 n → length s ≤ m → length p ≤ m
@@ -107,17 +94,6 @@ pub prefixed-links-past : (set k : ℕ) → linkCount ≤ k → prefixedLinks se
 unfolding linksFrom prefixed
 prefixed-links-past set k h = let n : linkCount - k ≡ 0 = omega arith in rw n
 
--- ---- texts, one by one
--- the one at a place comes first of those from there on, a mark before each
-pub prefixed-step : (mark : ℕ) (l : List (List ℕ)) (i : ℕ) → i < length l → prefixed mark (drop i l) ≡ (mark ∷ getD l i []) ++ prefixed mark (drop (i + 1) l)
-unfolding prefixed
-prefixed-step mark l i h = rw (drop-step l i [] h)
-
--- past the last there is none
-pub prefixed-past : (mark : ℕ) (l : List (List ℕ)) (i : ℕ) → length l ≤ i → prefixed mark (drop i l) ≡ []
-unfolding prefixed
-prefixed-past mark l i h = rw (drop-of-length-le l {i = i} h)
-
 -- ---- the links of a set
 pub set-none : (set : ℕ) → length (linksIn set) ≡ 0 → comma ∷ linksText set ≡ comma ∷ noLink
 unfolding linksText
@@ -158,16 +134,6 @@ set-few set = go (isNil (linksIn set)) refl
 pub relayed-few : (set : ℕ) (line : List ℕ) → length line ≤ lineLimit → length (comma ∷ relayedText set line) ≤ answerRoom
 unfolding relayedText
 relayed-few set line h = omega (arith, set-few set, length-append (linksText set ++ (space ∷ [])) line, length-append (linksText set) (space ∷ []))
-
--- ---- a channel's line
--- a text and LF behind it
-pub line-at-front : (out first next : List ℕ) (n r : ℕ) (w : List ℕ) → length w < length out → n ≡ length w → first ≡ front w out → r ≡ endOf first n (lf ∷ []) → next ≡ putAt first n (lf ∷ [])
-    → AtFront next r (w ++ (lf ∷ []))
-line-at-front out first next n r w room e f g h =
-    let long : length first ≡ length out = omega (arith, ap (λ (l : List ℕ). length l) f, length-append w (drop (length w) out), length-drop (length w) out) in
-    at-front out next r (w ++ (lf ∷ []))
-    (g ∙ end-fits first n (lf ∷ []) (omega (arith, long)) ∙ omega (arith, length-append w (lf ∷ [])))
-    (h ∙ rw (f, e) (put-behind out w (lf ∷ []) (omega arith)))
 
 -- ---- the record of an accepted line
 module _ (link : ℕ) (line log : List ℕ) (known : isLink link ≡ true) (small : length line ≤ lineLimit) (room : length log ≡ recordRoom) where

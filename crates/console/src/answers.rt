@@ -8,24 +8,28 @@ ghost use Rattle.octets.specs.Bytes.{comma};
 ghost use Rattle.laws.specs.Bits.{hasBit};
 ghost use Rattle.laws.specs.Lists.{prefixed};
 ghost use Rattle.octets.specs.Decimals.{digitsOf};
-ghost use Rattle.octets.specs.Private.Additions.{Adds};
+ghost use Rattle.octets.specs.Private.Additions.{Adds, AtFront};
 ghost use Rattle.links.specs.Links.{linksIn};
 ghost use Rattle.message.specs.Grammar.{lineLimit};
 ghost use Rattle.wording.specs.Wording.{wordsOf};
 ghost use Rattle.console.specs.Answers.{spaced, numberedText, linksText, relayedText};
-ghost use Rattle.console.specs.Buffers.{answerRoom, AtFront};
+ghost use Rattle.console.specs.Buffers.{answerRoom};
+use bans::BanList;
 use libc::STDOUT_FILENO;
 use links::Links;
 use links::count;
 use links::has_link;
+use listing::LISTING_LIMIT;
+use listing::write_listing;
 use octets::decimals::put_decimal;
 use octets::part;
 use octets::put;
 use refusal::ACCEPTED;
 use table::Banned;
+use table::Head;
 use wording::words;
 
-// Room for any answer, and for any channel of the table.
+// Room for any answer but the table.
 pub(crate) const ROOM: usize = 1024;
 
 pub(crate) fn print(s: &[u8]) -> bool {
@@ -55,7 +59,7 @@ fn put_numbered(mark: u8, number: u8, worded: bool, out: &mut [u8]) -> usize
 {
     let opening = [mark, b' '];
     let opened = put(out, 0, &opening);
-    let numbered = put_decimal(out, opened, number as u32);
+    let numbered = put_decimal(out, opened, number as u64);
     let told = put_words(out, numbered, number, worded);
     put(out, told, b"\n")
 }
@@ -87,6 +91,16 @@ pub(crate) fn say_banned(answer: Banned, worded: bool) -> bool {
     print(b"no\n")
 }
 
+// The answer to '?': the table as text, and a line that says that there is no more.
+pub(crate) fn say_channels(t: Head, bans: &[u8; BanList::BANS]) -> bool {
+    let mut text = [0u8; LISTING_LIMIT];
+    let listed = write_listing(t, bans, &mut text);
+    if !print(part(&text, 0, listed.len)) {
+        return false;
+    }
+    print(b".\n")
+}
+
 // The answer to `help`.
 pub(crate) fn say_help() -> bool {
     print(
@@ -107,7 +121,7 @@ fn put_link(out: &mut [u8], at: usize, set: u32, link: u32) -> usize
         return at;
     }
     let next = put(out, at, b",");
-    put_decimal(out, next, link)
+    put_decimal(out, next, link as u64)
 }
 
 // Adds a comma and the link for each link in the set, ascending.

@@ -6,10 +6,10 @@
 mod answers;
 mod daylog;
 mod lines;
-mod listing;
 mod requests;
 
 use answers::say_banned;
+use answers::say_channels;
 use answers::say_done;
 use answers::say_help;
 use answers::say_input;
@@ -25,7 +25,6 @@ use lines::Pending;
 use lines::ends_in_lf;
 use lines::extended;
 use lines::line_end;
-use listing::say_channels;
 use message::LINE_LIMIT;
 use octets::part;
 use refusal::ACCEPTED;

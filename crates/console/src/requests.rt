@@ -2,12 +2,13 @@
 ghost use mathlib.Core.Path.{_≡_};
 ghost use mathlib.Core.Bool.{cond};
 ghost use lib.ListN.{length};
+ghost use Rattle.octets.specs.Private.Additions.{AtFront};
 ghost use Rattle.laws.specs.Lists.{isNil};
 ghost use Rattle.console.specs.declared.requests.Request.the-variants.{Register, Unregister, Channels, Unknown};
 ghost use Rattle.console.specs.Requests.{ended as endedOf, linkIn, numbered, takingIn, questionIn, wordedIn, requestIn, lineFrom, nameIn, textIn};
 ghost use Rattle.console.specs.Typing.{typed, typedIn};
 ghost use Rattle.console.specs.Lines.{heldIn};
-ghost use Rattle.console.specs.Buffers.{typedRoom, AtFront};
+ghost use Rattle.console.specs.Buffers.{typedRoom};
 use crate::lines::Pending;
 use crate::lines::ends_in_lf;
 use message::next_word;

@@ -1,7 +1,7 @@
 -- Laws of sets of links: which links are in a set after one is registered or dropped, that doing so twice changes nothing more, and which links the
 -- relay set has. Assumes nothing.
 use mathlib.Core.Path.{_≡_, refl, sym, ap, _∙_}
-use mathlib.Core.Bool.{Bool, true, false, not, cond, _&&_, _||_, and-true, and-false, and-assoc, or-false}
+use mathlib.Core.Bool.{Bool, true, false, not, cond, _&&_, _||_, and-true, and-false, and-assoc, and-self, or-false}
 use Prim.Native.Nat.{ℕ, zero, suc, _-_, _^_, _≤_, _<_}
 use native.Mathlib.Omega.{arith}
 use lib.Bits.{bitOr}
@@ -12,7 +12,7 @@ use Rattle.laws.specs.Bits.{hasBit}
 use Rattle.laws.proofs.Joins.{joining-bits}
 use Rattle.laws.proofs.Bitwise.{bit-small, bit-past, bit-union, bit-power, bit-off, same-bits}
 use Rattle.links.specs.declared.Links.{Links}
-use Rattle.links.specs.Links.{linkCount, isLink, hasLink, links, withLink, setBelow, lessLink, withoutLink, relaySet}
+use Rattle.links.specs.Links.{linkCount, isLink, hasLink, links, withLink, setBelow, allLinks, lessLink, withoutLink, relaySet}
 
 -- ---- one registered
 module _ (l : Links) (link : ℕ) where
@@ -45,6 +45,11 @@ has-below test (suc n) k = bit-union (setBelow n test) (cond (test n) (2 ^ n) 0)
     go true e u f = let h = eqb-true k n e in rw (e, le-ltb k n (omega arith), lt-ltb k (suc n) (omega arith), h) (and-true (test n))
     go false e true f = rw (e, f, lt-ltb k (suc n) (omega (arith, ltb-true k n f)), and-false, or-false)
     go false e false f = rw (e, f, le-ltb k (suc n) (omega (arith, eqb-false k n e, ltb-false k n f)), and-false)
+
+-- every link is in the set of them all, and no other number
+pub has-all : (k : ℕ) → hasLink (allLinks .set) k ≡ isLink k
+unfolding allLinks
+has-all k = rw (has-below (λ i. true) linkCount k, and-true (isLink k)) (and-self (isLink k))
 
 -- a set of 32 bits has no bit past the last link
 pub linked : (set link : ℕ) → set < 2 ^ linkCount → hasLink set link ≡ hasBit set link

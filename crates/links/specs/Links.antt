@@ -1,6 +1,6 @@
 -- Sets of links as 32 bits: link i is bit i.
 use Prim.Native.Nat.{ℕ, zero, suc, _^_}
-use mathlib.Core.Bool.{Bool, not, cond, _&&_}
+use mathlib.Core.Bool.{Bool, true, not, cond, _&&_}
 use mathlib.Core.List.{List, [], _∷_}
 use lib.Bits.{bitOr}
 use lib.Dec.{eqb, ltb}
@@ -37,6 +37,10 @@ setBelow (suc n) test = bitOr (setBelow n test) (cond (test n) (2 ^ n) 0)
 -- the set of the links that pass a test
 abbrev pub setWhere : (ℕ → Bool) → ℕ
 setWhere test = setBelow linkCount test
+
+-- every link registered
+unfoldable pub allLinks : Links
+allLinks = links (setWhere (λ k. true))
 
 -- a set less one link: the links that are in it and aren't that one
 unfoldable pub lessLink : ℕ → ℕ → ℕ

@@ -3,7 +3,7 @@
 ghost use mathlib.Core.Path.{_≡_};
 ghost use lib.ListN.{length};
 ghost use Rattle.laws.specs.Bits.{hasBit};
-ghost use Rattle.links.specs.Links.{linkCount, noLinks, withLink, withoutLink, lessLink, relaySet, linksIn};
+ghost use Rattle.links.specs.Links.{linkCount, noLinks, allLinks, withLink, withoutLink, lessLink, relaySet, linksIn};
 
 // The registered links.
 #[repr(C)]
@@ -21,6 +21,13 @@ impl Links {
         ensures { λ r. do ⌜ (← ⟦Links::COUNT⟧ .entry) ≡ linkCount ⌝ }
     {
         Links { set: 0 }
+    }
+
+    // Every link is registered.
+    pub fn all() -> Links
+        ensures { λ r. ⌜ r ≡ allLinks ⌝ }
+    {
+        Links { set: u32::MAX }
     }
 }
 

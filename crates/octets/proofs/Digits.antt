@@ -159,6 +159,10 @@ digits-within = by-digits (λ (n : ℕ) (s : List ℕ). (k : ℕ) → n < 10 ^ s
 pub digits-ten : (n : ℕ) → n < 2 ^ 32 → length (digitsOf n) ≤ 10
 digits-ten n h = digits-within n 9 (omega arith)
 
+-- and one of 64 bits twenty
+pub digits-twenty : (n : ℕ) → n < 2 ^ 64 → length (digitsOf n) ≤ 20
+digits-twenty n h = digits-within n 19 (omega arith)
+
 -- ---- numbers up to a limit
 pub value-in : (limit : ℕ) (s : List ℕ) → valueOf s ≤ limit → valueUpTo limit s ≡ Value (valueOf s)
 unfolding valueUpTo

@@ -19,12 +19,12 @@ unsigned : compare (128 ∷ []) (127 ∷ []) ≡ More
 unfolding compare
 unsigned = refl
 
--- '0' and '4294967295', the most that 32 bits hold
+-- '0' and '18446744073709551615', the most that 64 bits hold
 zero-written : digitsOf 0 ≡ 48 ∷ []
 unfolding digitsOf digitsUpTo
 zero-written = refl
 
-most-written : digitsOf 4294967295 ≡ 52 ∷ 50 ∷ 57 ∷ 52 ∷ 57 ∷ 54 ∷ 55 ∷ 50 ∷ 57 ∷ 53 ∷ []
+most-written : digitsOf 18446744073709551615 ≡ 49 ∷ 56 ∷ 52 ∷ 52 ∷ 54 ∷ 55 ∷ 52 ∷ 52 ∷ 48 ∷ 55 ∷ 51 ∷ 55 ∷ 48 ∷ 57 ∷ 53 ∷ 53 ∷ 49 ∷ 54 ∷ 49 ∷ 53 ∷ []
 unfolding digitsOf digitsUpTo
 most-written = refl
 

@@ -10,7 +10,7 @@ use lib.Seq.{take-append-seam, take-add, drop-append-add, drop-drop, drop-at, ta
 use borrow.Author.Tests.{le-leb, leb-true, leb-false, lt-leb}
 use Rattle.laws.specs.Lists.{padded}
 use Rattle.octets.specs.Room.{part, fits, putAt, endOf, front}
-use Rattle.octets.specs.Private.Additions.{Holds, Adds}
+use Rattle.octets.specs.Private.Additions.{Holds, Adds, AtFront}
 use Rattle.laws.proofs.Lists.{front-part, padded-take}
 
 -- ---- a part at either end
@@ -169,6 +169,24 @@ adds-then line next last at r s p q f g = record {
   keeps = g .keeps ∙ f .keeps;
   adds = λ w h. rw (append-assoc w p q) at (g .adds (w ++ p) (f .adds w h));
 }
+
+-- ---- what was added to empty room stands at its front, where there is room for it
+module _ (empty line : List ℕ) (r : ℕ) (w : List ℕ) (adds : Adds empty 0 line r w) (room : length w ≤ length empty) where
+  held : Holds line r w
+  held = adds .adds [] (holds-nothing empty)
+
+  pub added-end : r ≡ length w
+  added-end = omega (arith, held .counts, adds .keeps)
+
+  pub added-front : take r line ≡ w
+  added-front = held .begins (omega (arith, added-end, adds .keeps))
+
+  pub added-at-front : AtFront line r w
+  added-at-front = record { counts = added-end; begins = added-front }
+
+-- what was put at the front stands there
+pub at-front : (out next : List ℕ) (n : ℕ) (w : List ℕ) → n ≡ length w → next ≡ front w out → AtFront next n w
+at-front out next n w e f = record { counts = e; begins = rw (e, f) (take-append-seam w (drop (length w) out)) }
 
 -- ---- a loop that puts part after part
 -- What was added, with what is still to be put, comes to the goal.

@@ -11,8 +11,8 @@ use crate::Decimal;
 use crate::all_in;
 use crate::put;
 
-// The most digits of a 32-bit number.
-const MOST_DIGITS: usize = 10;
+// The most digits of a 64-bit number.
+const MOST_DIGITS: usize = 20;
 
 // Whether the first of several bytes is the digit 0.
 fn leads_with_zero(s: &[u8]) -> bool
@@ -61,7 +61,7 @@ pub fn decimal(s: &[u8], limit: u32) -> Decimal
 }
 
 // The digit of a number below ten.
-fn digit(n: u32) -> u8
+fn digit(n: u64) -> u8
     requires { ⌜ n < 10 ⌝ }
     ensures { λ r. ⌜ r ≡ digitOf n ⌝ }
 {
@@ -69,7 +69,7 @@ fn digit(n: u32) -> u8
 }
 
 // Puts the digits of n at the place `at` and answers where they end, as `put` does.
-pub fn put_decimal(out: &mut [u8], at: usize, n: u32) -> usize
+pub fn put_decimal(out: &mut [u8], at: usize, n: u64) -> usize
     ensures place { λ r. ⌜ r ≡ endOf (now (out .entry)) at (digitsOf n) ⌝ }
     ensures bytes { λ _. ⌜ now (out .exit) ≡ putAt (now (out .entry)) at (digitsOf n) ⌝ }
 {

@@ -1,23 +1,23 @@
 -- The answer to a line, by the rule that refuses it, or by the change that it is judged to be where none does. Assumes nothing.
 use Prim.Native.Nat.{ℕ, _≤_}
 use mathlib.Core.Path.{_≡_, ap, _∙_}
-use mathlib.Core.Bool.{true, _&&_}
+use mathlib.Core.Bool.{true, not, _&&_}
 use mathlib.Core.List.{List, []}
 use native.Mathlib.Omega.{arith}
 use lib.ListN.{length}
-use borrow.Author.Tests.{ne-eqb, not-false, ltb-false}
+use borrow.Author.Tests.{ne-eqb, le-ltb, not-false, ltb-false}
 use Rattle.refusal.specs.Numbers.{accepted}
 use Rattle.refusal.specs.Rules.{firstOf}
-use Rattle.refusal.proofs.Rules.{first-none, emitted-none, emitted-all}
+use Rattle.refusal.proofs.Rules.{skip, first-none, emitted-none, emitted-all}
 use Rattle.laws.specs.Bits.{hasBit}
 use Rattle.laws.proofs.Bools.{and-left}
-use Rattle.links.specs.Links.{isLink, linksIn}
+use Rattle.links.specs.Links.{isLink, hasLink, linksIn}
 use Rattle.message.specs.Grammar.{lineLimit}
 use Rattle.message.specs.Reading.{messageOf}
 use Rattle.message.proofs.Readings.{read-small}
 use Rattle.table.specs.declared.Head.{Head}
 use Rattle.table.specs.Network.{Table, Network, headOf, networkOf}
-use Rattle.table.specs.Table.{goodTable}
+use Rattle.table.specs.Table.{goodNetwork, goodTable}
 use Rattle.relay.specs.declared.Change.{Change}
 use Rattle.relay.specs.declared.Taken.{Taken}
 use Rattle.relay.specs.Arrival.{Arrival, said}
@@ -57,6 +57,12 @@ module _ (t : Table) (a : Arrival) (n : ℕ) where
     -- an accepted line came from one of the links, and is no longer than a line can be
     pub accepted-line : (isLink (a .link) ≡ true) × (length (a .line) ≤ lineLimit)
     accepted-line = (and-left (isLink (a .link)) (hasBit (t .links .set) (a .link)) (tests .2), read-small (a .line) (rules-none (networkOf t) a (tests .3) .0))
+
+    -- any table that holds the same network and has the line's link accepts it too, with room for the longest line
+    pub accepted-alike : (u : Table) (m : ℕ) → networkOf u ≡ networkOf t → hasLink (u .links .set) (a .link) ≡ true → lineLimit ≤ m → firstOf (processRules u a m) ≡ accepted
+    unfolding processRules
+    accepted-alike u m e on room =
+        skip _ _ (ap not (ap goodNetwork e ∙ tests .0)) ∙ skip _ _ (le-ltb m lineLimit room) ∙ skip _ _ (ap not on) ∙ ap (λ (x : Network). firstOf (takenRules x a)) e ∙ tests .3
 
     -- the answer is that the line is taken
     pub answer-accepted : processAnswer t a n ≡ taken t a

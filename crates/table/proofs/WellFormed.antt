@@ -103,15 +103,24 @@ module _ (bans : List ℕ) where
       and-intro _ _ (rw e at (h 0 (omega arith))) (at-lists rs (suc k) d (λ j i. let f : k + suc j ≡ suc k + j = omega arith in rw f at (h (suc j) (omega arith))))
 
   -- ---- from slot k on
+  -- the slot with its list, and those behind it
+  pub wholes-step : (slots : List Record) (k : ℕ) (d : Record) → k < length slots
+      → wholesFrom k (drop k slots) bans ≡ whole (getD slots k d) (record { room = listAt bans k }) ∷ wholesFrom (k + 1) (drop (k + 1) slots) bans
+  unfolding wholesFrom
+  wholes-step slots k d h = let e : suc k ≡ k + 1 = omega arith in rw (drop-step slots k d h, e)
+
+  -- past the last one there is none
+  pub wholes-past : (slots : List Record) (k : ℕ) → length slots ≤ k → wholesFrom k (drop k slots) bans ≡ []
+  unfolding wholesFrom
+  wholes-past slots k h = rw (drop-of-length-le slots h)
+
   abbrev pub allFrom : ℕ → List Record → Bool
   allFrom k slots = all goodWhole (wholesFrom k (drop k slots) bans)
 
   module _ (slots : List Record) (k : ℕ) (d : Record) (h : k < length slots) where
     here-then : allFrom k slots ≡ (goodRecord (getD slots k d) && goodList (not (isFree (getD slots k d))) (listAt bans k)) && allFrom (k + 1) slots
-    unfolding wholesFrom all
-    here-then =
-        let e : suc k ≡ k + 1 = omega arith in
-        rw (drop-step slots k d h, whole-good (getD slots k d) (record { room = listAt bans k }), e)
+    unfolding all
+    here-then = rw (wholes-step slots k d h, whole-good (getD slots k d) (record { room = listAt bans k }))
 
     -- a record that isn't good decides
     pub record-stops : goodRecord (getD slots k d) ≡ false → allFrom k slots ≡ false
@@ -127,8 +136,8 @@ module _ (bans : List ℕ) where
 
   -- past the last one all are good
   pub slots-past : (slots : List Record) (k : ℕ) → length slots ≤ k → allFrom k slots ≡ true
-  unfolding wholesFrom all
-  slots-past slots k h = rw (drop-of-length-le slots h)
+  unfolding all
+  slots-past slots k h = rw (wholes-past slots k h)
 
 -- ---- a well-formed network
 module _ (n : Network) where

@@ -13,8 +13,8 @@ use Rattle.laws.specs.Lists.{prefixed, separated}
 use Rattle.laws.proofs.Texts.{separated-end}
 use Rattle.octets.specs.Decimals.{digitsOf}
 use Rattle.octets.specs.Room.{part}
-use Rattle.octets.specs.Private.Additions.{Holds, Adds}
-use Rattle.octets.proofs.Room.{holds-nothing}
+use Rattle.octets.specs.Private.Additions.{Adds}
+use Rattle.octets.proofs.Room.{added-end, added-front}
 use Rattle.octets.proofs.Digits.{digits-ten, digits-within}
 use Rattle.ascending.proofs.Weights.{weight}
 use Rattle.names.specs.Names.{nameLimit, userIdLength}
@@ -126,18 +126,15 @@ module _ (out : List ℕ) (c : Channel) where
 
 -- ---- the scratch, which a SPACE opens
 module _ (empty text : List ℕ) (end : ℕ) (w : List ℕ) (adds : Adds empty 0 text end (space ∷ w)) (room : length w < length empty) where
-  held : Holds text end (space ∷ w)
-  held = adds .adds [] (holds-nothing empty)
-
   -- The text in the scratch ends one byte behind its length.
   pub opened-end : end ≡ suc (length w)
-  opened-end = omega (arith, held .counts, adds .keeps)
+  opened-end = added-end empty text end (space ∷ w) adds (omega arith)
 
   -- What stands in the scratch behind the SPACE is the text.
   pub opened-part : part text 1 end ≡ w
   unfolding part
   opened-part =
-      let begins : take end text ≡ space ∷ w = held .begins (omega (arith, opened-end, adds .keeps)) in
+      let begins : take end text ≡ space ∷ w = added-front empty text end (space ∷ w) adds (omega arith) in
       let e : text ≡ (space ∷ w) ++ drop end text = sym (take-append-drop end text) ∙ ap (λ (l : List ℕ). l ++ drop end text) begins in
       let n : end - 1 ≡ length w = omega (arith, opened-end) in
       ap (λ (l : List ℕ). take (end - 1) (drop 1 l)) e ∙ rw n (take-append-seam w (drop end text))

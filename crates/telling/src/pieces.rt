@@ -59,7 +59,7 @@ fn put_number(line: &mut [u8], at: usize, n: u32) -> usize
     ensures { λ k. ⌜ Adds (now (line .entry)) at (now (line .exit)) k (space ∷ digitsOf n) ⌝ }
 {
     let after = put(line, at, b" ");
-    put_decimal(line, after, n)
+    put_decimal(line, after, n as u64)
 }
 
 // Adds a SPACE, '+' and the letters of the modes, in the order of their places.

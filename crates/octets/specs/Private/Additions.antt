@@ -13,3 +13,8 @@ pub record Holds (line : List ℕ) (at : ℕ) (w : List ℕ) : Type 0 where
 pub record Adds (line : List ℕ) (at : ℕ) (next : List ℕ) (r : ℕ) (p : List ℕ) : Type 0 where
   pub keeps : length next ≡ length line
   pub adds : (w : List ℕ) → Holds line at w → Holds next r (w ++ p)
+
+-- The line begins with w, and n is where w ends.
+pub record AtFront (line : List ℕ) (n : ℕ) (w : List ℕ) : Type 0 where
+  pub counts : n ≡ length w
+  pub begins : take n line ≡ w

@@ -3,9 +3,9 @@ use mathlib.Core.List.{[], _∷_}
 use native.Mathlib.Omega.{arith}
 use borrow.Author.Needs.{needs}
 use Rattle.octets.specs.Bytes.{space}
-use Rattle.octets.proofs.Room.{added, adds-then}
+use Rattle.octets.proofs.Room.{added-at-front, added, adds-then}
 use Rattle.console.specs.Answers.{relayedText}
-use Rattle.console.proofs.Answering.{added-at-front, relayed-few}
+use Rattle.console.proofs.Answering.{relayed-few}
 use Rattle.console.proofs.answers.put_relayed.Statement.{statement}
 use Rattle.console.proofs.answers.put_relayed.Tie as tie
 

@@ -5,9 +5,8 @@ use native.Mathlib.Omega.{arith}
 use lib.ListN.{length}
 use borrow.Author.Tests.{not-true, not-false}
 use Rattle.octets.specs.Bytes.{cr, lf}
-use Rattle.octets.proofs.Room.{added, adds-then}
+use Rattle.octets.proofs.Room.{added-at-front, added, adds-then}
 use Rattle.console.specs.Lines.{inputLimit}
-use Rattle.console.proofs.Answering.{added-at-front}
 use Rattle.console.proofs.Typing.{typed-open, typed-ends, open-few, typed-few}
 use borrow.Author.Needs.{needs}
 use Rattle.console.proofs.requests.put_typed.Statement.{statement}

@@ -1,5 +1,5 @@
 -- `put_decimal` meets its contract. The invariant: the digits of what is left, and behind them those gathered, are the digits of n. As n has no more
--- than ten digits, there is a place for each. Assumes nothing.
+-- than twenty digits, there is a place for each. Assumes nothing.
 use mathlib.Core.Path.{_≡_, refl, sym, ap, _∙_}
 use mathlib.Core.List.{List, _∷_, _++_, append-nil}
 use Prim.Native.Nat.{ℕ, _+_, _-_, _/_, _%_, _^_, _≤_, _<_}
@@ -10,12 +10,12 @@ use borrow.Author.Needs.{needs}
 use Rattle.octets.specs.Room.{putAt, endOf}
 use Rattle.octets.specs.Decimals.{digit, digitsOf}
 use Rattle.laws.proofs.Lists.{drop-step}
-use Rattle.octets.proofs.Digits.{digits-one, digits-more, digits-some, digits-ten}
+use Rattle.octets.proofs.Digits.{digits-one, digits-more, digits-some, digits-twenty}
 use Rattle.octets.proofs.decimals.put_decimal.Statement.{statement}
 use Rattle.octets.proofs.decimals.put_decimal.Tie as tie
 
 -- ---- digits gathered from the end, up to the place of the next one
-module _ (digits : List ℕ) (first : ℕ) (h : first < 10) (ten : length digits ≡ 10) where
+module _ (digits : List ℕ) (first : ℕ) (h : first < 20) (twenty : length digits ≡ 20) where
   gather : (d : ℕ) → drop first (set digits first d) ≡ d ∷ drop (first + 1) digits
   gather d =
       drop-step (set digits first d) first 0 (omega (arith, length-set digits first d))
@@ -25,17 +25,17 @@ module _ (digits : List ℕ) (first : ℕ) (h : first < 10) (ten : length digits
     gather-more : 10 ≤ left → digitsOf (left / 10) ++ drop first (set digits first (digit (left % 10))) ≡ digitsOf left ++ drop (first + 1) digits
     gather-more k = rw (gather (digit (left % 10)), digits-more left k) (sym (append-snoc (digitsOf (left / 10)) (digit (left % 10)) (drop (first + 1) digits)))
 
-    gather-last : left < 10 → take (10 - first) (drop first (set digits first (digit left))) ≡ digitsOf left ++ drop (first + 1) digits
+    gather-last : left < 10 → take (20 - first) (drop first (set digits first (digit left))) ≡ digitsOf left ++ drop (first + 1) digits
     gather-last k =
         let l = set digits first (digit left) in
-        take-all (10 - first) (drop first l) (omega (arith, length-drop first l, length-set digits first (digit left))) ∙ rw (digits-one left k) (gather (digit left))
+        take-all (20 - first) (drop first l) (omega (arith, length-drop first l, length-set digits first (digit left))) ∙ rw (digits-one left k) (gather (digit left))
 
     -- where ten or more is left, the digit is not the first of all
-    gather-room : (n : ℕ) → n < 2 ^ 32 → digitsOf left ++ drop (first + 1) digits ≡ digitsOf n → 10 ≤ left → 1 ≤ first
+    gather-room : (n : ℕ) → n < 2 ^ 64 → digitsOf left ++ drop (first + 1) digits ≡ digitsOf n → 10 ≤ left → 1 ≤ first
     gather-room n u e k =
         omega (
           arith,
-          digits-ten n u,
+          digits-twenty n u,
           simp length-append at (ap (λ (l : List ℕ). length l) e),
           simp length-append at (ap (λ (l : List ℕ). length l) (digits-more left k)),
           digits-some (left / 10),
@@ -43,7 +43,7 @@ module _ (digits : List ℕ) (first : ℕ) (h : first < 10) (ten : length digits
         )
 
 abbrev Inv-loop : tie.InvT-loop
-Inv-loop out at n digits₀ first₀ left₀ digits first left = (first < 10) × (length digits ≡ 10) × (digitsOf left ++ drop (first + 1) digits ≡ digitsOf n)
+Inv-loop out at n digits₀ first₀ left₀ digits first left = (first < 20) × (length digits ≡ 20) × (digitsOf left ++ drop (first + 1) digits ≡ digitsOf n)
 
 abbrev μ-loop : tie.MeasureT-loop
 μ-loop out at n digits₀ first₀ left₀ digits first left = left
@@ -105,7 +105,7 @@ returns c =
     let d = c .before .before .before .before .before .before in
     let l = d .before .before .loop in
     let a = d .before .before .before .before .args in
-    let e : take (10 - l .first) (drop (l .first) (set (l .digits) (l .first) (d .digit2 .result))) ≡ digitsOf (a .n) =
+    let e : take (20 - l .first) (drop (l .first) (set (l .digits) (l .first) (d .digit2 .result))) ≡ digitsOf (a .n) =
     rw (d .digit2 .ensures) (gather-last (l .digits) (l .first) (l .inv .0) (l .inv .1) (l .left) (d .before .loop-test .left)) ∙ l .inv .2 in
     (c .before .before .put .ensures .0 ∙ ap (endOf (a .out .now) (a .at)) e, c .before .before .put .ensures .1 ∙ ap (putAt (a .out .now) (a .at)) e)
 

@@ -1,23 +1,25 @@
 -- `put_masks` meets its contract. The invariant: what was put, with the masks that are left from here on, is the text of all. The measure: the masks left. Assumes nothing.
 use Prim.Native.Nat.{ℕ, _+_, _-_, _≤_}
 use mathlib.Core.Path.{_≡_, sym, ap, _∙_}
-use mathlib.Core.List.{List, _∷_, _++_}
+use mathlib.Core.Bool.{cond}
+use mathlib.Core.List.{List, [], _∷_, _++_}
 use native.Mathlib.Omega.{arith}
-use lib.ListN.{length, drop}
+use lib.ListN.{length}
+use lib.Dec.{ltb}
 use borrow.Author.Needs.{needs}
 use Rattle.octets.specs.Bytes.{space}
-use Rattle.laws.specs.Lists.{prefixed}
+use Rattle.laws.specs.Lists.{separated}
 use Rattle.octets.proofs.Room.{Begun, begun, begun-step, begun-end}
 use Rattle.bans.specs.Masks.{masks}
-use Rattle.console.proofs.Answering.{prefixed-step, prefixed-past}
-use Rattle.console.proofs.listing.put_masks.Statement.{statement}
-use Rattle.console.proofs.listing.put_masks.Tie as tie
+use Rattle.listing.proofs.Lines.{masksFrom, masks-step, masks-past}
+use Rattle.listing.proofs.put_masks.Statement.{statement}
+use Rattle.listing.proofs.put_masks.Tie as tie
 
 abbrev Inv-loop : tie.InvT-loop
-Inv-loop list out₀ most next₀ i₀ out next i = (i ≤ most) × (most ≡ length (masks list)) × Begun out₀ 0 out next (prefixed space (drop i (masks list))) (prefixed space (masks list))
+Inv-loop out₀ at list most next₀ i₀ out next i = (i ≤ most) × (most ≡ length (masks list)) × Begun out₀ at out next (masksFrom i (masks list)) (separated space (masks list))
 
 abbrev μ-loop : tie.MeasureT-loop
-μ-loop list out₀ most next₀ i₀ out next i = most - i
+μ-loop out₀ at list most next₀ i₀ out next i = most - i
 
 count-requires : tie.Need-count-requires Inv-loop μ-loop
 count-requires c κs = search needs
@@ -41,15 +43,16 @@ loop-again : tie.Need-loop-again Inv-loop μ-loop
 loop-again c =
     let mask = c .before .before .before .mask-at in
     let loop = c .before .before .before .before .before .before in
-    let list = loop .before .before .before .before .args .list .now in
-    let step = prefixed-step space (masks list) (loop .loop .i) (omega arith) ∙ ap (λ (m : List ℕ). (space ∷ m) ++ prefixed space (drop (loop .loop .i + 1) (masks list))) (sym (mask .ensures .0)) in
+    let l = masks (loop .before .before .before .before .args .list .now) in
+    let i = loop .loop .i in
+    let step = masks-step l i (omega arith) ∙ ap (λ (m : List ℕ). cond (ltb 0 i) (space ∷ []) [] ++ m ++ masksFrom (i + 1) l) (sym (mask .ensures .0)) in
     (search needs, loop .loop .inv .1, begun-step _ _ _ _ _ _ _ _ _ _ step (c .before .before .put-mask .ensures) (loop .loop .inv .2))
 
 same-length : tie.Need-same-length Inv-loop μ-loop
 same-length c = c .before .loop .inv .2 .adding .keeps
 
 returns : tie.Need-returns Inv-loop μ-loop
-returns c = begun-end _ _ _ _ _ _ (prefixed-past space _ (c .before .loop .i) (omega arith)) (c .before .loop .inv .2)
+returns c = begun-end _ _ _ _ _ _ (masks-past _ (c .before .loop .i) (omega arith)) (c .before .loop .inv .2)
 
 pub put-masks-spec : {M : Type 1} → statement M
 put-masks-spec =

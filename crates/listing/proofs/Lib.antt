@@ -1,0 +1,3 @@
+-- Laws of the table as text, for this crate and those above, and examples.
+pub mod Lines
+mod Examples
