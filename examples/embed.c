@@ -284,6 +284,87 @@ static void day_log(void)
     printf("without room: %d\n", relay_log(3, line, relay_room_of(NULL, 0)).number);
 }
 
+/* Puts the record of a line behind what a log has. A real program would append it to a file. */
+static void append(relay_room *log, uint32_t link, relay_bytes line)
+{
+    size_t size = relay_log(link, line, *log).size;
+    log->ptr += size;
+    log->len -= size;
+}
+
+/* Prints the records of a log, each with its place, and what stands behind the last: the end, or a fault. */
+static void print_log(relay_bytes log)
+{
+    size_t at = 0;
+    relay_record_read record;
+    while ((record = relay_read_record(log, at)).found) {
+        printf("at %zu from %" PRIu32 ": ", at, record.link);
+        print(relay_part(log, record.line));
+        at = record.line.end;
+    }
+    printf("at %zu: number %d, place %zu\n", at, record.number, record.place);
+}
+
+/* Prints what came of a replay, and the table. */
+static void print_replayed(const relay_table *table, size_t used, uint8_t number, size_t place)
+{
+    printf("replayed %zu bytes, number %d, place %zu\n", used, number, place);
+    print_channels(table);
+    print_masks(table, 0);
+}
+
+static void replay(relay_bytes log)
+{
+    static relay_table table;
+    relay_replayed done = relay_replay(&table, log);
+    print_replayed(&table, done.used, done.number, done.place);
+}
+
+/* The same where the log comes in pieces of seven bytes. */
+static void replay_pieces(relay_bytes log)
+{
+    static relay_table table;
+    uint8_t buffer[7 + RELAY_LOG_HEAD + RELAY_LINE];
+    size_t kept = 0, passed = 0, got, place;
+    relay_replayed done;
+    bool stopped;
+    relay_replay_begin(&table);
+    do {
+        got = log.len < 7 ? log.len : 7;
+        memcpy(buffer + kept, log.ptr, got);
+        log = relay_bytes_of(log.ptr + got, log.len - got);
+        done = relay_replay_piece(&table, relay_bytes_of(buffer, kept + got));
+        stopped = done.number != RELAY_ACCEPTED && (done.number != RELAY_LOG_CUT || got == 0);
+        place = stopped ? passed + done.place : 0;
+        passed += done.used;
+        kept = kept + got - done.used;
+        memmove(buffer, buffer + done.used, kept);
+    } while (got != 0 && !stopped);
+    print_replayed(&table, passed, done.number, place);
+}
+
+/* A day's log read back and replayed: whole, with a line that the relay refuses, cut, with a bad link, and empty. */
+static void read_back(void)
+{
+    uint8_t bytes[300];
+    relay_room room = relay_room_of(bytes, sizeof bytes);
+    append(&room, 3, text(":1AB SJOIN 5 #a +lk 7 key :1ABAAAAAB @+1ABAAAAAA\r\n"));
+    append(&room, 31, text(":1AB BMASK 5 #A b :y  x\r\n"));
+    append(&room, 0, text(":1AB BMASK 6 #a b late\r\n"));
+    size_t good = sizeof bytes - room.len;
+    append(&room, 0, text(":1ABAAAAAC PART #a\r\n"));
+    size_t all = sizeof bytes - room.len;
+    print_log(relay_bytes_of(bytes, good));
+    replay(relay_bytes_of(bytes, good));
+    replay_pieces(relay_bytes_of(bytes, good));
+    replay(relay_bytes_of(bytes, all));
+    replay_pieces(relay_bytes_of(bytes, all));
+    replay_pieces(relay_bytes_of(bytes, all - 1));
+    bytes[good + 2] = RELAY_LINKS;
+    print_log(relay_bytes_of(bytes, all));
+    replay(relay_bytes_of(NULL, 0));
+}
+
 int main(void)
 {
     if (!relay_layout_matches()) {
@@ -302,5 +383,6 @@ int main(void)
     parts();
     names_masks_keys();
     day_log();
+    read_back();
     return 0;
 }

@@ -77,6 +77,11 @@ try 'a header that reads bytes beyond a mask is noticed' notices 'relay_at_most(
 try 'a header that keeps the old head is noticed' notices 'table->head = taken.head' 'taken.head = table->head'
 try 'a header with another feeder is noticed' notices 'bool dropping;' 'uint16_t dropping;'
 try 'a header whose loop ends at a line that is too long is noticed' notices 'fed->len != 0 || fed->number == RELAY_LINE_TOO_LONG' 'fed->len != 0'
+try 'a header with another answer of the log reader is noticed' notices 'bool found;' 'uint16_t found;'
+try 'a header whose replay lacks a link is noticed' notices 'links.set = 0xffffffff' 'links.set = 0x7fffffff'
+try 'a header whose replay goes on after a refusal is noticed' notices 'done.number != RELAY_ACCEPTED) {' 'done.number == RELAY_BAD_LINK) {'
+try 'a header whose replay gives the place of a refused line is noticed' notices 'done.place = done.used' 'done.place = record.line.start'
+try 'a header whose replay begins with what was there is noticed' notices '    relay_replay_begin(table);' ''
 try 'the stack that the header says is enough' fits -O2
 try 'the stack that the header says is enough, without optimisation' fits -O0
 try 'too little stack is noticed' overflows

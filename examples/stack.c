@@ -152,6 +152,22 @@ static void feeds(void)
     expect(fed.number, RELAY_LINE_TOO_LONG, "its number");
 }
 
+/* A log of joins that fill every channel, read back and replayed. */
+static void logs(void)
+{
+    static uint8_t bytes[2 * RELAY_SLOTS * (RELAY_LOG_HEAD + RELAY_LINE)];
+    size_t len = 0;
+    for (int channel = 0; channel < RELAY_SLOTS; channel++)
+        for (int half = 0; half < 2; half++) {
+            join_line(channel, half, 1000);
+            len += relay_log(RELAY_LINKS - 1, text(line), relay_room_of(bytes + len, sizeof bytes - len)).size;
+        }
+    expect((int)relay_read_record(relay_bytes_of(bytes, len), 0).link, RELAY_LINKS - 1, "a record");
+    expect(relay_replay(&table, relay_bytes_of(bytes, len)).number, 0, "replay");
+    expect((int)table.head.slots[15].count, RELAY_MEMBERS, "what was replayed");
+    expect(relay_replay_piece(&table, relay_bytes_of(bytes, len - 1)).number, RELAY_LOG_CUT, "a piece");
+}
+
 static void others(void)
 {
     expect(relay_same_name(text("#A["), text("#a{")), 1, "same name");
@@ -174,7 +190,7 @@ static void on_stack(void *stack, void (*call)(void))
 
 int main(void)
 {
-    void (*const calls[])(void) = { registers, joins, masks, records, leaves, lines, feeds, others };
+    void (*const calls[])(void) = { registers, joins, masks, records, leaves, lines, feeds, logs, others };
     char *memory = mmap(NULL, GUARD + RELAY_STACK, PROT_NONE, MAP_PRIVATE | MAP_ANONYMOUS, -1, 0);
     if (memory == MAP_FAILED || mprotect(memory + GUARD, RELAY_STACK, PROT_READ | PROT_WRITE) != 0) {
         printf("no memory\n");

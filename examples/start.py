@@ -1,5 +1,5 @@
 #!/usr/bin/env python3
-"""Tests of bin/relay alone: when it builds, what it says, how it ends.
+"""Tests of bin/relay and bin/replay alone: when they build, what they say, how they end.
 
 Each test has a small tree of its own, with a stand-in for `rt` that writes down
 how it is called and a stand-in for the program, so nothing is proved here and
@@ -38,9 +38,9 @@ echo "rt: laws proved (unchanged since it was last proved)"
 [ "$2" = laws ] || echo "rt: $2 proved (0 s)"
 mkdir -p target/stamp target/bin
 [ -f "target/stamp/$2" ] || echo x >"target/stamp/$2"
-if [ "$2" = console ] && [ ! -f target/bin/console ]; then
-    cp "$TREE/program" target/bin/console
-fi
+case $2 in
+console | day) [ -f "target/bin/$2" ] || cp "$TREE/program" "target/bin/$2" ;;
+esac
 """
 
 # Answers its input with its arguments before it; says what SAYS says.
@@ -59,19 +59,20 @@ while :; do sleep 0.05; done
 
 
 class Tree:
-    """A repository of three crates, of which the program needs two."""
+    """A repository of four crates, of which either program needs two."""
 
     def __init__(self, folder):
         self.folder = folder
         folder.chmod(0o755)
-        for name in ["laws", "console", "other"]:
+        for name in ["laws", "console", "day", "other"]:
             for part in ["src", "specs", "proofs"]:
                 (folder / "crates" / name / part).mkdir(parents=True)
                 (folder / "crates" / name / part / "file").write_text("x")
-        (folder / "crates.txt").write_text("laws:\nother: laws\nconsole: laws io\n")
+        (folder / "crates.txt").write_text("laws:\nother: laws\nconsole: laws io\nday: laws io\n")
         (folder / "VERSION").write_text("1.2.3\n")
         (folder / "bin").mkdir()
-        shutil.copy(HERE.parent / "bin" / "relay", folder / "bin" / "relay")
+        for name in ["relay", "replay", "program.sh"]:
+            shutil.copy(HERE.parent / "bin" / name, folder / "bin" / name)
         (folder / "tools").mkdir()
         self.script("tools/rt", RT)
         self.script("program", PROGRAM)
@@ -82,11 +83,12 @@ class Tree:
         path.chmod(0o755)
 
     def built(self, program=PROGRAM):
-        for name in ["stamp/laws", "stamp/console", "bin/console"]:
+        for name in ["stamp/laws", "stamp/console", "stamp/day", "bin/console", "bin/day"]:
             path = self.folder / "target" / name
             path.parent.mkdir(parents=True, exist_ok=True)
             path.write_text("x\n")
-        self.script("target/bin/console", program)
+        for name in ["console", "day"]:
+            self.script(f"target/bin/{name}", program)
         return self
 
     def environment(self, **more):
@@ -95,8 +97,9 @@ class Tree:
 
     def start(self, *words, **options):
         more = options.pop("more", {})
+        name = options.pop("name", "relay")
         options = {"stdin": subprocess.DEVNULL, "stdout": subprocess.PIPE, "stderr": subprocess.PIPE} | options
-        return subprocess.Popen([self.folder / "bin" / "relay", *words], env=self.environment(**more), text=True, cwd="/", **options)
+        return subprocess.Popen([self.folder / "bin" / name, *words], env=self.environment(**more), text=True, cwd="/", **options)
 
     def run(self, *words, **options):
         """Status, standard output and standard error."""
@@ -311,6 +314,31 @@ def test_status_is_what_was_said(tree):
     equal(tree.run(more={"SAYS": "relay: it broke"}), (1, "\n", "relay: it broke\n"))
     equal(tree.run(more={"SAYS": "note: all is well"}), (0, "\n", "note: all is well\n"))
     equal(tree.run(more={"SAYS": "so to say relay: no"}), (0, "\n", "so to say relay: no\n"))
+
+
+def test_replay_is_started_as_the_relay_is(tree):
+    tree.built()
+    equal(tree.run(name="replay", input="a log"), (0, "\na log", ""))
+    equal(tree.run(name="replay", more={"SAYS": "replay: it broke"}), (1, "\n", "replay: it broke\n"))
+    equal(tree.run(name="replay", more={"SAYS": "relay: it broke"}), (0, "\n", "relay: it broke\n"))
+    equal(tree.calls(), [])
+    tree.touch("crates/day/src/file")
+    equal(tree.run(name="replay")[:2], (0, "\n"))
+    equal(tree.calls(), ["check laws", "check day"])
+
+
+def test_replay_help_version_and_wrong_usage(tree):
+    tree.built()
+    for word in ["-h", "--help"]:
+        status, out, err = tree.run(word, name="replay")
+        equal((status, out[:14], err), (0, "usage: replay ", ""))
+    for word in ["-V", "--version"]:
+        equal(tree.run(word, name="replay"), (0, "replay 1.2.3\n", ""))
+    before = tree.seen()
+    for words in [["-x"], ["log"], ["a", "b"], [""]]:
+        status, out, err = tree.run(*words, name="replay")
+        equal((status, out, err[:8]), (2, "", "replay: "))
+    equal(tree.seen(), before)
 
 
 def test_ended_program_passes_its_status(tree):

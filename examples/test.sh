@@ -1,6 +1,7 @@
 #!/bin/sh
-# Tests of the console that a single run on a file can't make: the day through bin/relay, input in small pieces, unfinished last lines, the journal, and
-# what happens where the journal or the output can't be written. Says which test fails; the last line is 'N passed, M failed', the status 1 if one did.
+# Tests of the programs that a single run on a file can't make. Of the console: the day through bin/relay, input in small pieces, unfinished last lines, the
+# journal, and what happens where the journal or the output can't be written. Of bin/replay: that journal, a log in pieces, faults, and what can't be
+# read or written. Says which test fails; the last line is 'N passed, M failed', the status 1 if one did.
 set -u
 cd "$(dirname "$0")/.." || exit 2
 room=$(mktemp -d) || exit 2
@@ -89,9 +90,48 @@ unfinished '+1\n1 :1CBAAAAAA QUIT\r' '= 0\n! 5\n'
 $console "$room/journal" <examples/morning.txt >"$room/out"
 same "the day with a journal" "$room/out" examples/morning.out
 same "a journal is made" "$room/journal" "$room/expected"
+
+# ---- the journal replayed: it leaves the table at the day's end, which the last answer of the day has before its '.'
+tail -n 5 examples/morning.out | sed '$d' >"$room/left"
+bin/replay <"$room/journal" >"$room/out"
+same "the journal replayed" "$room/out" "$room/left"
+day=target/bin/day
+for size in 1 7 511; do
+    dd bs=$size if=crates/day/stdin 2>"$room/err" | $day >"$room/out"
+    same "a log in pieces of $size" "$room/out" crates/day/stdout
+done
 $console "$room/journal" <examples/morning.txt >"$room/out"
 cat "$room/expected" "$room/expected" >"$room/twice"
 same "a journal is appended to" "$room/journal" "$room/twice"
+
+# ---- faults of a log, each at its byte; behind a record what stood before is printed
+faulty() { # LOG OUTPUT
+    # shellcheck disable=SC2059
+    printf "$1" | $day >"$room/out"
+    # shellcheck disable=SC2059
+    printf "$2" >"$room/expected"
+    same "a log at fault: $1" "$room/out" "$room/expected"
+}
+faulty '' ''
+faulty 'J' '28 0\n'
+faulty 'IS' '28 1\n'
+faulty 'IR\040' '29 2\n'
+faulty 'IR\037\002\001' '30 3\n'
+faulty 'I' '31 1\n'
+faulty 'IR\037\377' '31 4\n'
+faulty 'IR\037\000\001' '31 5\n'
+faulty 'IR\037\000\000' '5 0\n'
+faulty 'IR\000\000\062:1AB SJOIN 5 #a +kl key 7 :@+1ABAAAAAA 1ABAAAAAB\r\nIR\040' '5 #a +kl key 7 @+1ABAAAAAA 1ABAAAAAB\n\n29 57\n'
+
+# ---- a log that can't be read, and an output that can't be written: no answer
+bin/replay <"$room" >"$room/out" 2>"$room/err"
+printf '%s\n' $? >"$room/status"
+printf '1\n' >"$room/expected"
+same "a log that can't be read: status" "$room/status" "$room/expected"
+same "a log that can't be read" "$room/out" /dev/null
+said "a log that can't be read" "$room/err"
+$day <crates/day/stdin >/dev/full 2>"$room/err"
+said "a replay into a full output" "$room/err"
 
 # ---- a journal that can't be written: no answer without its record
 printf '+1\n1 :1CBAAAAAA QUIT\r\n+2\n' >"$room/in"

@@ -29,11 +29,14 @@
  *                 if (answer.set >> link & 1) send_to(link, out, answer.len);
  *     }
  *
+ * A day log, the records of `relay_log` one after the other, is read back by `relay_read_record`, and `relay_replay` makes its table anew.
+ *
  * What it promises. Any bytes, on any link, with any table, get one answer. Bad input is refused by one of the numbers below, the first
  * in their order that applies; then nothing is changed: table and feeder are as before, every lent buffer too, the ban lists byte for
- * byte, and sets, counts and lengths are 0. (The 4 that a feeder yields in the place of a line refuses that line and not the call.) What
- * is accepted puts its output at the front of the lent room and leaves the rest of the room as it was. These promises are proved of the
- * library's source; this header is not part of the proof, so `relay_layout_matches` compares it with what the library says of its structs.
+ * byte, and sets, counts and lengths are 0. (The 4 that a feeder yields in the place of a line refuses that line and not the call; where a
+ * replay is stopped, what was taken before stays.) What is accepted puts its output at the front of the lent room and leaves the rest of
+ * the room as it was. These promises are proved of the library's source; this header is not part of the proof, so
+ * `relay_layout_matches` compares it with what the library says of its structs.
  *
  * What you owe it.
  *  - A pointer is never NULL, not even with the length 0 (`relay_bytes_of` and `relay_room_of` see to that), and as many bytes as the
@@ -41,8 +44,8 @@
  *    RELAY_BANS bytes, without a length: so many can be read there, and written where the pointer isn't one to const.
  *  - The room that a call writes, and the lists that it may write, overlap neither each other nor the bytes that it reads, and nothing
  *    else writes any of them during the call. So a mask of the table is copied before it goes into a line for that table.
- *  - A bool is 0 or 1, as C's own are. Everything else may hold any value: tables and feeders from disk and lengths that are too large
- *    are refused by a number.
+ *  - A bool is 0 or 1, as C's own are. Everything else may hold any value, tables, feeders and logs from disk too: what is bad, and a
+ *    length that is too large, is refused by a number.
  *
  * The words. A link is a connection to another relay. A line is what came in, CR LF included. SPACE is the byte 32.
  */
@@ -59,7 +62,7 @@ extern "C" {
 #endif
 
 /* The version of the whole project, as the file VERSION has it. */
-#define RELAY_VERSION "0.6.0"
+#define RELAY_VERSION "0.7.0"
 
 /* The bytes of stack that are enough for a call. */
 #define RELAY_STACK 131072
@@ -89,7 +92,8 @@ enum {
 
 /*
  * Where several apply, the first in this order is given: 1 to 18, 26, 19 to 22, 27, 23 to 25. So what a line says by itself is judged
- * before its channel is looked for, and what would result after that.
+ * before its channel is looked for, and what would result after that. 28 to 31 stand apart: they are a day log's, and of these the first
+ * byte at fault decides, not their order.
  */
 enum {
     RELAY_ACCEPTED = 0,
@@ -119,7 +123,11 @@ enum {
     RELAY_UNWRITABLE = 24,         /* message that would not read back as it was, or with parts outside the lent bytes */
     RELAY_NO_ROOM = 25,            /* written line over 512 bytes; log buffer shorter than the line and 5; output shorter than a record's text */
     RELAY_BAD_MASKS = 26,          /* type not b, no mask in the list, or one over 100 bytes (BMASK) */
-    RELAY_TOO_MANY_MASKS = 27      /* more than 32 masks would result, by BMASK or by merging */
+    RELAY_TOO_MANY_MASKS = 27,     /* more than 32 masks would result, by BMASK or by merging */
+    RELAY_NO_MARK = 28,            /* the day log has no mark where a record begins */
+    RELAY_BAD_LOG_LINK = 29,       /* the link of a record of the day log is above 31 */
+    RELAY_BAD_LOG_LENGTH = 30,     /* the length of a record of the day log is over 512 */
+    RELAY_LOG_CUT = 31             /* the day log ends inside a record */
 };
 
 /* Words for people, the rest of the room zero. */
@@ -424,6 +432,30 @@ typedef struct relay_logged {
  */
 relay_logged relay_log(uint32_t link, relay_bytes line, relay_room log);
 
+/*
+ * What stands at a place of a day log. A record where `found` is true: the link that its line came by, and the part of the log that is
+ * the line; the next record stands at line.end. The end of the log where `found` is false and the number is 0. Else a fault: its number,
+ * and the place in the log of the first byte at fault, or, of 31, the log's end. All else is 0.
+ */
+typedef struct relay_record_read {
+    relay_span line;
+    size_t place;
+    uint32_t link;
+    uint8_t number;
+    bool found;
+} relay_record_read;
+
+/*
+ * Reads the record that stands at a place of a day log, which may have any length and hold any bytes; at its length and beyond is its end.
+ * The first byte at fault decides: a byte of the mark that isn't 73 or 82 (28), a link above 31 (29), a length over 512 (30), whose place
+ * is that of its first byte and which is told only where both are there. Where no byte that is there is at fault, but the log ends inside
+ * the record: 31, and the place is the log's length. A length of 0 is a record too. Numbers 28 to 31.
+ *
+ * It looks at 517 bytes from there at most, RELAY_LOG_HEAD and RELAY_LINE. So a log can be read piece by piece: but for the end and 31,
+ * which may only say that the piece ends, more bytes behind a piece change no answer.
+ */
+relay_record_read relay_read_record(relay_bytes log, size_t at);
+
 /* ---- the layout of the structs ---- */
 
 /*
@@ -604,6 +636,72 @@ static inline relay_bytes relay_mask(const relay_table *table, size_t slot, size
     return slot < RELAY_SLOTS ? relay_list_mask(table->bans + slot * RELAY_LIST, i) : relay_bytes_of(NULL, 0);
 }
 
+/*
+ * How far a day log was replayed: `used` bytes of those given, which are whole records; and where they aren't used up, the number of what
+ * stopped it and the place of that in those bytes. It is the log's own number (28 to 31) with its place, as `relay_read_record` tells it,
+ * or the number by which the relay refused a record's line, with the place where the record begins. Number and place are 0 where all was
+ * replayed.
+ */
+typedef struct relay_replayed {
+    size_t used;
+    size_t place;
+    uint8_t number;
+} relay_replayed;
+
+/* Makes any bytes the table that a replay begins with: every slot free, no masks, all 32 links registered. */
+static inline void relay_replay_begin(relay_table *table)
+{
+    relay_table_clear(table);
+    table->head.links.set = 0xffffffff;
+}
+
+/*
+ * Takes the line of each record, in order, on the record's link, from the table as it stands; what is to be sent is passed over. The first
+ * refusal stops it, and what was taken before stays in the table. For a log that comes in pieces, with `kept` and `passed` 0 at first and
+ * 516 bytes of room more than a piece has, since so many of an unfinished record may be left over:
+ *
+ *     do {
+ *         got = more(buffer + kept);                   -- how many bytes came; 0 at the end of the log
+ *         done = relay_replay_piece(&table, relay_bytes_of(buffer, kept + got));
+ *         if (done.number != RELAY_ACCEPTED && (done.number != RELAY_LOG_CUT || got == 0))
+ *             return stopped(done.number, passed + done.place);
+ *         passed += done.used;
+ *         kept = kept + got - done.used;
+ *         memmove(buffer, buffer + done.used, kept);   -- the unfinished record goes before the next piece
+ *     } while (got != 0);
+ *
+ * So 31 is a fault only where no more bytes come.
+ */
+static inline relay_replayed relay_replay_piece(relay_table *table, relay_bytes piece)
+{
+    uint8_t out[RELAY_LINE];
+    relay_replayed done = { 0, 0, RELAY_ACCEPTED };
+    relay_record_read record;
+    while ((record = relay_read_record(piece, done.used)).found) {
+        done.number = relay_table_take(table, record.link, relay_part(piece, record.line), relay_room_of(out, sizeof out)).number;
+        if (done.number != RELAY_ACCEPTED) {
+            done.place = done.used;
+            return done;
+        }
+        done.used = record.line.end;
+    }
+    done.number = record.number;
+    done.place = record.place;
+    return done;
+}
+
+/*
+ * Makes any bytes the table that a day log leads to, whose records are taken in order from a table with free slots and all 32 links
+ * registered. For a complete log of a day that began with free slots, and whose slots and lists changed only by lines, which this library
+ * took, these are the slots and the lists that the day ended with, whatever links came and went. Where something is refused, the table is
+ * what stood before.
+ */
+static inline relay_replayed relay_replay(relay_table *table, relay_bytes log)
+{
+    relay_replay_begin(table);
+    return relay_replay_piece(table, log);
+}
+
 /* A copy of the channel in a slot with its ban list; all zero, as of a free slot, where there is no such slot. */
 static inline relay_whole_record relay_table_channel(const relay_table *table, size_t slot)
 {
@@ -661,7 +759,9 @@ static inline bool relay_layout_matches(void)
         RELAY_FIELD(relay_text, bytes), RELAY_FIELD(relay_text, len), sizeof(relay_text),
         RELAY_FIELD(relay_feeder, bytes), RELAY_FIELD(relay_feeder, len), RELAY_FIELD(relay_feeder, dropping), sizeof(relay_feeder),
         RELAY_FIELD(relay_fed, state), RELAY_FIELD(relay_fed, used), RELAY_FIELD(relay_fed, line), RELAY_FIELD(relay_fed, len),
-        RELAY_FIELD(relay_fed, number), sizeof(relay_fed)
+        RELAY_FIELD(relay_fed, number), sizeof(relay_fed),
+        RELAY_FIELD(relay_record_read, line), RELAY_FIELD(relay_record_read, place), RELAY_FIELD(relay_record_read, link),
+        RELAY_FIELD(relay_record_read, number), RELAY_FIELD(relay_record_read, found), sizeof(relay_record_read)
     };
     const size_t count = sizeof numbers / sizeof numbers[0];
     size_t k;

@@ -1,7 +1,8 @@
 //! Links the core's static library, which `rt staticlib capi` writes. Another folder can be named by
 //! the variable RELAY_LIB_DIR. RELAY_EARLIER_LIB names the file of an earlier library, which is
-//! linked beside it for the benchmark, its symbols renamed. It may lack the feeder's functions, and
-//! its tables may have no ban lists, which the option earlier_without_lists tells the crate.
+//! linked beside it for the benchmark, its symbols renamed. It may lack the feeder's functions and
+//! the reader of day logs, and its tables may have no ban lists, which the option
+//! earlier_without_lists tells the crate.
 
 use std::collections::BTreeSet;
 use std::env;
@@ -23,10 +24,10 @@ fn main() {
         );
         return;
     }
-    let (prefix, feeder_prefix) = match variable("RELAY_EARLIER_LIB") {
+    let [prefix, feeder_prefix, log_prefix] = match variable("RELAY_EARLIER_LIB") {
         None => {
             link(&library, &folder, "capi");
-            ("", "")
+            [""; 3]
         }
         Some(earlier) => {
             let earlier = Path::new(&earlier);
@@ -35,11 +36,13 @@ fn main() {
             if !has(earlier, "relay_is_banned") {
                 println!("cargo::rustc-cfg=earlier_without_lists");
             }
-            (PREFIX, if has(earlier, "relay_feed") { PREFIX } else { "" })
+            let prefix_of = |function| if has(earlier, function) { PREFIX } else { "" };
+            [PREFIX, prefix_of("relay_feed"), prefix_of("relay_read_record")]
         }
     };
     println!("cargo::rustc-env=RELAY_EARLIER_PREFIX={prefix}");
     println!("cargo::rustc-env=RELAY_EARLIER_FEEDER_PREFIX={feeder_prefix}");
+    println!("cargo::rustc-env=RELAY_EARLIER_LOG_PREFIX={log_prefix}");
 }
 
 /// Whether a library has a function.

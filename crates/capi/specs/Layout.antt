@@ -123,6 +123,10 @@ feeder = array lineLimit byte ∷ long ∷ byte ∷ []
 abbrev pub fed : List Kind
 fed = struct feeder ∷ long ∷ array lineLimit byte ∷ long ∷ byte ∷ []
 
+-- RecordRead: the part of the log that is a line, the place of a fault, the link, then its number, and whether there is a record
+abbrev pub recordRead : List Kind
+recordRead = struct span ∷ long ∷ word ∷ byte ∷ byte ∷ []
+
 -- ---- all numbers, and how many they are first
 unfoldable pub numbers : List ℕ
 unfolding numbersOf
@@ -147,6 +151,7 @@ numbers =
     ++ numbersOf text
     ++ numbersOf feeder
     ++ numbersOf fed
+    ++ numbersOf recordRead
 
 unfoldable pub layout : List ℕ
 layout = length numbers ∷ numbers

@@ -5,7 +5,7 @@ ghost use lib.ListN.{getD};
 ghost use Rattle.capi.specs.Layout.{layout};
 
 // How many numbers there are, this one counted.
-const COUNT: usize = 131;
+const COUNT: usize = 142;
 
 // The number k, or 0 past the last: how many there are after it, then of each struct the place and the size of each field, and its own size.
 pub fn number(k: usize) -> usize
@@ -15,7 +15,7 @@ pub fn number(k: usize) -> usize
         return 0;
     }
     let numbers = [
-        130usize,
+        141usize,
         0, // Span.start
         8,
         8, // Span.end
@@ -146,6 +146,17 @@ pub fn number(k: usize) -> usize
         1056, // Fed.number
         1,
         1064, // Fed
+        0, // RecordRead.line
+        16,
+        16, // RecordRead.place
+        8,
+        24, // RecordRead.link
+        4,
+        28, // RecordRead.number
+        1,
+        29, // RecordRead.found
+        1,
+        32, // RecordRead
     ];
     numbers[k]
 }

@@ -26,6 +26,7 @@ ghost use Rattle.telling.specs.Telling.{described};
 ghost use Rattle.relay.specs.Arrival.{arrival};
 ghost use Rattle.relay.specs.Relay.{processAnswer, takenOf, sent};
 ghost use Rattle.journal.specs.Journal.{logRules, recordOf, loggedAnswer};
+ghost use Rattle.journal.specs.Reading.{readAnswer as recordAnswer};
 ghost use Rattle.wording.specs.Wording.{textOf};
 ghost use Rattle.capi.specs.Reading.{readAnswer};
 ghost use Rattle.capi.specs.Finding.{heldAt, findAnswer};
@@ -38,6 +39,7 @@ use feed::Fed;
 use feed::Feeder;
 use glob::Match;
 use journal::Logged;
+use journal::RecordRead;
 use merging::Merged;
 use message::Message;
 use message::Reading;
@@ -277,6 +279,14 @@ pub extern "C" fn relay_log(link: u32, line: &[u8], log: &mut [u8]) -> Logged
     ensures log { λ _. ⌜ now (log .exit) ≡ front (emitted (logRules link (now (line .entry)) (now (log .entry))) (recordOf link (now (line .entry)))) (now (log .entry)) ⌝ }
 {
     journal::write_record(link, line, log)
+}
+
+// Reads what stands at a place of the log.
+#[no_mangle]
+pub extern "C" fn relay_read_record(log: &[u8], at: usize) -> RecordRead
+    ensures { λ r. ⌜ r ≡ recordAnswer (now (log .entry)) at ⌝ }
+{
+    journal::read_record(log, at)
 }
 
 // The words of a refusal's number; of any other number none.

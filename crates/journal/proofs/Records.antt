@@ -22,7 +22,7 @@ use Rattle.journal.specs.Private.Refusal.{refusedBy}
 
 -- ---- read back
 pub link-back : (link : ℕ) (line more : List ℕ) → linkIn (recordOf link line ++ more) ≡ link
-unfolding linkIn recordOf
+unfolding recordOf
 link-back link line more = refl
 
 pub line-back : (link : ℕ) (line more : List ℕ) → lineIn (recordOf link line ++ more) ≡ line

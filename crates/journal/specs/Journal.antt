@@ -14,21 +14,32 @@ use Rattle.journal.specs.declared.Logged.{Logged}
 abbrev pub headLength : ℕ
 headLength = 5
 
--- the two-byte mark 73 82, the link, the length as two bytes high first
+-- the two bytes of the mark
+abbrev pub firstMark : ℕ
+firstMark = 73
+
+abbrev pub secondMark : ℕ
+secondMark = 82
+
+-- the mark, the link, the length as two bytes high first
 unfoldable pub headOf : ℕ → List ℕ → List ℕ
-headOf link line = 73 ∷ 82 ∷ link ∷ length line / 256 ∷ length line % 256 ∷ []
+headOf link line = firstMark ∷ secondMark ∷ link ∷ length line / 256 ∷ length line % 256 ∷ []
 
 -- and the line as received, CR LF included
 unfoldable pub recordOf : ℕ → List ℕ → List ℕ
 unfolding headOf
 recordOf link line = headOf link line ++ line
 
--- ---- read back, from a log that begins with the record
-unfoldable pub linkIn : List ℕ → ℕ
+-- ---- read back, from a log that begins with the record; a byte that isn't there counts as 0
+abbrev pub linkIn : List ℕ → ℕ
 linkIn log = getD log 2 0
 
+-- the length that the head tells
+abbrev pub lengthIn : List ℕ → ℕ
+lengthIn log = getD log 3 0 * 256 + getD log 4 0
+
 unfoldable pub lineIn : List ℕ → List ℕ
-lineIn log = take (getD log 3 0 * 256 + getD log 4 0) (drop headLength log)
+lineIn log = take (lengthIn log) (drop headLength log)
 
 -- ---- the answer
 unfoldable pub logRules : ℕ → List ℕ → List ℕ → List Rule

@@ -1,2 +1,3 @@
 -- What private functions promise. No public contract cites these files: nobody needs to believe them.
 pub mod Refusal
+pub mod Faults

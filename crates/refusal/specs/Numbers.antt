@@ -1,7 +1,7 @@
 -- The numbers of document 01's table and of 02's requests, under the names that src/lib.rt gives them there with the papers' words.
 -- A contract that cites one here and a function that answers the constant agree, or the function isn't proved.
 use Prim.Native.Nat.{ℕ}
-use mathlib.Core.List.{List, [], _∷_}
+use mathlib.Core.List.{List, [], _∷_, _++_}
 
 abbrev pub accepted : ℕ
 accepted = 0
@@ -87,6 +87,18 @@ badMasks = 26
 abbrev pub tooManyMasks : ℕ
 tooManyMasks = 27
 
+abbrev pub noMark : ℕ
+noMark = 28
+
+abbrev pub badLogLink : ℕ
+badLogLink = 29
+
+abbrev pub badLogLength : ℕ
+badLogLength = 30
+
+abbrev pub logCut : ℕ
+logCut = 31
+
 -- The fixed list, in the order in which the numbers are looked for: where more than one applies, the first in this list is given. In document 01 that is "the
 -- lowest"; document 02 puts numbers between those.
 abbrev pub order : List ℕ
@@ -119,3 +131,11 @@ order =
     ∷ unwritable
     ∷ noRoom
     ∷ []
+
+-- The log reader's stand apart (document 02, §5): of these the place of the first byte at fault decides. They stand here by those places.
+abbrev pub logOrder : List ℕ
+logOrder = noMark ∷ badLogLink ∷ badLogLength ∷ logCut ∷ []
+
+-- every number that a caller may get
+abbrev pub allNumbers : List ℕ
+allNumbers = order ++ logOrder

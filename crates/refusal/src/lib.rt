@@ -84,3 +84,15 @@ pub const BAD_MASKS: u8 = 26;
 
 // more than 32 masks would result (02 §2); after 22
 pub const TOO_MANY_MASKS: u8 = 27;
+
+// the day log has no mark where a record begins (02 §5); 28 to 31 are the log reader's, each with the place of the first byte at fault
+pub const NO_MARK: u8 = 28;
+
+// the link of a record of the day log is above 31 (02 §5)
+pub const BAD_LOG_LINK: u8 = 29;
+
+// the length of a record of the day log is over 512 (02 §5)
+pub const BAD_LOG_LENGTH: u8 = 30;
+
+// the day log ends inside a record (02 §5)
+pub const LOG_CUT: u8 = 31;

@@ -35,6 +35,10 @@ use Rattle.refusal.specs.Numbers.{
   textTooLong,
   unwritable,
   noRoom,
+  noMark,
+  badLogLink,
+  badLogLength,
+  logCut,
 }
 use Rattle.wording.specs.declared.Text.{Text}
 
@@ -81,6 +85,10 @@ table =
     ∷ textTooLong says "mask or text over 512 bytes"
     ∷ unwritable says "message would not read back"
     ∷ noRoom says "no room for what is written"
+    ∷ noMark says "no mark where a record of the log begins"
+    ∷ badLogLink says "link above 31 in a record of the log"
+    ∷ badLogLength says "length over 512 in a record of the log"
+    ∷ logCut says "the log ends inside a record"
     ∷ []
 
 -- the words of a number in a table, none where it isn't there

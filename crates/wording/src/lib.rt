@@ -7,6 +7,8 @@ ghost use Rattle.wording.specs.Wording.{textLimit, holding, textOf};
 use octets::put;
 use refusal::BAD_COMMAND;
 use refusal::BAD_LINK;
+use refusal::BAD_LOG_LENGTH;
+use refusal::BAD_LOG_LINK;
 use refusal::BAD_MASKS;
 use refusal::BAD_MEMBERS;
 use refusal::BAD_MODES;
@@ -17,8 +19,10 @@ use refusal::EMPTY_LINE;
 use refusal::EMPTY_PREFIX;
 use refusal::FORBIDDEN_BYTE;
 use refusal::LINE_TOO_LONG;
+use refusal::LOG_CUT;
 use refusal::NO_FREE_SLOT;
 use refusal::NO_LINE_END;
+use refusal::NO_MARK;
 use refusal::NO_ROOM;
 use refusal::NO_SUCH_CHANNEL;
 use refusal::NOT_ON_CHANNEL;
@@ -87,6 +91,10 @@ pub fn words(number: u8) -> Text
         TEXT_TOO_LONG => held(b"mask or text over 512 bytes"),
         UNWRITABLE => held(b"message would not read back"),
         NO_ROOM => held(b"no room for what is written"),
+        NO_MARK => held(b"no mark where a record of the log begins"),
+        BAD_LOG_LINK => held(b"link above 31 in a record of the log"),
+        BAD_LOG_LENGTH => held(b"length over 512 in a record of the log"),
+        LOG_CUT => held(b"the log ends inside a record"),
         _ => held(b""),
     }
 }

@@ -18,6 +18,7 @@ pub mod names;
 pub mod plain;
 pub mod refusal;
 pub mod relay;
+pub mod replay;
 pub mod sjoin;
 pub mod table;
 

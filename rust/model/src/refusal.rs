@@ -59,6 +59,14 @@ pub enum Refusal {
     BadMasks = 26,
     /// a 33rd mask would result (BMASK, merging), after 22
     ManyMasks = 27,
+    /// no mark (day log)
+    NoMark = 28,
+    /// link above 31 (day log)
+    BadLogLink = 29,
+    /// length over 512, both its bytes being there (day log)
+    BadLogLength = 30,
+    /// the log ends inside a record, and no byte present is at fault
+    LogCut = 31,
 }
 
 impl Refusal {

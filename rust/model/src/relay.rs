@@ -82,7 +82,7 @@ fn relayed_join(source: Option<&[u8]>, incoming: &Record, result: &Record) -> Ve
 }
 
 /// '+' and the letters in the order i m n p s t k l.
-fn modes_text(modes: u8) -> Vec<u8> {
+pub fn modes_text(modes: u8) -> Vec<u8> {
     let mut text = vec![b'+'];
     for (place, &letter) in LETTERS.iter().enumerate() {
         if modes & (1 << place) != 0 {
@@ -93,7 +93,7 @@ fn modes_text(modes: u8) -> Vec<u8> {
 }
 
 /// Ids ascending, each once, parted by one SPACE, with their statuses or bare.
-fn list_text(record: &Record, with_status: bool) -> Vec<u8> {
+pub fn list_text(record: &Record, with_status: bool) -> Vec<u8> {
     let mut text = Vec::with_capacity(line::LINE);
     for member in record.members() {
         if !text.is_empty() {

@@ -1,10 +1,10 @@
 // The functions that are alike in every library, called safely: included once for each library,
-// after `functions!` and `feeder_functions!`.
+// after `functions!`, `feeder_functions!` and `log_functions!`.
 
 use crate::ffi::{Bytes, Room};
 use crate::layout;
 use crate::types::{
-    Fed, Feeder, Found, Head, LineRead, Logged, Matched, Message, Record, Text, Written,
+    Fed, Feeder, Found, Head, LineRead, Logged, Matched, Message, Record, RecordRead, Text, Written,
 };
 
 /// A number of the library's layout of the structs, 0 past the last.
@@ -112,4 +112,10 @@ pub fn refusal_text(number: u8) -> Text {
 pub fn log(link: u32, line: &[u8], log: &mut [u8]) -> Logged {
     // SAFETY: line and log are lent for the call; the borrows say that they don't overlap.
     unsafe { relay_log(link, Bytes::of(line), Room::of(log)) }
+}
+
+/// Reads the record that stands at a place of a day log.
+pub fn read_record(log: &[u8], at: usize) -> RecordRead {
+    // SAFETY: the log is lent for the call.
+    unsafe { relay_read_record(Bytes::of(log), at) }
 }

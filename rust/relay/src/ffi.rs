@@ -74,6 +74,16 @@ macro_rules! feeder_functions {
     };
 }
 
+/// Declares the function that reads a day log back, which an earlier library may lack.
+macro_rules! log_functions {
+    ($prefix:expr) => {
+        extern "C" {
+            #[link_name = concat!($prefix, "relay_read_record")]
+            fn relay_read_record(log: Bytes, at: usize) -> RecordRead;
+        }
+    };
+}
+
 /// Declares the functions that take ban lists. The lists are lent as a plain pointer.
 macro_rules! list_functions {
     ($prefix:expr) => {

@@ -4,7 +4,7 @@ use std::mem::{offset_of, size_of};
 
 use crate::types::{
     BanList, Banned, Fed, Feeder, Found, Head, LineRead, Links, Logged, Matched, Member, Merged,
-    MergedRecord, Message, Record, Registered, Span, Taken, Text, WholeRecord, Written,
+    MergedRecord, Message, Record, RecordRead, Registered, Span, Taken, Text, WholeRecord, Written,
 };
 
 /// The place and the size of each of a struct's fields, then its own size.
@@ -74,6 +74,7 @@ fn last() -> Vec<usize> {
         numbers!(Text: bytes len),
         numbers!(Feeder: bytes len dropping),
         numbers!(Fed: state used line len number),
+        numbers!(RecordRead: line place link number found),
     ]
     .concat()
 }
@@ -84,10 +85,10 @@ pub fn matches(library: impl Fn(usize) -> usize) -> bool {
     library(0) == ours.len() && begins(&ours, library)
 }
 
-/// Whether a library that has no ban lists lays out as this crate does every struct that it has. It
-/// may lack the last.
-pub fn begins_without_lists(library: impl Fn(usize) -> usize) -> bool {
-    begins(&without_lists(), library)
+/// Whether an earlier library lays out as this crate does every struct that it has. It may have no
+/// ban lists, and may lack the last structs.
+pub fn fits(has_lists: bool, library: impl Fn(usize) -> usize) -> bool {
+    begins(&if has_lists { ours() } else { without_lists() }, library)
 }
 
 /// Whether the numbers of a library are the first of ours.
@@ -98,7 +99,7 @@ fn begins(ours: &[usize], library: impl Fn(usize) -> usize) -> bool {
 
 #[cfg(test)]
 mod tests {
-    use super::{begins_without_lists, matches, ours, without_lists};
+    use super::{fits, matches, ours, without_lists};
     use crate::{layout_matches, layout_number};
 
     /// A library that exports these numbers.
@@ -112,13 +113,13 @@ mod tests {
     #[test]
     fn the_library_has_our_layout() {
         assert!(layout_matches());
-        assert_eq!((layout_number(0), ours().len()), (130, 130));
-        assert_eq!((layout_number(131), layout_number(usize::MAX)), (0, 0));
+        assert_eq!((layout_number(0), ours().len()), (141, 141));
+        assert_eq!((layout_number(142), layout_number(usize::MAX)), (0, 0));
     }
 
     #[test]
     fn fewer_structs_are_no_layout() {
-        for count in 0..130 {
+        for count in 0..141 {
             assert!(!matches(exporting(ours()[..count].to_vec())), "{count}");
         }
         assert!(matches(exporting(ours())));
@@ -126,7 +127,7 @@ mod tests {
 
     #[test]
     fn other_layouts_are_noticed() {
-        for place in 0..130 {
+        for place in 0..141 {
             let mut other = ours();
             other[place] += 1;
             assert!(!matches(exporting(other)), "{place}");
@@ -136,16 +137,19 @@ mod tests {
     }
 
     #[test]
-    fn libraries_without_lists() {
-        for count in 0..=117 {
-            assert!(begins_without_lists(exporting(without_lists()[..count].to_vec())), "{count}");
+    fn earlier_libraries() {
+        for (has_lists, numbers, most) in [(true, ours(), 141), (false, without_lists(), 128)] {
+            assert_eq!(numbers.len(), most);
+            for count in 0..=most {
+                assert!(fits(has_lists, exporting(numbers[..count].to_vec())), "{count}");
+            }
+            for place in 0..most {
+                let mut other = numbers.clone();
+                other[place] += 1;
+                assert!(!fits(has_lists, exporting(other)), "{place}");
+            }
+            assert!(!fits(has_lists, exporting([numbers.clone(), vec![8]].concat())));
+            assert!(!fits(!has_lists, exporting(numbers)));
         }
-        for place in 0..117 {
-            let mut other = without_lists();
-            other[place] += 1;
-            assert!(!begins_without_lists(exporting(other)), "{place}");
-        }
-        assert!(!begins_without_lists(exporting([without_lists(), vec![8]].concat())));
-        assert!(!begins_without_lists(exporting(ours())));
     }
 }

@@ -8,12 +8,14 @@
 #[macro_use]
 mod ffi;
 mod layout;
+mod replaying;
 mod types;
 
+pub use replaying::{records, Records};
 pub use types::{
-    Answer, BanList, Banned, Bans, Fed, Feeder, Found, Head, LineRead, Links, Logged, Matched,
-    Member, Merged, MergedRecord, Message, Record, Registered, Span, Table, Taken, Text,
-    WholeRecord, Written, BANS, LIST, MASK, MASKS,
+    Answer, BanList, Banned, Bans, Fed, Feeder, Found, Head, LineRead, Links, LogFault, LogRecord,
+    Logged, Matched, Member, Merged, MergedRecord, Message, Record, RecordRead, Registered,
+    Replayed, Span, Table, Taken, Text, WholeRecord, Written, BANS, LIST, MASK, MASKS,
 };
 
 /// The number of an answer that is no refusal.
@@ -22,10 +24,14 @@ pub const ACCEPTED: u8 = 0;
 /// The number of a line over 512 bytes, which a feeder yields in the line's place.
 pub const LINE_TOO_LONG: u8 = 4;
 
+/// The number of a day log, or of a piece of one, that ends inside a record.
+pub const LOG_CUT: u8 = 31;
+
 /// The library's functions.
 mod current {
     functions!("");
     feeder_functions!("");
+    log_functions!("");
     list_functions!("");
     include!("calls.rs");
     include!("list_calls.rs");
@@ -34,12 +40,12 @@ mod current {
 pub use current::{
     command, describe, empty_feeder, empty_head, feed, find, greater_key, is_banned,
     layout_matches, layout_number, log, matches, merge, param, parts, prefix, process, read,
-    refusal_text, register, same_name, take, unregister, write,
+    read_record, refusal_text, register, same_name, take, unregister, write,
 };
 
 /// The same functions of an earlier library, for the benchmark: of the one that the variable
-/// RELAY_EARLIER_LIB names when this is built. Without it, and where it lacks the feeder or the
-/// question of bans, they are those of the library itself.
+/// RELAY_EARLIER_LIB names when this is built. Without it, and where it lacks the feeder, the question
+/// of bans or the reader of day logs, they are those of the library itself.
 pub mod earlier {
     /// Whether there is an earlier library.
     pub const IS_GIVEN: bool = !env!("RELAY_EARLIER_PREFIX").is_empty();
@@ -47,11 +53,15 @@ pub mod earlier {
     /// Whether there is one that makes bytes into lines.
     pub const HAS_FEEDER: bool = !env!("RELAY_EARLIER_FEEDER_PREFIX").is_empty();
 
+    /// Whether there is one that reads day logs back.
+    pub const HAS_LOG_READER: bool = !env!("RELAY_EARLIER_LOG_PREFIX").is_empty();
+
     /// Whether its tables have ban lists; so it is where there is none.
     pub const HAS_LISTS: bool = cfg!(not(earlier_without_lists));
 
     functions!(env!("RELAY_EARLIER_PREFIX"));
     feeder_functions!(env!("RELAY_EARLIER_FEEDER_PREFIX"));
+    log_functions!(env!("RELAY_EARLIER_LOG_PREFIX"));
     include!("calls.rs");
 
     #[cfg(not(earlier_without_lists))]
@@ -66,11 +76,7 @@ pub mod earlier {
 
     /// Whether it lays out as this crate does every struct that its functions have.
     pub fn layout_fits() -> bool {
-        if HAS_LISTS {
-            layout_matches()
-        } else {
-            layout::begins_without_lists(layout_number)
-        }
+        layout::fits(HAS_LISTS, layout_number)
     }
 }
 

@@ -261,6 +261,54 @@ pub struct Logged {
     pub size: usize,
 }
 
+/// What stands at a place of a day log: a record, the end of the log, or a fault.
+#[repr(C)]
+#[derive(Clone, Copy, Debug, Default, PartialEq, Eq)]
+pub struct RecordRead {
+    /// The part of the log that is the record's line; the next record stands at its end.
+    pub line: Span,
+    /// The place in the log of the first byte at fault, or the log's end where it ends inside a record.
+    pub place: usize,
+    /// The link that the line came by.
+    pub link: u32,
+    /// The number of a fault, or 0.
+    pub number: u8,
+    /// Whether there is a record; without one the number 0 is the end of the log.
+    pub found: bool,
+}
+
+/// A record of a day log.
+#[derive(Clone, Copy, Debug, PartialEq, Eq)]
+pub struct LogRecord<'a> {
+    /// The place in the log where it begins.
+    pub place: usize,
+    /// The link that the line came by.
+    pub link: u32,
+    /// The line as it was received.
+    pub line: &'a [u8],
+}
+
+/// A fault of a day log.
+#[derive(Clone, Copy, Debug, PartialEq, Eq)]
+pub struct LogFault {
+    /// Its number, 28 to 31.
+    pub number: u8,
+    /// The place in the log of the first byte at fault, or the log's end where it ends inside a record.
+    pub place: usize,
+}
+
+/// How far a day log was replayed.
+#[derive(Clone, Copy, Debug, PartialEq, Eq)]
+pub struct Replayed {
+    /// The bytes that were used, which are whole records.
+    pub used: usize,
+    /// The place, in the bytes given, of what stopped it, or 0: of a fault as [`LogFault`] has it, of a
+    /// line that the relay refused the first byte of its record.
+    pub place: usize,
+    /// The number of what stopped it, or 0.
+    pub number: u8,
+}
+
 /// The slot that holds a channel, or the number of a refusal.
 #[repr(C)]
 #[derive(Clone, Copy, Debug, PartialEq, Eq)]

@@ -119,7 +119,7 @@ fn differing(header: &str, expected: &Constants) -> Vec<String> {
 fn constants_are_the_sources() {
     let expected = expected();
     assert_eq!(differing(&text("include/relay.h"), &expected), [""; 0]);
-    assert_eq!(expected.len(), 54, "0 and 27 numbers, sixteen limits, eight modes, two statuses");
+    assert_eq!(expected.len(), 58, "0 and 31 numbers, sixteen limits, eight modes, two statuses");
 }
 
 /// Wrong headers are noticed: each number made greater by one, each constant renamed, and one more.
@@ -136,11 +136,11 @@ fn other_constants_are_noticed() {
         let renamed = format!("RELAY_X_{name} = {number}");
         assert_eq!(changed(&old, &renamed).len(), 2, "{name}");
     }
-    let more = "RELAY_TOO_MANY_MASKS = 27,\n    RELAY_MORE = 28 ";
-    assert_eq!(changed("RELAY_TOO_MANY_MASKS = 27 ", more), ["MORE"]);
+    let more = "RELAY_LOG_CUT = 31,\n    RELAY_MORE = 32 ";
+    assert_eq!(changed("RELAY_LOG_CUT = 31 ", more), ["MORE"]);
 }
 
-/// The sizes of this crate's own are those of the header.
+/// The sizes and numbers of this crate's own are those of the header.
 #[test]
 fn sizes_are_the_headers() {
     let header = of_header(&text("include/relay.h"));
@@ -149,6 +149,9 @@ fn sizes_are_the_headers() {
         ("MASK", relay::MASK),
         ("LIST", relay::LIST),
         ("BANS", relay::BANS),
+        ("ACCEPTED", relay::ACCEPTED.into()),
+        ("LINE_TOO_LONG", relay::LINE_TOO_LONG.into()),
+        ("LOG_CUT", relay::LOG_CUT.into()),
     ] {
         assert_eq!(header[name], size as u64, "{name}");
     }

@@ -1,6 +1,7 @@
 //! The same value in the core's types and in the model's.
 
 use model::feeder;
+use model::journal::{Fault, LogRecord, HEAD};
 use model::line;
 use model::refusal::number_of;
 use model::Refusal;
@@ -69,6 +70,21 @@ pub fn core_fed(after: &model::Feeder, fed: &Result<feeder::Fed, Refusal>) -> re
         }
     }
     answer
+}
+
+/// What stands at a place of a log, of the model, in the core's type.
+pub fn core_read(read: &Option<Result<LogRecord, Fault>>) -> relay::RecordRead {
+    match read {
+        None => relay::RecordRead::default(),
+        Some(Ok(LogRecord { place, link, line })) => {
+            let start = place + HEAD;
+            let line = relay::Span { start, end: start + line.len() };
+            relay::RecordRead { line, link: *link, found: true, ..Default::default() }
+        }
+        Some(Err(Fault { refusal, place })) => {
+            relay::RecordRead { place: *place, number: refusal.number(), ..Default::default() }
+        }
+    }
 }
 
 /// The parts of a message of the model in the core's type.

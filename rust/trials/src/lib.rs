@@ -26,7 +26,7 @@ pub struct Trial {
 }
 
 /// All of them.
-pub const TRIALS: [Trial; 13] = [
+pub const TRIALS: [Trial; 15] = [
     Trial { name: "read", run: compare::lines::read, numbers: &[0, 4, 5, 6, 7, 8, 9, 10] },
     Trial { name: "write", run: compare::lines::write, numbers: &[0, 2, 24, 25] },
     Trial { name: "feed", run: compare::feeding::feed, numbers: &[0, 1, 4] },
@@ -37,8 +37,10 @@ pub const TRIALS: [Trial; 13] = [
     Trial { name: "banned", run: compare::bans::banned, numbers: &[0, 1, 16, 19, 23] },
     Trial { name: "register", run: compare::tables::register, numbers: &[0, 1, 3] },
     Trial { name: "log", run: compare::log::log, numbers: &[0, 3, 4, 25] },
+    Trial { name: "read log", run: compare::log::read_log, numbers: &[0, 28, 29, 30, 31] },
     Trial { name: "take", run: compare::taking::take, numbers: TAKING },
     Trial { name: "take many", run: compare::taking::take_many, numbers: WITH_GOOD_TABLE },
+    Trial { name: "replay", run: compare::replaying::replay, numbers: REPLAYING },
     Trial { name: "demand 3", run: joins::trial, numbers: AT_THE_START },
 ];
 
@@ -50,7 +52,12 @@ const TAKING: &[u8] =
 const WITH_GOOD_TABLE: &[u8] =
     &[0, 2, 3, 4, 5, 6, 7, 8, 9, 10, 11, 12, 13, 14, 15, 16, 17, 18, 19, 20, 21, 22, 26, 27];
 
-/// Those of them that a join can have with an empty table.
+/// The numbers that a replay can stop with: those of lines that the log's records can hold, on links
+/// that are all registered, and the log's own.
+const REPLAYING: &[u8] =
+    &[0, 5, 6, 7, 8, 9, 10, 11, 12, 13, 14, 15, 16, 17, 18, 19, 20, 21, 22, 26, 27, 28, 29, 30, 31];
+
+/// Those of taking a line that a join can have with an empty table.
 const AT_THE_START: &[u8] = &[0, 2, 3, 4, 5, 6, 7, 8, 9, 10, 12, 13, 14, 15, 16, 17, 18];
 
 impl Trial {

@@ -3,7 +3,7 @@
 use std::fmt::{Display, Formatter, Result};
 
 /// One more than the highest number of a refusal.
-const NUMBERS: usize = 28;
+const NUMBERS: usize = 32;
 
 /// A count for each number, 0 for no refusal, and for each way to decide a question.
 #[derive(Clone, Debug, Default)]

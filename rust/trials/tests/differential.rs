@@ -66,6 +66,11 @@ fn log() {
 }
 
 #[test]
+fn read_log() {
+    run("read log", 3_000);
+}
+
+#[test]
 fn take() {
     run("take", 60_000);
 }
@@ -73,6 +78,11 @@ fn take() {
 #[test]
 fn take_many() {
     run("take many", 200);
+}
+
+#[test]
+fn replay() {
+    run("replay", 1_000);
 }
 
 #[test]

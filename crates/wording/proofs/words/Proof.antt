@@ -174,6 +174,30 @@ slice-aggregate-held-28 c = search needs
 held-requires-28 : tie.Need-held-requires-28
 held-requires-28 c κs = search needs
 
+slice-aggregate-held-29 : tie.Need-slice-aggregate-held-29
+slice-aggregate-held-29 c = search needs
+
+held-requires-29 : tie.Need-held-requires-29
+held-requires-29 c κs = search needs
+
+slice-aggregate-held-30 : tie.Need-slice-aggregate-held-30
+slice-aggregate-held-30 c = search needs
+
+held-requires-30 : tie.Need-held-requires-30
+held-requires-30 c κs = search needs
+
+slice-aggregate-held-31 : tie.Need-slice-aggregate-held-31
+slice-aggregate-held-31 c = search needs
+
+held-requires-31 : tie.Need-held-requires-31
+held-requires-31 c κs = search needs
+
+slice-aggregate-held-32 : tie.Need-slice-aggregate-held-32
+slice-aggregate-held-32 c = search needs
+
+held-requires-32 : tie.Need-held-requires-32
+held-requires-32 c κs = search needs
+
 returns : tie.Need-returns
 unfolding bytesOf table wordsIn
 returns c = c .held .ensures ∙ sym (ap textOf (c .before .before .match .keys1))
@@ -284,37 +308,57 @@ returns-27 c = c .held27 .ensures ∙ sym (ap textOf (c .before .before .match .
 
 returns-28 : tie.Need-returns-28
 unfolding bytesOf table wordsIn
-returns-28 c =
+returns-28 c = c .held28 .ensures ∙ sym (ap textOf (c .before .before .match .keys28))
+
+returns-29 : tie.Need-returns-29
+unfolding bytesOf table wordsIn
+returns-29 c = c .held29 .ensures ∙ sym (ap textOf (c .before .before .match .keys29))
+
+returns-30 : tie.Need-returns-30
+unfolding bytesOf table wordsIn
+returns-30 c = c .held30 .ensures ∙ sym (ap textOf (c .before .before .match .keys30))
+
+returns-31 : tie.Need-returns-31
+unfolding bytesOf table wordsIn
+returns-31 c = c .held31 .ensures ∙ sym (ap textOf (c .before .before .match .keys31))
+
+returns-32 : tie.Need-returns-32
+unfolding bytesOf table wordsIn
+returns-32 c =
     let n = c .before .before .before .args .number in
     let other = c .before .before .match .rest in
-    c .held28 .ensures ∙ simp (
-      ne-eqb 1 n (λ e. other .0 .0 .0 .0 .0 .0 .0 .0 .0 .0 .0 .0 .0 .0 .0 .0 .0 .0 .0 .0 .0 .0 .0 .0 .0 .0 .1 (sym e)),
-      ne-eqb 2 n (λ e. other .0 .0 .0 .0 .0 .0 .0 .0 .0 .0 .0 .0 .0 .0 .0 .0 .0 .0 .0 .0 .0 .0 .0 .0 .0 .1 (sym e)),
-      ne-eqb 3 n (λ e. other .0 .0 .0 .0 .0 .0 .0 .0 .0 .0 .0 .0 .0 .0 .0 .0 .0 .0 .0 .0 .0 .0 .0 .0 .1 (sym e)),
-      ne-eqb 4 n (λ e. other .0 .0 .0 .0 .0 .0 .0 .0 .0 .0 .0 .0 .0 .0 .0 .0 .0 .0 .0 .0 .0 .0 .0 .1 (sym e)),
-      ne-eqb 5 n (λ e. other .0 .0 .0 .0 .0 .0 .0 .0 .0 .0 .0 .0 .0 .0 .0 .0 .0 .0 .0 .0 .0 .0 .1 (sym e)),
-      ne-eqb 6 n (λ e. other .0 .0 .0 .0 .0 .0 .0 .0 .0 .0 .0 .0 .0 .0 .0 .0 .0 .0 .0 .0 .0 .1 (sym e)),
-      ne-eqb 7 n (λ e. other .0 .0 .0 .0 .0 .0 .0 .0 .0 .0 .0 .0 .0 .0 .0 .0 .0 .0 .0 .0 .1 (sym e)),
-      ne-eqb 8 n (λ e. other .0 .0 .0 .0 .0 .0 .0 .0 .0 .0 .0 .0 .0 .0 .0 .0 .0 .0 .0 .1 (sym e)),
-      ne-eqb 9 n (λ e. other .0 .0 .0 .0 .0 .0 .0 .0 .0 .0 .0 .0 .0 .0 .0 .0 .0 .0 .1 (sym e)),
-      ne-eqb 10 n (λ e. other .0 .0 .0 .0 .0 .0 .0 .0 .0 .0 .0 .0 .0 .0 .0 .0 .0 .1 (sym e)),
-      ne-eqb 11 n (λ e. other .0 .0 .0 .0 .0 .0 .0 .0 .0 .0 .0 .0 .0 .0 .0 .0 .1 (sym e)),
-      ne-eqb 12 n (λ e. other .0 .0 .0 .0 .0 .0 .0 .0 .0 .0 .0 .0 .0 .0 .0 .1 (sym e)),
-      ne-eqb 13 n (λ e. other .0 .0 .0 .0 .0 .0 .0 .0 .0 .0 .0 .0 .0 .0 .1 (sym e)),
-      ne-eqb 14 n (λ e. other .0 .0 .0 .0 .0 .0 .0 .0 .0 .0 .0 .0 .0 .1 (sym e)),
-      ne-eqb 15 n (λ e. other .0 .0 .0 .0 .0 .0 .0 .0 .0 .0 .0 .0 .1 (sym e)),
-      ne-eqb 16 n (λ e. other .0 .0 .0 .0 .0 .0 .0 .0 .0 .0 .0 .1 (sym e)),
-      ne-eqb 17 n (λ e. other .0 .0 .0 .0 .0 .0 .0 .0 .0 .0 .1 (sym e)),
-      ne-eqb 18 n (λ e. other .0 .0 .0 .0 .0 .0 .0 .0 .0 .1 (sym e)),
-      ne-eqb 26 n (λ e. other .0 .0 .0 .0 .0 .0 .0 .0 .1 (sym e)),
-      ne-eqb 19 n (λ e. other .0 .0 .0 .0 .0 .0 .0 .1 (sym e)),
-      ne-eqb 20 n (λ e. other .0 .0 .0 .0 .0 .0 .1 (sym e)),
-      ne-eqb 21 n (λ e. other .0 .0 .0 .0 .0 .1 (sym e)),
-      ne-eqb 22 n (λ e. other .0 .0 .0 .0 .1 (sym e)),
-      ne-eqb 27 n (λ e. other .0 .0 .0 .1 (sym e)),
-      ne-eqb 23 n (λ e. other .0 .0 .1 (sym e)),
-      ne-eqb 24 n (λ e. other .0 .1 (sym e)),
-      ne-eqb 25 n (λ e. other .1 (sym e)),
+    c .held32 .ensures ∙ simp (
+      ne-eqb 1 n (λ e. other .0 .0 .0 .0 .0 .0 .0 .0 .0 .0 .0 .0 .0 .0 .0 .0 .0 .0 .0 .0 .0 .0 .0 .0 .0 .0 .0 .0 .0 .0 .1 (sym e)),
+      ne-eqb 2 n (λ e. other .0 .0 .0 .0 .0 .0 .0 .0 .0 .0 .0 .0 .0 .0 .0 .0 .0 .0 .0 .0 .0 .0 .0 .0 .0 .0 .0 .0 .0 .1 (sym e)),
+      ne-eqb 3 n (λ e. other .0 .0 .0 .0 .0 .0 .0 .0 .0 .0 .0 .0 .0 .0 .0 .0 .0 .0 .0 .0 .0 .0 .0 .0 .0 .0 .0 .0 .1 (sym e)),
+      ne-eqb 4 n (λ e. other .0 .0 .0 .0 .0 .0 .0 .0 .0 .0 .0 .0 .0 .0 .0 .0 .0 .0 .0 .0 .0 .0 .0 .0 .0 .0 .0 .1 (sym e)),
+      ne-eqb 5 n (λ e. other .0 .0 .0 .0 .0 .0 .0 .0 .0 .0 .0 .0 .0 .0 .0 .0 .0 .0 .0 .0 .0 .0 .0 .0 .0 .0 .1 (sym e)),
+      ne-eqb 6 n (λ e. other .0 .0 .0 .0 .0 .0 .0 .0 .0 .0 .0 .0 .0 .0 .0 .0 .0 .0 .0 .0 .0 .0 .0 .0 .0 .1 (sym e)),
+      ne-eqb 7 n (λ e. other .0 .0 .0 .0 .0 .0 .0 .0 .0 .0 .0 .0 .0 .0 .0 .0 .0 .0 .0 .0 .0 .0 .0 .0 .1 (sym e)),
+      ne-eqb 8 n (λ e. other .0 .0 .0 .0 .0 .0 .0 .0 .0 .0 .0 .0 .0 .0 .0 .0 .0 .0 .0 .0 .0 .0 .0 .1 (sym e)),
+      ne-eqb 9 n (λ e. other .0 .0 .0 .0 .0 .0 .0 .0 .0 .0 .0 .0 .0 .0 .0 .0 .0 .0 .0 .0 .0 .0 .1 (sym e)),
+      ne-eqb 10 n (λ e. other .0 .0 .0 .0 .0 .0 .0 .0 .0 .0 .0 .0 .0 .0 .0 .0 .0 .0 .0 .0 .0 .1 (sym e)),
+      ne-eqb 11 n (λ e. other .0 .0 .0 .0 .0 .0 .0 .0 .0 .0 .0 .0 .0 .0 .0 .0 .0 .0 .0 .0 .1 (sym e)),
+      ne-eqb 12 n (λ e. other .0 .0 .0 .0 .0 .0 .0 .0 .0 .0 .0 .0 .0 .0 .0 .0 .0 .0 .0 .1 (sym e)),
+      ne-eqb 13 n (λ e. other .0 .0 .0 .0 .0 .0 .0 .0 .0 .0 .0 .0 .0 .0 .0 .0 .0 .0 .1 (sym e)),
+      ne-eqb 14 n (λ e. other .0 .0 .0 .0 .0 .0 .0 .0 .0 .0 .0 .0 .0 .0 .0 .0 .0 .1 (sym e)),
+      ne-eqb 15 n (λ e. other .0 .0 .0 .0 .0 .0 .0 .0 .0 .0 .0 .0 .0 .0 .0 .0 .1 (sym e)),
+      ne-eqb 16 n (λ e. other .0 .0 .0 .0 .0 .0 .0 .0 .0 .0 .0 .0 .0 .0 .0 .1 (sym e)),
+      ne-eqb 17 n (λ e. other .0 .0 .0 .0 .0 .0 .0 .0 .0 .0 .0 .0 .0 .0 .1 (sym e)),
+      ne-eqb 18 n (λ e. other .0 .0 .0 .0 .0 .0 .0 .0 .0 .0 .0 .0 .0 .1 (sym e)),
+      ne-eqb 26 n (λ e. other .0 .0 .0 .0 .0 .0 .0 .0 .0 .0 .0 .0 .1 (sym e)),
+      ne-eqb 19 n (λ e. other .0 .0 .0 .0 .0 .0 .0 .0 .0 .0 .0 .1 (sym e)),
+      ne-eqb 20 n (λ e. other .0 .0 .0 .0 .0 .0 .0 .0 .0 .0 .1 (sym e)),
+      ne-eqb 21 n (λ e. other .0 .0 .0 .0 .0 .0 .0 .0 .0 .1 (sym e)),
+      ne-eqb 22 n (λ e. other .0 .0 .0 .0 .0 .0 .0 .0 .1 (sym e)),
+      ne-eqb 27 n (λ e. other .0 .0 .0 .0 .0 .0 .0 .1 (sym e)),
+      ne-eqb 23 n (λ e. other .0 .0 .0 .0 .0 .0 .1 (sym e)),
+      ne-eqb 24 n (λ e. other .0 .0 .0 .0 .0 .1 (sym e)),
+      ne-eqb 25 n (λ e. other .0 .0 .0 .0 .1 (sym e)),
+      ne-eqb 28 n (λ e. other .0 .0 .0 .1 (sym e)),
+      ne-eqb 29 n (λ e. other .0 .0 .1 (sym e)),
+      ne-eqb 30 n (λ e. other .0 .1 (sym e)),
+      ne-eqb 31 n (λ e. other .1 (sym e)),
     )
 
 pub words-spec : {M : Type 1} → statement M
@@ -377,6 +421,14 @@ words-spec =
     held-requires-27
     slice-aggregate-held-28
     held-requires-28
+    slice-aggregate-held-29
+    held-requires-29
+    slice-aggregate-held-30
+    held-requires-30
+    slice-aggregate-held-31
+    held-requires-31
+    slice-aggregate-held-32
+    held-requires-32
     returns
     returns-2
     returns-3
@@ -404,4 +456,8 @@ words-spec =
     returns-25
     returns-26
     returns-27
-    returns-28)
+    returns-28
+    returns-29
+    returns-30
+    returns-31
+    returns-32)

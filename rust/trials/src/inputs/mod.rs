@@ -3,6 +3,7 @@
 pub mod feeders;
 pub mod lines;
 pub mod lists;
+pub mod logs;
 pub mod masks;
 pub mod messages;
 pub mod streams;

@@ -3,7 +3,9 @@
 use std::ops::Range;
 
 use model::bans::{self, Masks};
+use model::replay::START;
 use model::{BanList, Member, Record, Table, WholeRecord};
+use trials::inputs::logs;
 use trials::rng::Rng;
 
 /// The link that every line comes by.
@@ -255,6 +257,36 @@ pub fn day(bytes: usize) -> Vec<Vec<u8>> {
         lines.push(line);
     }
     lines
+}
+
+/// The log of so many accepted lines of every kind, in any order, for so many channels.
+pub fn log(channels: usize, records: usize) -> Vec<u8> {
+    let mut rng = Rng::new(9);
+    let mut table = START;
+    let mut log = Vec::new();
+    let mut left = records;
+    while left > 0 {
+        let line = logged_line(&mut rng, channels);
+        if model::relay::take(&mut table, LINK, &line, &mut [0; 512]).is_ok() {
+            log.extend(logs::record(LINK, &line));
+            left -= 1;
+        }
+    }
+    log
+}
+
+/// A line for one of so many channels: mostly an SJOIN of one member or of some, else a PART or a QUIT
+/// of some user, or a BMASK of one mask.
+fn logged_line(rng: &mut Rng, channels: usize) -> Vec<u8> {
+    let name = format!("#race-{:02}", rng.below(channels));
+    let user = text(rng.below(64));
+    match rng.below(8) {
+        0..=1 => join(&name, TIME, rng.between(1, 40), true),
+        2..=4 => format!(":1AB SJOIN {TIME} {name} + +{user}\r\n").into_bytes(),
+        5 => format!(":{user} PART {name} :gone home\r\n").into_bytes(),
+        6 => format!(":{user} QUIT :gone home\r\n").into_bytes(),
+        _ => format!(":1AB BMASK {TIME} {name} b *!*@{}\r\n", rng.below(32)).into_bytes(),
+    }
 }
 
 /// One line with more and more full channels before its own.

@@ -8,16 +8,18 @@
 //! the ban list that the line changes if it changes one, is in each figure, since most lines change
 //! them. Masks are tried beside C's `fnmatch` too, and beside a matcher that goes back to every star
 //! and is stopped after a million steps. Bytes made into lines are told in megabytes a second, beside
-//! a splitter that finds LF by C's `memchr`, and as a share of the time of taking the lines.
+//! a splitter that finds LF by C's `memchr`, and as a share of the time of taking the lines. A day log
+//! is read and replayed in microseconds a record, and in records a second.
 //!
 //! With RELAY_EARLIER_LIB=FILE, the path of an earlier libcapi.a, that library takes the model's place,
-//! but not the place of its feeder where it has none; and where it knows no ban lists, a row with
-//! masks in it has figures of the core alone.
+//! but not the place of its feeder or its reader of day logs where it has none; and where it knows no
+//! ban lists, a row with masks in it has figures of the core alone.
 
 mod cases;
 mod clock;
 mod feeding;
 mod matchers;
+mod replaying;
 mod splitter;
 mod stack;
 
@@ -43,6 +45,7 @@ fn main() {
     masks(&clock);
     others(&clock);
     feeding(&clock);
+    replaying(&clock);
     stacks();
 }
 
@@ -229,6 +232,18 @@ fn feeding(clock: &Clock) {
     }
 }
 
+/// A day log read record by record, and replayed, from an empty table on.
+fn replaying(clock: &Clock) {
+    let columns = ["core", replaying::OTHER, "ratio", "core, records/s"];
+    heading("A day log of 1,000 records, µs a record", &columns);
+    for channels in [1, 16] {
+        let log = cases::log(channels, replaying::RECORDS);
+        let told = if channels == 1 { "1 channel" } else { "16 channels" };
+        println!("| reading it, {told} | {} |", replaying::reading(clock, &log));
+        println!("| replaying it, {told} | {} |", replaying::replaying(clock, &log));
+    }
+}
+
 /// The stack of each call, with its arguments and its answer.
 fn stacks() {
     heading("Stack of one call, bytes", &["core"]);
@@ -253,6 +268,7 @@ fn stacks() {
     row("its parts", stack::taken(|| relay::parts(&line)));
     row("writing a line", stack::taken(|| relay::write(&line, &parts, &mut out)));
     row("its day-log record", stack::taken(|| relay::log(LINK, &line, &mut out)));
+    row("reading it back", stack::taken(|| relay::read_record(&out, 0)));
     row("matching a mask", stack::taken(|| relay::matches(b"*a*b", &line)));
     row("making bytes into a line", stack::taken(|| relay::feed(&feeder, &line)));
 }

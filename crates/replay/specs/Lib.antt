@@ -1,0 +1,5 @@
+pub mod Replay
+pub mod Pieces
+pub mod Day
+pub mod Useless
+pub mod Private
