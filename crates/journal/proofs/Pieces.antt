@@ -2,22 +2,22 @@
 -- are read, and its fault. What is left of a piece is less than the longest record. Assumes nothing.
 use Prim.Native.Nat.{ℕ, zero, suc, _+_, _<_}
 use mathlib.Core.Path.{_≡_, refl, sym, ap, _∙_}
-use mathlib.Core.Bool.{Bool, true, false, true≢false, cond}
+use mathlib.Core.Bool.{Bool, true, false, true≢false}
 use mathlib.Core.List.{List, [], _∷_, _++_, append-nil, append-assoc}
 use mathlib.Core.Option.{Option, some, none}
 use native.Mathlib.Omega.{arith}
 use lib.ListN.{length, drop, length-drop}
 use lib.Seq.{drop-append-le, drop-drop}
 use lib.Dec.{eqb}
-use borrow.Author.Tests.{eq-eqb, eqb-true}
+use borrow.Author.Tests.{eq-eqb, ne-eqb, eqb-true, eqb-false}
 use Rattle.refusal.specs.Numbers.{logCut}
 use Rattle.laws.specs.Joins.{concatenated}
-use Rattle.journal.specs.Reading.{Entry, sizeOf, writtenLog, sizeOfAll, Fault, Found, End, Whole, Faulty, found, Log, logFrom, logOf, recordLimit}
+use Rattle.journal.specs.Reading.{Entry, sizeOf, writtenLog, sizeOfAll, Fault, Found, End, Whole, Faulty, found, Log, faultAt, logFrom, logOf, recordLimit}
 use Rattle.journal.specs.Pieces.{faultIf, isSound, behind, readOver}
 use Rattle.journal.specs.Division.{AllLoggable}
 use Rattle.journal.proofs.Checks.{some-none}
 use Rattle.journal.proofs.Found.{end-length, whole-fits, whole-append, fault-append, cut-short}
-use Rattle.journal.proofs.Logs.{log-end, log-faulty, log-whole, reads-back}
+use Rattle.journal.proofs.Logs.{movedOn, log-end, log-faulty, log-whole, reads-back}
 
 -- reading goes on behind the piece
 abbrev pub goesOn : Log → Bool
@@ -98,16 +98,56 @@ module _ (t : List ℕ) where
   pub log-stops : (s : List ℕ) (at : ℕ) → goesOn (logFrom at s) ≡ false → logFrom at (s ++ t) ≡ logFrom at s
   log-stops s at g = stops (suc (length s)) s at (omega arith) g
 
--- A fault that a piece has where the log goes on, it has where the log ends.
-pub fault-kept : (last : Bool) (o : Option Fault) (f : Fault) → faultIf last o ≡ some f → o ≡ some f
+-- ---- which fault counts
+pub none-counts : (last : Bool) → faultIf last none ≡ none
 unfolding faultIf
-fault-kept last none f given = some-none (sym given)
-fault-kept true (some g) f given = given
-fault-kept false (some g) f given = go (eqb (g .number) logCut) given
+none-counts last = refl
+
+-- where the log ends, any
+pub end-counts : (o : Option Fault) → faultIf true o ≡ o
+unfolding faultIf
+end-counts none = refl
+end-counts (some f) = refl
+
+-- where it goes on, any but that a record is cut
+pub cut-passes : (f : Fault) → f .number ≡ logCut → faultIf false (some f) ≡ none
+unfolding faultIf
+cut-passes f e = rw (eq-eqb (f .number) logCut e)
+
+pub other-counts : (f : Fault) → (f .number ≡ logCut → ⊥) → faultIf false (some f) ≡ some f
+unfolding faultIf
+other-counts f ne = rw (ne-eqb (f .number) logCut ne)
+
+-- A fault that counts is one of the bytes.
+pub fault-kept : (last : Bool) (o : Option Fault) (f : Fault) → faultIf last o ≡ some f → o ≡ some f
+fault-kept last none f given = some-none (sym given ∙ none-counts last)
+fault-kept true (some g) f given = sym (end-counts (some g)) ∙ given
+fault-kept false (some g) f given = go (eqb (g .number) logCut) refl
   where
-    go : (cut : Bool) → cond cut none (some g) ≡ some f → _≡_ {A = Option Fault} (some g) (some f)
-    go true e = some-none (sym e)
-    go false e = e
+    go : (b : Bool) → eqb (g .number) logCut ≡ b → some g ≡ some f
+    go true e = some-none (sym given ∙ cut-passes g (eqb-true (g .number) logCut e))
+    go false e = sym (other-counts g (eqb-false (g .number) logCut e)) ∙ given
+
+-- One that counts where the log goes on counts where it ends.
+pub fault-still : (last : Bool) (o : Option Fault) → isSound (faultIf false o) ≡ false → faultIf last o ≡ faultIf false o
+fault-still last none e = none-counts last ∙ sym (none-counts false)
+fault-still false (some f) e = refl
+fault-still true (some f) e = go (eqb (f .number) logCut) refl
+  where
+    go : (b : Bool) → eqb (f .number) logCut ≡ b → faultIf true (some f) ≡ faultIf false (some f)
+    go true g = absurd (true≢false (ap isSound (sym (cut-passes f (eqb-true (f .number) logCut g))) ∙ e))
+    go false g = end-counts (some f) ∙ sym (other-counts f (eqb-false (f .number) logCut g))
+
+-- It doesn't matter at which place the bytes stand.
+pub fault-moved : (last : Bool) (k : ℕ) (o : Option Fault) → faultIf last (movedOn k o) ≡ movedOn k (faultIf last o)
+unfolding faultIf
+fault-moved last k none = refl
+fault-moved true k (some f) = refl
+fault-moved false k (some f) = go (eqb (f .number) logCut) refl
+  where
+    go : (b : Bool) → eqb (f .number) logCut ≡ b → faultIf false (some (faultAt k f)) ≡ movedOn k (faultIf false (some f))
+    go true e = rw e
+    go false e = rw e
 
 -- ---- one piece after the other
 over : (pieces : List (List ℕ)) (at : ℕ) (kept : List ℕ) → readOver at kept pieces ≡ logFrom at (kept ++ concatenated pieces)

@@ -16,7 +16,7 @@ use Rattle.journal.specs.Reading.{Entry, entry, writtenLog, Log, logOf}
 use Rattle.journal.proofs.Logs.{reads-back}
 use Rattle.replay.specs.Replay.{Replay, readyTable, replayOf}
 use Rattle.replay.specs.Day.{Call, Take, tableBy, tableAfter, loggedIn, dayLog, Replayer, Restores}
-use Rattle.replay.specs.Useless.{forgetful, joinsOf, leftBy, joining, unmaskedOf, unmasking, brief, blaming}
+use Rattle.replay.specs.Useless.{forgetful, joinsOf, tableOfAll, joining, unmaskedOf, unmasking, brief, blaming}
 use Rattle.replay.proofs.Days.{logged-first, after-first, no-call, accepted-logged, day-loggable}
 use Rattle.replay.proofs.Records.{replay-first}
 use Rattle.replay.proofs.Examples.{opening, later, quitting, masking, opening-command, quitting-command, masking-command, step, holding, opening-first, later-first, quitting-then, firstCount, stored-count, masking-then, firstTime, empty-time, stored-time, incoming-time, opening-then}
@@ -105,12 +105,12 @@ read-day : (cs : List Call) (es : List Entry) → loggedIn readyTable cs ≡ es 
 read-day cs es is = reads-back es (rw is at (day-loggable readyTable cs))
 
 -- one record, and nothing behind it: the table is the one that it leaves
-one-record : (l : List ℕ) → step readyTable l .number ≡ accepted → leftBy (entry 3 l ∷ []) ≡ step readyTable l .table
+one-record : (l : List ℕ) → step readyTable l .number ≡ accepted → tableOfAll (entry 3 l ∷ []) ≡ step readyTable l .table
 unfolding replayOf
 one-record l n = ap (λ (r : Replay). r .table) (replay-first readyTable 0 (entry 3 l) [] none n)
 
 -- so it is with `opening`
-opening-left : leftBy (entry 3 opening ∷ []) ≡ holding stored
+opening-left : tableOfAll (entry 3 opening ∷ []) ≡ holding stored
 opening-left = one-record opening (opening-first .0) ∙ opening-first .1
 
 -- ---- forgetful
@@ -130,8 +130,8 @@ visit-joins = rw (opening-command, quitting-command)
 
 joining-table : joining (writtenLog (entry 3 opening ∷ entry 3 quitting ∷ [])) .table ≡ holding stored
 joining-table =
-    ap (λ (l : Log). leftBy (joinsOf (l .entries))) (read-day visit _ visit-logged)
-    ∙ ap leftBy visit-joins
+    ap (λ (l : Log). tableOfAll (joinsOf (l .entries))) (read-day visit _ visit-logged)
+    ∙ ap tableOfAll visit-joins
     ∙ opening-left
 
 -- after an SJOIN and a QUIT of its one user it leaves the channel
@@ -152,8 +152,8 @@ banning-unmasked = rw (opening-command, masking-command)
 
 unmasking-table : unmasking (writtenLog (entry 3 opening ∷ entry 3 masking ∷ [])) .table ≡ holding stored
 unmasking-table =
-    ap (λ (l : Log). leftBy (unmaskedOf (l .entries))) (read-day banning _ banning-logged)
-    ∙ ap leftBy banning-unmasked
+    ap (λ (l : Log). tableOfAll (unmaskedOf (l .entries))) (read-day banning _ banning-logged)
+    ∙ ap tableOfAll banning-unmasked
     ∙ opening-left
 
 -- after an SJOIN and a BMASK for its channel it leaves the list without masks
@@ -170,7 +170,7 @@ unmasking-fails = fails unmasking banning (entry 3 opening ∷ entry 3 masking �
 -- ---- brief
 brief-table : brief (writtenLog (entry 3 later ∷ entry 3 opening ∷ [])) .table ≡ holding incoming
 brief-table =
-    ap (λ (l : Log). leftBy (take 1 (l .entries))) (read-day meeting _ meeting-logged) ∙ one-record later (later-first .0) ∙ later-first .1
+    ap (λ (l : Log). tableOfAll (take 1 (l .entries))) (read-day meeting _ meeting-logged) ∙ one-record later (later-first .0) ∙ later-first .1
 
 -- after two SJOINs, of which the second has the earlier time, it leaves the later one
 pub brief-log : Fails brief meeting (entry 3 later ∷ entry 3 opening ∷ [])

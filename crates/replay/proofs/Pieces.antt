@@ -9,42 +9,26 @@ use native.Mathlib.Omega.{arith}
 use lib.ListN.{length, drop}
 use lib.Dec.{eqb}
 use borrow.Author.Tests.{eq-eqb, ne-eqb, eqb-true, eqb-false}
-use Rattle.refusal.specs.Numbers.{accepted, logCut}
+use Rattle.refusal.specs.Numbers.{accepted}
 use Rattle.laws.specs.Joins.{concatenated}
 use Rattle.table.specs.Network.{Table}
-use Rattle.journal.specs.Reading.{Entry, sizeOfAll, Fault, faultAt, Log, logFrom, recordLimit}
+use Rattle.journal.specs.Reading.{Entry, sizeOfAll, Fault, Log, logFrom, recordLimit}
 use Rattle.journal.specs.Pieces.{faultIf, isSound}
 use Rattle.journal.proofs.Checks.{listed-number}
-use Rattle.journal.proofs.Logs.{movedOn, log-moved, log-listed, records-within, fault-within}
-use Rattle.journal.proofs.Pieces.{goesOn, log-continues, log-stops, fault-kept, left-few}
+use Rattle.journal.proofs.Logs.{log-moved, log-listed, records-within, fault-within}
+use Rattle.journal.proofs.Pieces.{goesOn, log-continues, log-stops, end-counts, fault-kept, fault-still, fault-moved, left-few}
 use Rattle.replay.specs.Replay.{Replay, readyTable, replayOf, replayed, replayFrom, replayAnswer}
 use Rattle.replay.specs.Pieces.{Replaying, placedAt, replayOver}
 use Rattle.replay.proofs.Records.{replay-joined, replay-used, replay-fault, Numbered, replay-moved, replay-within}
 
 -- ---- from another place on
 -- the faults of a log have numbers, those that count where it goes on too
-numbered-if : (last : Bool) (o : Option Fault) → ((f : Fault) → o ≡ some f → f .number ≡ accepted → ⊥) → Numbered (faultIf last o)
-unfolding faultIf
-numbered-if last none h = tt
-numbered-if true (some f) h = h f refl
-numbered-if false (some f) h = go (eqb (f .number) logCut) refl
-  where
-    go : (b : Bool) → eqb (f .number) logCut ≡ b → Numbered (cond (eqb (f .number) logCut) none (some f))
-    go true e = rw e tt
-    go false e = rw e (h f refl)
-
 log-numbered : (last : Bool) (at : ℕ) (s : List ℕ) → Numbered (faultIf last (logFrom at s .fault))
-log-numbered last at s = numbered-if last (logFrom at s .fault) (λ f e. listed-number (f .number) (log-listed at s f e))
-
-moved-if : (last : Bool) (k : ℕ) (o : Option Fault) → faultIf last (movedOn k o) ≡ movedOn k (faultIf last o)
-unfolding faultIf
-moved-if last k none = refl
-moved-if true k (some f) = refl
-moved-if false k (some f) = go (eqb (f .number) logCut) refl
+log-numbered last at s = go (faultIf last (logFrom at s .fault)) refl
   where
-    go : (b : Bool) → eqb (f .number) logCut ≡ b → cond (eqb (f .number) logCut) none (some (faultAt k f)) ≡ movedOn k (cond (eqb (f .number) logCut) none (some f))
-    go true e = rw e
-    go false e = rw e
+    go : (o : Option Fault) → faultIf last (logFrom at s .fault) ≡ o → Numbered o
+    go none e = tt
+    go (some f) e = listed-number (f .number) (log-listed at s f (fault-kept last (logFrom at s .fault) f e))
 
 -- So the answer to a piece is what the log comes to there, once the place of the piece is added.
 pub answer-placed : (last : Bool) (t : Table) (at : ℕ) (s : List ℕ) → placedAt at (replayAnswer t s last) ≡ replayFrom last t at s
@@ -52,7 +36,7 @@ unfolding replayAnswer
 answer-placed last t at s =
     let z : at + 0 ≡ at = omega arith in
     sym (replay-moved at (logFrom 0 s .entries) (faultIf last (logFrom 0 s .fault)) t 0 (log-numbered last 0 s))
-    ∙ ap (λ (o : Option Fault). replayOf t (at + 0) (logFrom 0 s .entries) o) (sym (moved-if last at (logFrom 0 s .fault)))
+    ∙ ap (λ (o : Option Fault). replayOf t (at + 0) (logFrom 0 s .entries) o) (sym (fault-moved last at (logFrom 0 s .fault)))
     ∙ ap (λ (l : Log). replayOf t (at + 0) (l .entries) (faultIf last (l .fault))) (sym (log-moved at 0 s))
     ∙ ap (λ (k : ℕ). replayFrom last t k s) z
 
@@ -60,17 +44,6 @@ answer-placed last t at s =
 is-sound : (o : Option Fault) → isSound o ≡ true → o ≡ none
 is-sound none e = refl
 is-sound (some f) e = absurd (true≢false (sym e))
-
--- a fault that counts where the log goes on counts where it ends
-still-fault : (last : Bool) (o : Option Fault) → isSound (faultIf false o) ≡ false → faultIf last o ≡ faultIf false o
-unfolding faultIf
-still-fault last none e = absurd (true≢false e)
-still-fault true (some f) e = go (eqb (f .number) logCut) refl
-  where
-    go : (b : Bool) → eqb (f .number) logCut ≡ b → some f ≡ cond (eqb (f .number) logCut) none (some f)
-    go true g = absurd (true≢false (rw g at e))
-    go false g = rw g
-still-fault false (some f) e = refl
 
 module _ (t : Table) (at : ℕ) (s : List ℕ) where
   abbrev piece : Replay
@@ -120,7 +93,7 @@ module _ (t : Table) (at : ℕ) (s : List ℕ) where
         go true g = log-is g ∙ rw (ne-eqb (piece .number) accepted ne)
         go false g =
             ap (λ (l : Log). replayOf t at (l .entries) (faultIf last (l .fault))) (log-stops more s at g)
-            ∙ ap (replayOf t at entries) (still-fault last (logFrom at s .fault) g)
+            ∙ ap (replayOf t at entries) (fault-still last (logFrom at s .fault) g)
 
 -- ---- how far an answer reaches
 -- The bytes used, and the place of what ended it, lie within the piece.
@@ -189,16 +162,10 @@ over (p ∷ pieces) t at kept = go (eqb (r .number) accepted) refl (over pieces)
         ∙ placed
         ∙ sym (piece-stops t at s true (concatenated pieces) (λ z. eqb-false (r .number) accepted e (ap (λ (x : Replay). x .number) placed ∙ z)))
 
--- what counts of a fault where the log ends is the fault
-ends-fault : (o : Option Fault) → faultIf true o ≡ o
-unfolding faultIf
-ends-fault none = refl
-ends-fault (some f) = refl
-
 -- One call with the whole log, with which it ends, answers the replay of the log.
 pub answer-whole : (log : List ℕ) → replayAnswer readyTable log true ≡ replayed log
 unfolding replayAnswer
-answer-whole log = ap (replayOf readyTable 0 (logFrom 0 log .entries)) (ends-fault (logFrom 0 log .fault))
+answer-whole log = ap (replayOf readyTable 0 (logFrom 0 log .entries)) (end-counts (logFrom 0 log .fault))
 
 -- Whatever the cuts, the calls with the pieces come to the replay of the log.
 pub replay-over : (pieces : List (List ℕ)) → replayOver replayAnswer readyTable 0 [] pieces ≡ replayed (concatenated pieces)

@@ -8,6 +8,7 @@ use mathlib.Core.Option.{Option, some, none}
 use lib.ListN.{drop}
 use lib.Seq.{drop-drop}
 use lib.Dec.{eqb}
+use borrow.Author.Tests.{eqb-true, eqb-false}
 use Rattle.refusal.specs.Numbers.{accepted, logCut}
 use Rattle.message.specs.Grammar.{lineLimit}
 use Rattle.table.specs.Network.{Table, headOf}
@@ -19,6 +20,7 @@ use Rattle.journal.specs.declared.RecordRead.{RecordRead}
 use Rattle.journal.specs.Reading.{Entry, sizeOf, Fault, End, Whole, Faulty, found, Log, faultAt, logFrom, missingFor}
 use Rattle.journal.specs.Pieces.{faultIf}
 use Rattle.journal.proofs.Logs.{log-end, log-faulty, log-whole}
+use Rattle.journal.proofs.Pieces.{none-counts, end-counts, cut-passes, other-counts}
 use Rattle.journal.proofs.Told.{ReadsWhole, ReadsNone, AtEnd, AtFault}
 use Rattle.replay.specs.Replay.{Replay, taking, ended, stopped, replayOf, replayFrom, replayedOf}
 use Rattle.replay.specs.Private.Stopping.{stoppedBy}
@@ -49,8 +51,8 @@ module _ (last : Bool) (t : Table) (at : ℕ) (s : List ℕ) where
 
   -- no record: the end, or a fault
   step-end : found s ≡ End → replayFrom last t at s ≡ ended t at none
-  unfolding replayOf faultIf
-  step-end is = ap comesTo (log-end at s is)
+  unfolding replayOf
+  step-end is = ap comesTo (log-end at s is) ∙ ap (ended t at) (none-counts last)
 
   step-fault : (f : Fault) → found s ≡ Faulty f → replayFrom last t at s ≡ ended t at (faultIf last (some (faultAt at f)))
   unfolding replayOf
@@ -70,14 +72,13 @@ goes-on log last t at r w passes =
 -- None is: that is the end, or the fault, as `stopped` has it, and the ban lists stay.
 module _ (t : Table) (at : ℕ) where
   stops-fault : (last : Bool) (f : Fault) → stoppedBy (headOf t) at (missingFor (f .number) (f .place)) last ≡ replayedOf (ended t at (faultIf last (some f)))
-  unfolding faultIf
-  stops-fault true f = refl
+  stops-fault true f = rw (end-counts (some f))
   stops-fault false f = go (eqb (f .number) logCut) refl
     where
       go : (b : Bool) → eqb (f .number) logCut ≡ b
           → stoppedBy (headOf t) at (missingFor (f .number) (f .place)) false ≡ replayedOf (ended t at (faultIf false (some f)))
-      go true q = rw q
-      go false q = rw q
+      go true q = rw (q, cut-passes f (eqb-true (f .number) logCut q))
+      go false q = rw (q, other-counts f (eqb-false (f .number) logCut q))
 
   bans-stay : (o : Option Fault) → t .bans ≡ ended t at o .table .bans
   bans-stay none = refl

@@ -28,12 +28,12 @@ joinsOf [] = []
 joinsOf (e ∷ es) = cond (same (map capital (contentOf (e .line) .command)) sjoin) (e ∷ joinsOf es) (joinsOf es)
 
 -- the table that some records leave
-abbrev pub leftBy : List Entry → Table
-leftBy es = replayOf readyTable 0 es none .table
+abbrev pub tableOfAll : List Entry → Table
+tableOfAll es = replayOf readyTable 0 es none .table
 
 -- answers the table that the SJOINs alone leave, and else as ours does
 abbrev pub joining : Replayer
-joining log = withTable (replayed log) (leftBy (joinsOf (logOf log .entries)))
+joining log = withTable (replayed log) (tableOfAll (joinsOf (logOf log .entries)))
 
 -- the records that are no BMASKs, in any case of letters
 unfoldable pub unmaskedOf : List Entry → List Entry
@@ -42,11 +42,11 @@ unmaskedOf (e ∷ es) = cond (not (same (map capital (contentOf (e .line) .comma
 
 -- answers the table that all but the BMASKs leave, and else as ours does
 abbrev pub unmasking : Replayer
-unmasking log = withTable (replayed log) (leftBy (unmaskedOf (logOf log .entries)))
+unmasking log = withTable (replayed log) (tableOfAll (unmaskedOf (logOf log .entries)))
 
 -- answers the table that the first record leaves, and else as ours does
 abbrev pub brief : Replayer
-brief log = withTable (replayed log) (leftBy (take 1 (logOf log .entries)))
+brief log = withTable (replayed log) (tableOfAll (take 1 (logOf log .entries)))
 
 -- answers our table, and always a number
 abbrev pub blaming : Replayer
