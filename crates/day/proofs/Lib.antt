@@ -1,4 +1,3 @@
--- Laws of a replay in pieces and of what is printed, for the functions of this crate, and an example.
-mod Pieces
+-- Laws of what is printed, for the functions of this crate, and an example.
 mod Printed
 mod Examples

@@ -141,6 +141,15 @@ pub reads-back : (es : List Entry) → AllLoggable es → logOf (writtenLog es) 
 reads-back es h =
     ap logOf (sym (append-nil (writtenLog es))) ∙ log-written es [] 0 h ∙ rw (log-nil (0 + sizeOfAll es)) (ap (λ (l : List Entry). record { entries = l; fault = none }) (append-nil es))
 
+-- the records of some lines, and of others behind them
+pub written-joined : (es fs : List Entry) → writtenLog (es ++ fs) ≡ writtenLog es ++ writtenLog fs
+written-joined [] fs = refl
+written-joined (e ∷ es) fs = ap (λ (l : List ℕ). bytesOf e ++ l) (written-joined es fs) ∙ sym (append-assoc (bytesOf e) (writtenLog es) (writtenLog fs))
+
+pub loggable-joined : (es fs : List Entry) → AllLoggable es → AllLoggable fs → AllLoggable (es ++ fs)
+loggable-joined [] fs h k = k
+loggable-joined (e ∷ es) fs h k = (h .0, loggable-joined es fs (h .1) k)
+
 -- as many bytes as their sizes come to
 pub written-size : (es : List Entry) → length (writtenLog es) ≡ sizeOfAll es
 unfolding sizeOfAll

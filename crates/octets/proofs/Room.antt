@@ -6,7 +6,7 @@ use Prim.Native.Nat.{ℕ, suc, _+_, _-_, _≤_, _<_}
 use native.Mathlib.Nat.{zero-add}
 use native.Mathlib.Omega.{arith}
 use lib.ListN.{length, take, drop, getD, replicate, length-append, length-take, length-drop, length-replicate, getD-replicate, take-append-drop, drop-of-length-le}
-use lib.Seq.{take-append-seam, take-add, drop-append-add, drop-drop, drop-at, take-at, take-all, length-take-le, getD-append-add, getD-drop}
+use lib.Seq.{take-append-seam, take-append-le, drop-append-le, take-add, drop-append-add, drop-drop, drop-at, take-at, take-all, length-take-le, getD-append-add, getD-drop}
 use borrow.Author.Tests.{le-leb, leb-true, leb-false, lt-leb}
 use Rattle.laws.specs.Lists.{padded}
 use Rattle.octets.specs.Room.{part, fits, putAt, endOf, front}
@@ -187,6 +187,18 @@ module _ (empty line : List ℕ) (r : ℕ) (w : List ℕ) (adds : Adds empty 0 l
 -- what was put at the front stands there
 pub at-front : (out next : List ℕ) (n : ℕ) (w : List ℕ) → n ≡ length w → next ≡ front w out → AtFront next n w
 at-front out next n w e f = record { counts = e; begins = rw (e, f) (take-append-seam w (drop (length w) out)) }
+
+-- the rest of it, from a place on
+pub rest-of : (buffer s : List ℕ) (n k : ℕ) → AtFront buffer n s → k ≤ length s → part buffer k n ≡ drop k s
+rest-of buffer s n k f h =
+    let whole : buffer ≡ s ++ drop n buffer = sym (take-append-drop n buffer) ∙ ap (λ (l : List ℕ). l ++ drop n buffer) (f .begins) in
+    let end : n ≡ k + (n - k) = omega (arith, f .counts) in
+    ap (part buffer k) end
+    ∙ part-next buffer k (n - k)
+    ∙ ap (λ (l : List ℕ). take (n - k) (drop k l)) whole
+    ∙ ap (take (n - k)) (drop-append-le k s (drop n buffer) h)
+    ∙ take-append-le (n - k) (drop k s) (drop n buffer) (omega (arith, f .counts, length-drop k s))
+    ∙ take-all (n - k) (drop k s) (omega (arith, f .counts, length-drop k s))
 
 -- ---- a loop that puts part after part
 -- What was added, with what is still to be put, comes to the goal.

@@ -110,6 +110,12 @@ records-replayed t (c ∷ cs) at = go (logs t c) (records-replayed (tableBy t c)
         ∙ ap (λ (m : ℕ). record { table = ready (tableAfter t (c ∷ cs)); used = m; number = accepted; place = 0 }) {x = at + sizeOf e + sizeOfAll rest} {y = at + (sizeOf e + sizeOfAll rest)} (omega arith))
     go (Unlogged is stays) ih = rw is (ap (λ (x : Network). replayOf (tableOf x allLinks) at (loggedIn (tableBy t c) cs) none) (sym stays) ∙ ih at)
 
+-- so they are, wherever they stand, and the network after the day is left
+pub records-taken : (t : Table) (cs : List Call) (at : ℕ)
+    → (replayOf (tableOf (networkOf t) allLinks) at (loggedIn t cs) none .number ≡ accepted)
+    × (replayOf (tableOf (networkOf t) allLinks) at (loggedIn t cs) none .table ≡ tableOf (networkOf (tableAfter t cs)) allLinks)
+records-taken t cs at = (ap (λ (r : Replay). r .number) (records-replayed t cs at), ap (λ (r : Replay). r .table) (records-replayed t cs at))
+
 -- ---- the log of a day
 -- The log of any day that began with free slots, whatever its links: all of it is taken, and the table has the network after the day, and all links.
 pub day-replayed : (t : Table) (cs : List Call) → networkOf t ≡ emptyNetwork

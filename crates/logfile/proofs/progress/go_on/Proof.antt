@@ -8,17 +8,17 @@ use native.Mathlib.Omega.{arith}
 use lib.ListN.{length, drop, length-append, length-take}
 use borrow.Author.Needs.{needs}
 use Rattle.laws.proofs.Lists.{unmapped}
-use Rattle.octets.proofs.Room.{part-front, added, added-front}
+use Rattle.octets.proofs.Room.{part-front, rest-of, added, added-front}
 use Rattle.table.specs.Network.{Table, tableWith}
 use Rattle.journal.specs.Reading.{recordLimit}
 use Rattle.replay.specs.declared.Replayed.{Replayed}
 use Rattle.replay.specs.Replay.{replayAnswer, replayedOf}
 use Rattle.replay.proofs.Pieces.{answer-within, answer-left}
-use Rattle.day.specs.declared.progress.Progress.{Progress}
-use Rattle.day.specs.Progress.{room, leftIn}
-use Rattle.day.proofs.Pieces.{rest-of, piece-ends, piece-left}
-use Rattle.day.proofs.progress.go_on.Statement.{statement}
-use Rattle.day.proofs.progress.go_on.Tie as tie
+use Rattle.logfile.specs.declared.progress.Progress.{Progress}
+use Rattle.logfile.specs.Private.Progress.{room, leftIn}
+use Rattle.logfile.proofs.Pieces.{piece-ends, piece-left}
+use Rattle.logfile.proofs.progress.go_on.Statement.{statement}
+use Rattle.logfile.proofs.progress.go_on.Tie as tie
 
 -- the room for what is left
 size : (c : tie.Start) → length (c .args .c .left) ≡ recordLimit

@@ -13,11 +13,11 @@ use Rattle.journal.specs.Reading.{recordLimit}
 use Rattle.replay.specs.declared.Replayed.{Replayed}
 use Rattle.replay.specs.Replay.{replayAnswer, replayedOf}
 use Rattle.replay.proofs.Pieces.{answer-within}
-use Rattle.day.specs.declared.progress.Progress.{Progress}
-use Rattle.day.specs.Progress.{room, leftIn}
-use Rattle.day.proofs.Pieces.{log-ends}
-use Rattle.day.proofs.progress.close.Statement.{statement}
-use Rattle.day.proofs.progress.close.Tie as tie
+use Rattle.logfile.specs.declared.progress.Progress.{Progress}
+use Rattle.logfile.specs.Private.Progress.{room, leftIn}
+use Rattle.logfile.proofs.Pieces.{log-ends}
+use Rattle.logfile.proofs.progress.close.Statement.{statement}
+use Rattle.logfile.proofs.progress.close.Tie as tie
 
 slice-aggregate-part : tie.Need-slice-aggregate-part
 slice-aggregate-part c = search needs

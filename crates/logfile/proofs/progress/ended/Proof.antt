@@ -1,7 +1,7 @@
 -- `ended` meets its contract: it is that struct, once the place is known. Assumes nothing.
 use borrow.Author.Needs.{needs}
-use Rattle.day.proofs.progress.ended.Statement.{statement}
-use Rattle.day.proofs.progress.ended.Tie as tie
+use Rattle.logfile.proofs.progress.ended.Statement.{statement}
+use Rattle.logfile.proofs.progress.ended.Tie as tie
 
 add-t6 : tie.Need-add-t6
 add-t6 c = search needs

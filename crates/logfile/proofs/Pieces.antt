@@ -1,36 +1,19 @@
 -- Laws of a replay in pieces, for the functions that take it further: from its beginning it comes to the replay of the pieces joined, a piece leaves what it comes to
 -- as it is, and so does the log's end. Assumes nothing.
-use Prim.Native.Nat.{ℕ, _+_, _-_, _≤_}
+use Prim.Native.Nat.{ℕ, _+_, _≤_}
 use mathlib.Core.Path.{_≡_, refl, sym, ap, ap₂, _∙_}
 use mathlib.Core.Bool.{true, false}
 use mathlib.Core.List.{List, [], _∷_, _++_}
 use native.Mathlib.Omega.{arith}
-use lib.ListN.{length, take, drop, length-drop, take-append-drop}
-use lib.Seq.{take-append-le, drop-append-le, take-all}
+use lib.ListN.{length, take, drop}
 use Rattle.refusal.specs.Numbers.{accepted}
-use Rattle.octets.specs.Room.{part}
-use Rattle.octets.specs.Private.Additions.{AtFront}
-use Rattle.octets.proofs.Room.{part-next}
 use Rattle.table.specs.Network.{Table, tableWith}
 use Rattle.replay.specs.declared.Replayed.{Replayed}
 use Rattle.replay.specs.Replay.{Replay, readyTable, replayAnswer, replayedOf}
 use Rattle.replay.specs.Pieces.{placedAt, replayOver}
 use Rattle.replay.proofs.Pieces.{answer-within, over-goes-on, over-stops, over-ends, replay-over}
-use Rattle.day.specs.declared.progress.Progress.{Progress}
-use Rattle.day.specs.Progress.{room, leftIn, comesTo, endedAt, Begins, GoesOn, Closes}
-
--- ---- the bytes at the front of a buffer
--- those from a place on
-pub rest-of : (buffer s : List ℕ) (n k : ℕ) → AtFront buffer n s → k ≤ length s → part buffer k n ≡ drop k s
-rest-of buffer s n k front h =
-    let whole : buffer ≡ s ++ drop n buffer = sym (take-append-drop n buffer) ∙ ap (λ (l : List ℕ). l ++ drop n buffer) (front .begins) in
-    let end : n ≡ k + (n - k) = omega (arith, front .counts) in
-    ap (part buffer k) end
-    ∙ part-next buffer k (n - k)
-    ∙ ap (λ (l : List ℕ). take (n - k) (drop k l)) whole
-    ∙ ap (take (n - k)) (drop-append-le k s (drop n buffer) h)
-    ∙ take-append-le (n - k) (drop k s) (drop n buffer) (omega (arith, front .counts, length-drop k s))
-    ∙ take-all (n - k) (drop k s) (omega (arith, front .counts, length-drop k s))
+use Rattle.logfile.specs.declared.progress.Progress.{Progress}
+use Rattle.logfile.specs.Private.Progress.{room, leftIn, comesTo, endedAt, Begins, GoesOn, Closes}
 
 -- ---- what it comes to
 -- where more is to come, and where it isn't

@@ -2,9 +2,9 @@
 use mathlib.Core.Path.{refl, ap₂}
 use borrow.Author.Needs.{needs}
 use Rattle.table.specs.Network.{tableWith}
-use Rattle.day.proofs.Pieces.{begins}
-use Rattle.day.proofs.progress.Progress.begin.Statement.{statement}
-use Rattle.day.proofs.progress.Progress.begin.Tie as tie
+use Rattle.logfile.proofs.Pieces.{begins}
+use Rattle.logfile.proofs.progress.Progress.begin.Statement.{statement}
+use Rattle.logfile.proofs.progress.Progress.begin.Tie as tie
 
 start-requires : tie.Need-start-requires
 start-requires c κs = search needs

@@ -1,8 +1,8 @@
 -- How far the replay of a log has got that is read piece by piece.
 use Prim.Native.Nat.{ℕ, _+_, _≤_}
 use mathlib.Core.Path.{_≡_}
-use mathlib.Core.Bool.{true, false, cond}
-use mathlib.Core.List.{List, [], _∷_}
+use mathlib.Core.Bool.{Bool, true, false, cond}
+use mathlib.Core.List.{List, [], _∷_, _++_}
 use lib.ListN.{take, replicate}
 use lib.Dec.{eqb}
 use Rattle.refusal.specs.Numbers.{accepted}
@@ -12,7 +12,8 @@ use Rattle.table.specs.Network.{tableWith}
 use Rattle.replay.specs.Replay.{Replay, replayed, replayAnswer}
 use Rattle.replay.specs.Pieces.{replayOver}
 use Rattle.laws.specs.Joins.{concatenated}
-use Rattle.day.specs.declared.progress.Progress.{Progress}
+use Rattle.logfile.specs.declared.FileReplay.{FileReplay}
+use Rattle.logfile.specs.declared.progress.Progress.{Progress}
 
 -- the most bytes of a piece, and of one with what is left of the piece before
 abbrev pub pieceLimit : ℕ
@@ -67,3 +68,13 @@ pub record Closes (c : Progress) (bans : List ℕ) (next : Progress) (after : Li
   pub near : next .at ≤ c .at + room
   pub ended : next .more ≡ false
   pub same : (pieces : List (List ℕ)) → comesTo next after pieces ≡ comesTo c bans []
+
+-- Some bytes have been read: whatever comes behind them, it comes to the replay of all; where nothing more is to come, it has come to theirs, unless reading failed.
+pub record ReadSoFar (c : Progress) (bans : List ℕ) : Type 0 where
+  pub log : List ℕ
+  pub going : c .more ≡ true → (pieces : List (List ℕ)) → comesTo c bans pieces ≡ replayed (log ++ concatenated pieces)
+  pub ended : c .more ≡ false → c .failed ≡ false → comesTo c bans [] ≡ replayed log
+
+-- what it has come to, and whether that is no answer
+abbrev pub answerOf : Progress → Bool → FileReplay
+answerOf c failed = record { head = c .head; used = c .at; number = c .number; place = c .place; failed = failed }

@@ -6,9 +6,9 @@ use borrow.Author.Needs.{needs}
 use Rattle.octets.proofs.Room.{part-front, added, adds-then, added-at-front}
 use Rattle.laws.proofs.Lists.{unmapped}
 use Rattle.journal.specs.Reading.{recordLimit}
-use Rattle.day.specs.Progress.{leftIn}
-use Rattle.day.proofs.progress.put_bytes.Statement.{statement}
-use Rattle.day.proofs.progress.put_bytes.Tie as tie
+use Rattle.logfile.specs.Private.Progress.{leftIn}
+use Rattle.logfile.proofs.progress.put_bytes.Statement.{statement}
+use Rattle.logfile.proofs.progress.put_bytes.Tie as tie
 
 -- the room for what is left
 size : (c : tie.Start) → length (c .args .c .left) ≡ recordLimit

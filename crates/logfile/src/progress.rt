@@ -7,7 +7,7 @@ ghost use lib.ListN.{length};
 ghost use lib.Dec.{eqb};
 ghost use Rattle.refusal.specs.Numbers.{accepted};
 ghost use Rattle.octets.specs.Private.Additions.{AtFront};
-ghost use Rattle.day.specs.Progress.{pieceLimit, room, placeLimit, leftIn, endedAt, Begins, GoesOn, Closes};
+ghost use Rattle.logfile.specs.Private.Progress.{pieceLimit, room, placeLimit, leftIn, endedAt, Begins, GoesOn, Closes};
 use bans::BanList;
 use journal::RECORD_LIMIT;
 use octets::part;

@@ -2,8 +2,8 @@
 use borrow.Author.Tests.{eq-eqb, ne-eqb}
 use borrow.Author.Needs.{needs}
 use Rattle.refusal.specs.Numbers.{accepted}
-use Rattle.day.proofs.progress.place_in.Statement.{statement}
-use Rattle.day.proofs.progress.place_in.Tie as tie
+use Rattle.logfile.proofs.progress.place_in.Statement.{statement}
+use Rattle.logfile.proofs.progress.place_in.Tie as tie
 
 returns : tie.Need-returns
 returns c = rw (eq-eqb (c .before .args .number) accepted (c .if1 .taken))
