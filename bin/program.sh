@@ -7,6 +7,7 @@
 root=$(dirname "$(dirname "$(readlink -f "$0")")")
 program=$root/target/bin/$crate
 stamp=$root/target/stamp/$crate
+held=
 
 # Says why it ends, and ends.
 fail() { # STATUS WORDS...
@@ -98,10 +99,24 @@ build() {
     trap - HUP INT QUIT TERM
 }
 
+# Takes a file for one program at a time, or says that another has it. The program keeps the lock, so that it holds until that is gone, whatever becomes of this. That
+# the file can't be opened is the program's to say.
+lock() { # FILE
+    command -v flock >/dev/null || fail 127 "flock is missing, which keeps two programs from one file: README.md, 'What it needs'"
+    { exec {held}<>"$1"; } 2>/dev/null || return 0
+    flock -n "$held"
+    case $? in
+    0) ;;
+    1) fail 1 "$1: another $name has it" ;;
+    *) fail 1 "$1: can't be locked" ;;
+    esac
+}
+
 # Passes on what the program says on standard error, and answers 1 where it says why it failed. It ends with the program, whatever signals come.
 watch() {
     local line status=0
     trap '' HUP INT QUIT TERM
+    [ -z "$held" ] || exec {held}>&-
     while IFS= read -r line || [ -n "$line" ]; do
         printf '%s\n' "$line"
         case $line in "$name: "*) status=1 ;; esac
@@ -119,10 +134,10 @@ pass() { # SIGNAL
     esac 2>/dev/null
 }
 
-# Runs the program, and ends as it did. A reader that goes away is a failure like any other that keeps an answer from being written.
+# Runs the program, and ends as it did. A reader that goes away, and a limit on the size of files, are failures like any other that keeps the program from writing.
 run() { # [ARGUMENT...]
     local said watcher child='' passed='' status signal
-    trap '' PIPE
+    trap '' PIPE XFSZ
     for signal in HUP INT QUIT TERM; do
         # shellcheck disable=SC2064
         trap "pass $signal" "$signal"
@@ -150,11 +165,10 @@ version() {
     exit 0
 }
 
-# Starts the program, with its arguments.
-start() { # [ARGUMENT...]
+# Sees to it that standard input and output are open, and that the program is built.
+prepare() {
     [ -e /dev/fd/0 ] || fail 1 'standard input is closed'
     [ -e /dev/fd/1 ] || fail 1 'standard output is closed'
     is_built || build
     exec 9<&-
-    run "$@"
 }

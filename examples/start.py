@@ -50,6 +50,28 @@ cat
 [ -z "${SAYS-}" ] || echo "$SAYS" >&2
 """
 
+# Says its number, and goes on until its input ends.
+HOLDS = """#!/bin/sh
+echo $$
+exec cat
+"""
+
+# As before, and leaves behind what has its standard error, and none of its other files.
+LEAVES = """#!/usr/bin/env python3
+import os, subprocess, sys
+left = subprocess.Popen(["sleep", "60"], stdin=subprocess.DEVNULL, stdout=subprocess.DEVNULL)
+print(os.getpid(), flush=True)
+print(left.pid, flush=True)
+sys.stdin.read()
+"""
+
+# Prints the set of signals that it ignores.
+IGNORES = """#!/bin/sh
+while read -r name set; do
+    [ "$name" != SigIgn: ] || echo "$set"
+done </proc/self/status
+"""
+
 WAITS = """#!/bin/sh
 trap 'echo ended by TERM; exit 0' TERM
 trap 'echo ended by HUP; exit 0' HUP
@@ -76,6 +98,8 @@ class Tree:
         (folder / "tools").mkdir()
         self.script("tools/rt", RT)
         self.script("program", PROGRAM)
+        self.log = folder / "day.log"
+        self.log.write_text("a day\n")
 
     def script(self, name, text):
         path = self.folder / name
@@ -90,6 +114,14 @@ class Tree:
         for name in ["console", "day"]:
             self.script(f"target/bin/{name}", program)
         return self
+
+    def few_tools(self):
+        """A folder with what bin/relay needs to build and to run, but for rt."""
+        tools = self.folder / "few"
+        tools.mkdir()
+        for name in ["bash", "sh", "env", "dirname", "readlink", "awk", "find", "cat", "grep", "mkdir", "touch", "flock", "setsid"]:
+            (tools / name).symlink_to(shutil.which(name))
+        return tools
 
     def environment(self, **more):
         path = f"{self.folder}/tools:{os.environ['PATH']}"
@@ -154,7 +186,7 @@ def is_running(number):
 def test_built_program_runs_and_nothing_is_touched(tree):
     tree.built()
     before = tree.seen()
-    equal(tree.run("day.log", input="a\n"), (0, "day.log\na\n", ""))
+    equal(tree.run(tree.log, input="a\n"), (0, f"{tree.log}\na\n", ""))
     equal(tree.calls(), [])
     equal(tree.seen(), before)
 
@@ -172,8 +204,8 @@ def test_built_program_runs_for_a_user_without_write_access(tree):
 
 
 def test_what_the_program_needs_is_built_in_order_and_told(tree):
-    status, out, err = tree.run("day.log", input="a\n")
-    equal((status, out), (0, "day.log\na\n"))
+    status, out, err = tree.run(tree.log, input="a\n")
+    equal((status, out), (0, f"{tree.log}\na\n"))
     equal(tree.calls(), ["check laws", "check console"])
     lines = err.splitlines()
     equal([line[:6] for line in lines if not line.startswith("rt: ")], ["note: "] * 3)
@@ -247,10 +279,7 @@ def test_unproved_crate_is_told_in_full(tree):
 
 
 def test_without_rt_it_says_so_first(tree):
-    tools = tree.folder / "few"
-    tools.mkdir()
-    for name in ["bash", "env", "dirname", "readlink", "awk", "find", "cat", "grep", "mkdir", "touch", "flock", "setsid"]:
-        (tools / name).symlink_to(shutil.which(name))
+    tools = tree.few_tools()
     before = tree.seen()
     status, out, err = tree.run(more={"PATH": str(tools)})
     equal((status, out), (127, ""))
@@ -356,6 +385,15 @@ def test_signals_are_passed_on(tree):
         equal((started.returncode, out, err), (-sent, f"ended by {said}\n", ""))
 
 
+def test_closed_pipes_and_file_size_limits_are_for_the_program_to_see(tree):
+    tree.built(IGNORES)
+    for name in ["relay", "replay"]:
+        status, out, err = tree.run(name=name, preexec_fn=restored)
+        equal((status, err), (0, ""))
+        ignored = {number for number in signal.Signals if int(out, 16) >> number - 1 & 1}
+        equal(ignored & {signal.SIGPIPE, signal.SIGXFSZ, signal.SIGTERM, signal.SIGHUP}, {signal.SIGPIPE, signal.SIGXFSZ})
+
+
 def test_control_c_at_a_terminal(tree):
     tree.built(WAITS)
     child, terminal = pty.fork()
@@ -367,6 +405,142 @@ def test_control_c_at_a_terminal(tree):
     _, status = os.waitpid(child, 0)
     equal(os.WIFSIGNALED(status) and os.WTERMSIG(status), signal.SIGINT)
     os.close(terminal)
+
+
+# ---- one program at a time has a day log
+
+
+def holding(tree, *words):
+    """A start whose program runs, and the program's number."""
+    started = tree.start(*words, stdin=subprocess.PIPE)
+    return started, int(started.stdout.readline())
+
+
+def taken(path):
+    return 1, "", f"relay: {path}: another relay has it\n"
+
+
+def test_day_log_is_one_programs(tree):
+    tree.built(HOLDS)
+    other, link = tree.folder / "other.log", tree.folder / "link.log"
+    other.touch()
+    link.symlink_to(tree.log)
+    first, _ = holding(tree, tree.log)
+    before = tree.seen()
+    # a second start by either name; it hasn't run the program
+    for path in [tree.log, link]:
+        equal(tree.run(path, input="a\n"), taken(tree.log))
+    # another log, or none
+    for words in [[other], []]:
+        second, _ = holding(tree, *words)
+        equal(second.communicate("a\n", timeout=60), ("a\n", ""))
+        equal(second.returncode, 0)
+    equal((tree.seen(), tree.log.read_text()), (before, "a day\n"))
+    # it is free where the first is gone
+    equal((first.communicate("b\n", timeout=60), first.returncode), (("b\n", ""), 0))
+    equal(tree.run(tree.log, input="a\n")[0], 0)
+
+
+def test_day_log_behind_a_link_is_given_by_its_own_name(tree):
+    """The program syncs the folder of the name that it is given."""
+    tree.built()
+    real = tree.folder / "real"
+    real.mkdir()
+    link, lost = tree.folder / "link.log", tree.folder / "lost.log"
+    link.symlink_to("real/day.log")
+    lost.symlink_to("none/day.log")
+    equal(tree.run(link, input="a\n"), (0, f"{real.resolve()}/day.log\na\n", ""))
+    equal(tree.run(lost, input="a\n"), (1, "", f"relay: {lost}: a link that leads nowhere\n"))
+
+
+def test_without_a_day_log_there_is_no_lock(tree):
+    tree.built(HOLDS)
+    first, _ = holding(tree)
+    second, _ = holding(tree)
+    for started in [first, second]:
+        equal((started.communicate("", timeout=60), started.returncode), (("", ""), 0))
+
+
+def test_day_log_is_the_programs_though_bin_relay_is_killed(tree):
+    tree.built(HOLDS)
+    first, number = holding(tree, tree.log)
+    first.kill()
+    first.wait()
+    equal(is_running(number), True)
+    equal(tree.run(tree.log, input=""), taken(tree.log))
+    # the program ends with its input
+    first.communicate("", timeout=60)
+    wait_for(lambda: not is_running(number))
+    equal(tree.run(tree.log, input="")[0], 0)
+
+
+def test_day_log_is_free_when_its_program_is_killed(tree):
+    tree.built(HOLDS)
+    first, number = holding(tree, tree.log)
+    os.kill(number, signal.SIGKILL)
+    first.communicate(timeout=60)
+    equal(first.returncode, 128 + signal.SIGKILL)
+    equal(tree.run(tree.log, input="")[0], 0)
+
+
+def test_day_log_is_free_though_standard_error_is_read_on(tree):
+    tree.built(LEAVES)
+    first, number = holding(tree, tree.log)
+    left = int(first.stdout.readline())
+    try:
+        first.kill()
+        first.stdin.close()
+        wait_for(lambda: not is_running(number))
+        tree.built()
+        equal(tree.run(tree.log, input=""), (0, f"{tree.log}\n", ""))
+    finally:
+        os.kill(left, signal.SIGKILL)
+        first.wait()
+
+
+def test_day_log_that_is_missing_is_locked_too(tree):
+    tree.built(HOLDS)
+    tree.log.unlink()
+    first, _ = holding(tree, tree.log)
+    equal(tree.run(tree.log, input=""), taken(tree.log))
+    first.communicate("", timeout=60)
+
+
+def test_day_log_that_cannot_be_opened_is_the_programs_to_tell(tree):
+    tree.built()
+    for path in [tree.folder, tree.folder / "no" / "log", tree.folder / ("x" * 300)]:
+        equal(tree.run(path, more={"SAYS": "relay: no log"}), (1, f"{path}\n", "relay: no log\n"))
+
+
+def test_without_flock_there_is_no_day_log(tree):
+    tree.built()
+    tools = tree.few_tools()
+    (tools / "flock").unlink()
+    before = tree.seen()
+    for path in [tree.log, tree.folder / "new.log"]:
+        status, out, err = tree.run(path, more={"PATH": str(tools)})
+        equal((status, out, err[:24]), (127, "", "relay: flock is missing,"))
+        holds(err, "README.md")
+    equal(tree.seen(), before)
+    for name in ["relay", "replay"]:
+        equal(tree.run(name=name, more={"PATH": str(tools)}), (0, "\n", ""))
+
+
+def test_replay_takes_no_lock(tree):
+    tree.built(HOLDS)
+    first, _ = holding(tree, tree.log)
+    with open(tree.log) as log:
+        status, out, err = tree.run(name="replay", stdin=log)
+    equal((status, out[-7:], err), (0, "\na day\n", ""))
+    first.communicate("", timeout=60)
+    # nor does it keep a relay from one
+    tree.script("target/bin/day", WAITS)
+    with open(tree.log) as log:
+        reading = tree.start(name="replay", stdin=log, preexec_fn=restored)
+    equal(reading.stdout.readline(), "started\n")
+    equal(tree.run(tree.log, input="")[0], 0)
+    reading.terminate()
+    reading.communicate(timeout=60)
 
 
 def restored():
@@ -385,7 +559,7 @@ def main():
         try:
             test(Tree(folder))
             passed += 1
-        except (AssertionError, OSError, subprocess.TimeoutExpired) as error:
+        except (AssertionError, OSError, ValueError, subprocess.TimeoutExpired) as error:
             print(f"examples/start.py: {name}: {error}")
             failed += 1
         finally:

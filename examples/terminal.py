@@ -165,10 +165,10 @@ def test_day_log_that_cannot_be_used():
             equal(piped(b"+1\n", str(log))[0], 1)
 
 
-def test_day_log_on_a_full_disk():
+def test_day_log_that_cannot_be_synced():
     status, out, err = piped(b"+1\n1 :1CBAAAAAA QUIT\r\n", "/dev/full")
-    equal((status, out), (1, "= 0\n"))
-    holds(err, "relay: day log: ")
+    equal((status, out), (1, ""))
+    holds(err, "relay: /dev/full: ")
 
 
 def test_full_disk():

@@ -1,7 +1,8 @@
 #!/bin/sh
 # Tests of the programs that a single run on a file can't make. Of the console: the day through bin/relay, input in small pieces, unfinished last lines, the
-# journal, and what happens where the journal or the output can't be written. Of bin/replay: that journal, a log in pieces, faults, and what can't be
-# read or written. Says which test fails; the last line is 'N passed, M failed', the status 1 if one did.
+# journal, a restart on it, and what happens where the journal can't be used or the output can't be written. Of bin/replay: that journal, a log in pieces, faults,
+# and what can't be read or written. What a journal survives is examples/daylog.py's to test. Says which test fails; the last line is 'N passed, M failed', the
+# status 1 if one did.
 set -u
 cd "$(dirname "$0")/.." || exit 2
 room=$(mktemp -d) || exit 2
@@ -100,9 +101,32 @@ for size in 1 7 511; do
     dd bs=$size if=crates/day/stdin 2>"$room/err" | $day >"$room/out"
     same "a log in pieces of $size" "$room/out" crates/day/stdout
 done
-$console "$room/journal" <examples/morning.txt >"$room/out"
-cat "$room/expected" "$room/expected" >"$room/twice"
-same "a journal is appended to" "$room/journal" "$room/twice"
+
+# ---- a restart: the day goes on where it was, with no link registered, and its journal too
+{
+    printf '?\n1 :1CBAAAAAB PART #race\r\n+1\n+2\n1 :1CBAAAAAB PART #race\r\n1 :1CBAAAAAB PART #race\r\n'
+    printf '2 :2MK SJOIN 70040 #start + :@2MKAAAAAA\r\nbanned #race sam!deck@rowdy.boat\n?\n'
+} >"$room/in"
+{
+    printf '70000 #penalty +nt @0PDAAAAAA @0PDAAAAAB 1CBAAAAAA\n\n70010 #race +nkl buoy 40 @1CBAAAAAA\n*!*@rowdy.boat Rowdy*!*@*\n'
+    printf '70040 #start + @2MKAAAAAA\n\n'
+} >"$room/end"
+{
+    cat "$room/left"
+    printf '.\n! 3\n= 0\n= 0\n2 :1CBAAAAAB PART #race\r\n! 20\n1 :2MK SJOIN 70040 #start + @2MKAAAAAA\r\nyes\n'
+    cat "$room/end"
+    printf '.\n'
+} >"$room/answers"
+bin/relay "$room/journal" <"$room/in" >"$room/out" 2>"$room/err"
+same "a restart" "$room/out" "$room/answers"
+same "a restart says nothing" "$room/err" /dev/null
+{
+    record 1 ':1CBAAAAAB PART #race'
+    record 2 ':2MK SJOIN 70040 #start + :@2MKAAAAAA'
+} >>"$room/expected"
+same "a restart's journal" "$room/journal" "$room/expected"
+bin/replay <"$room/journal" >"$room/out"
+same "a restart's journal replayed" "$room/out" "$room/end"
 
 # ---- faults of a log, each at its byte; behind a record what stood before is printed
 faulty() { # LOG OUTPUT
@@ -133,12 +157,13 @@ said "a log that can't be read" "$room/err"
 $day <crates/day/stdin >/dev/full 2>"$room/err"
 said "a replay into a full output" "$room/err"
 
-# ---- a journal that can't be written: no answer without its record
+# ---- a journal that can't be used: no answer. What is written to /dev/full can't be synced, so that is refused at the start
 printf '+1\n1 :1CBAAAAAA QUIT\r\n+2\n' >"$room/in"
-printf '= 0\n' >"$room/expected"
 $console /dev/full <"$room/in" >"$room/out" 2>"$room/err"
-same "a full journal" "$room/out" "$room/expected"
-said "a full journal" "$room/err"
+same "a journal that can't be synced" "$room/out" /dev/null
+cut -d : -f 1,2 "$room/err" >"$room/said"
+printf 'relay: /dev/full\n' >"$room/expected"
+same "a journal that can't be synced: what is said" "$room/said" "$room/expected"
 $console "$room" <"$room/in" >"$room/out" 2>"$room/err"
 same "a journal that can't be opened" "$room/out" /dev/null
 said "a journal that can't be opened" "$room/err"

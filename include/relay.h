@@ -62,7 +62,7 @@ extern "C" {
 #endif
 
 /* The version of the whole project, as the file VERSION has it. */
-#define RELAY_VERSION "0.7.0"
+#define RELAY_VERSION "0.8.0"
 
 /* The bytes of stack that are enough for a call. */
 #define RELAY_STACK 131072

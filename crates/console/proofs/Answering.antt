@@ -1,4 +1,4 @@
--- Laws of answers: every one has room in its buffer. Assumes nothing.
+-- Laws of answers and of records: every one has room. Assumes nothing.
 use Prim.Native.Nat.{ℕ, zero, suc, _+_, _-_, _*_, _^_, _≤_, _<_}
 use mathlib.Core.Path.{_≡_, refl, sym, ap, _∙_}
 use mathlib.Core.Bool.{Bool, true, false, cond}
@@ -17,17 +17,18 @@ use Rattle.octets.specs.Room.{part, front}
 use Rattle.octets.specs.Private.Additions.{AtFront}
 use Rattle.octets.proofs.Digits.{digits-ten, digits-within}
 use Rattle.laws.proofs.Lists.{nil-length}
-use Rattle.octets.proofs.Room.{part-front, at-front}
+use Rattle.octets.proofs.Room.{part-front, at-front, rest-of}
 use Rattle.links.specs.Links.{linkCount, isLink, linksFrom, linksIn}
 use Rattle.message.specs.Grammar.{lineLimit}
 use Rattle.journal.specs.declared.Logged.{Logged}
 use Rattle.journal.specs.Journal.{recordOf, logRules, loggedAnswer}
+use Rattle.journal.specs.Reading.{recordLimit}
 use Rattle.journal.proofs.Records.{accepts}
 use Rattle.wording.specs.declared.Text.{Text}
 use Rattle.wording.specs.Wording.{wordsOf, textLimit, textOf}
 use Rattle.wording.proofs.Fitting.{words-few, words-back}
-use Rattle.console.specs.Answers.{spaced, numberedText, noLink, linksText, relayedText}
-use Rattle.console.specs.Buffers.{answerRoom, recordRoom}
+use Rattle.console.specs.Answers.{spaced, numberedText, noLink, linksText, relayedText, acceptedText}
+use Rattle.console.specs.Buffers.{answerRoom}
 
 -- the front of some room is no longer than the room
 pub front-few : {m : ℕ} (s p : List ℕ) (n : ℕ) → p ≡ part s 0 n → length s ≤ m → length p ≤ m
@@ -135,8 +136,28 @@ pub relayed-few : (set : ℕ) (line : List ℕ) → length line ≤ lineLimit �
 unfolding relayedText
 relayed-few set line h = omega (arith, set-few set, length-append (linksText set ++ (space ∷ [])) line, length-append (linksText set) (space ∷ []))
 
+-- ---- the answer to an accepted line
+pub accepted-none : (set : ℕ) (line : List ℕ) → length line ≡ 0 → acceptedText set line ≡ noLink ++ (lf ∷ [])
+unfolding acceptedText
+accepted-none set line h = rw (nil-length line, h)
+
+-- it is what was put together, without the comma
+pub accepted-some : (set : ℕ) (line text p : List ℕ) (n : ℕ) → (length line ≡ 0 → ⊥) → AtFront text n (comma ∷ relayedText set line) → p ≡ part text 1 n → acceptedText set line ≡ p
+unfolding acceptedText
+accepted-some set line text p n ne f e =
+    let it : acceptedText set line ≡ relayedText set line = rw (nil-length line, ne-eqb (length line) 0 ne) in
+    it ∙ sym (e ∙ rest-of text (comma ∷ relayedText set line) n 1 f (omega arith))
+
+pub accepted-few : (set : ℕ) (line : List ℕ) → length line ≤ lineLimit → length (acceptedText set line) ≤ answerRoom
+unfolding acceptedText
+accepted-few set line h = go (isNil line)
+  where
+    go : (t : Bool) → length (cond t (noLink ++ (lf ∷ [])) (relayedText set line)) ≤ answerRoom
+    go true = omega arith
+    go false = omega (arith, relayed-few set line h)
+
 -- ---- the record of an accepted line
-module _ (link : ℕ) (line log : List ℕ) (known : isLink link ≡ true) (small : length line ≤ lineLimit) (room : length log ≡ recordRoom) where
+module _ (link : ℕ) (line log : List ℕ) (known : isLink link ≡ true) (small : length line ≤ lineLimit) (room : length log ≡ recordLimit) where
   -- it is written whole
   pub record-at-front : (next : List ℕ) (r : Logged) → r ≡ loggedAnswer link line log → next ≡ front (emitted (logRules link line log) (recordOf link line)) log → AtFront next (r .size) (recordOf link line)
   unfolding loggedAnswer

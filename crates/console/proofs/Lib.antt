@@ -4,5 +4,7 @@ mod Asking
 mod Keeping
 mod Questioned
 mod Answering
+mod Grouping
+mod Restoring
 mod Examples
 mod Typing

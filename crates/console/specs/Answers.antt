@@ -16,6 +16,10 @@ spaced words = cond (isNil words) [] (space ∷ words)
 unfoldable pub numberedText : ℕ → ℕ → Bool → List ℕ
 numberedText mark n worded = (mark ∷ space ∷ []) ++ digitsOf n ++ cond worded (spaced (wordsOf n)) [] ++ (lf ∷ [])
 
+-- the answer to a line that is refused: '!' and the number
+abbrev pub refusedText : ℕ → Bool → List ℕ
+refusedText n worded = numberedText 33 n worded
+
 -- '-'
 abbrev pub noLink : List ℕ
 noLink = 45 ∷ []
@@ -27,3 +31,7 @@ linksText set = cond (isNil (linksIn set)) noLink (separated comma (map digitsOf
 -- the links that a line goes to, one SPACE, and the line with its CR LF
 unfoldable pub relayedText : ℕ → List ℕ → List ℕ
 relayedText set line = linksText set ++ (space ∷ []) ++ line
+
+-- the answer to a line that is accepted: where nothing goes out, '-' alone
+unfoldable pub acceptedText : ℕ → List ℕ → List ℕ
+acceptedText set line = cond (isNil line) (noLink ++ (lf ∷ [])) (relayedText set line)

@@ -2,4 +2,6 @@ pub mod Lines
 pub mod Requests
 pub mod Answers
 pub mod Buffers
+pub mod Groups
+pub mod Daylog
 pub mod Typing

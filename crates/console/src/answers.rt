@@ -1,4 +1,5 @@
-// Answers, each put together in a buffer and written to standard output. A function that writes says whether all of it was written.
+// Answers. Those to links' lines, and to what is no request, wait for the end of their group and are put behind one another in lent room; any other is written to
+// standard output at once. A function that writes says whether all of it was written.
 ghost use mathlib.Core.Path.{_≡_};
 ghost use mathlib.Core.Bool.{cond};
 ghost use mathlib.Core.List.{[], _∷_, map};
@@ -12,7 +13,7 @@ ghost use Rattle.octets.specs.Private.Additions.{Adds, AtFront};
 ghost use Rattle.links.specs.Links.{linksIn};
 ghost use Rattle.message.specs.Grammar.{lineLimit};
 ghost use Rattle.wording.specs.Wording.{wordsOf};
-ghost use Rattle.console.specs.Answers.{spaced, numberedText, linksText, relayedText};
+ghost use Rattle.console.specs.Answers.{spaced, numberedText, refusedText, linksText, relayedText, acceptedText};
 ghost use Rattle.console.specs.Buffers.{answerRoom};
 use bans::BanList;
 use libc::STDOUT_FILENO;
@@ -37,7 +38,7 @@ pub(crate) fn print(s: &[u8]) -> bool {
 }
 
 // Adds a SPACE and the words of a number, if they are asked for and there are any.
-fn put_words(out: &mut [u8], at: usize, number: u8, worded: bool) -> usize
+pub(crate) fn put_words(out: &mut [u8], at: usize, number: u8, worded: bool) -> usize
     ensures { λ n. ⌜ Adds (now (out .entry)) at (now (out .exit)) n (cond worded (spaced (wordsOf number)) []) ⌝ }
 {
     if !worded {
@@ -52,21 +53,33 @@ fn put_words(out: &mut [u8], at: usize, number: u8, worded: bool) -> usize
     put(out, next, part(&bytes, 0, text.len))
 }
 
-// A mark, a SPACE and a number, with its words where they are asked for.
-fn put_numbered(mark: u8, number: u8, worded: bool, out: &mut [u8]) -> usize
-    requires { ⌜ length (now out) ≡ answerRoom ⌝ }
-    ensures { λ n. ⌜ AtFront (now (out .exit)) n (numberedText mark number worded) ⌝ }
+// Adds a mark, a SPACE and a number, with its words where they are asked for.
+fn put_numbered(out: &mut [u8], at: usize, mark: u8, number: u8, worded: bool) -> usize
+    ensures { λ n. ⌜ Adds (now (out .entry)) at (now (out .exit)) n (numberedText mark number worded) ⌝ }
 {
     let opening = [mark, b' '];
-    let opened = put(out, 0, &opening);
+    let opened = put(out, at, &opening);
     let numbered = put_decimal(out, opened, number as u64);
     let told = put_words(out, numbered, number, worded);
     put(out, told, b"\n")
 }
 
+// Adds the answer to a line that is refused.
+pub(crate) fn put_refused(out: &mut [u8], at: usize, number: u8, worded: bool) -> usize
+    ensures adds { λ n. ⌜ Adds (now (out .entry)) at (now (out .exit)) n (refusedText number worded) ⌝ }
+    ensures few { λ _. ⌜ length (refusedText number worded) ≤ answerRoom ⌝ }
+{
+    put_numbered(out, at, b'!', number, worded)
+}
+
+// Adds the answer to what is no request.
+pub(crate) fn put_input(out: &mut [u8], at: usize) -> usize {
+    put(out, at, b"! input\n")
+}
+
 fn say_numbered(mark: u8, number: u8, worded: bool) -> bool {
     let mut text = [0u8; ROOM];
-    let n = put_numbered(mark, number, worded, &mut text);
+    let n = put_numbered(&mut text, 0, mark, number, worded);
     print(part(&text, 0, n))
 }
 
@@ -75,15 +88,10 @@ pub(crate) fn say_done(number: u8, worded: bool) -> bool {
     say_numbered(b'=', number, worded)
 }
 
-// The answer to a line that is refused.
-pub(crate) fn say_refused(number: u8, worded: bool) -> bool {
-    say_numbered(b'!', number, worded)
-}
-
 // The answer to a question whether a text is banned.
 pub(crate) fn say_banned(answer: Banned, worded: bool) -> bool {
     if answer.number != ACCEPTED {
-        return say_refused(answer.number, worded);
+        return say_numbered(b'!', answer.number, worded);
     }
     if answer.yes {
         return print(b"yes\n");
@@ -106,11 +114,6 @@ pub(crate) fn say_help() -> bool {
     print(
         b"+N        registers link N\n-N        drops link N\nN LINE    takes LINE from link N\n?         prints the table\nbanned NAME TEXT\n          says whether TEXT is banned from channel NAME\nhelp      prints this\nCtrl-D    ends the program\n",
     )
-}
-
-// The answer to what is no request.
-pub(crate) fn say_input() -> bool {
-    print(b"! input\n")
 }
 
 // Adds a comma and the link, if it is in the set.
@@ -148,7 +151,7 @@ fn put_set(out: &mut [u8], at: usize, set: u32) -> usize
 }
 
 // A comma, which isn't printed, the links that a line goes to, and the line.
-fn put_relayed(set: u32, line: &[u8], out: &mut [u8]) -> usize
+fn put_listed(set: u32, line: &[u8], out: &mut [u8]) -> usize
     requires { ⌜ (length (now line) ≤ lineLimit) × (length (now out) ≡ answerRoom) ⌝ }
     ensures { λ n. ⌜ AtFront (now (out .exit)) n (comma ∷ relayedText set (now (line .entry))) ⌝ }
 {
@@ -157,14 +160,15 @@ fn put_relayed(set: u32, line: &[u8], out: &mut [u8]) -> usize
     put(out, spaced, line)
 }
 
-// The answer to a line that is accepted. One of which nothing goes out has no link, and no line.
-pub(crate) fn say_relayed(set: u32, line: &[u8]) -> bool
+// Adds the answer to a line that is accepted. One of which nothing goes out has no link, and no line.
+pub(crate) fn put_accepted(out: &mut [u8], at: usize, set: u32, line: &[u8]) -> usize
     requires { ⌜ length (now line) ≤ lineLimit ⌝ }
+    ensures { λ n. ⌜ Adds (now (out .entry)) at (now (out .exit)) n (acceptedText set (now (line .entry))) ⌝ }
 {
     if line.len() == 0 {
-        return print(b"-\n");
+        return put(out, at, b"-\n");
     }
     let mut text = [0u8; ROOM];
-    let n = put_relayed(set, line, &mut text);
-    print(part(&text, 1, n))
+    let n = put_listed(set, line, &mut text);
+    put(out, at, part(&text, 1, n))
 }

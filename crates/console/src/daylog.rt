@@ -1,23 +1,28 @@
-// The day log: the file to which the record of each accepted line is appended.
+// The day log: the file that keeps the record of each accepted line, from one start of the program to the next. At a start it is replayed; then records are added
+// in groups, each of which is on the disk before it counts as kept.
 ghost use mathlib.Core.Path.{_≡_};
-ghost use mathlib.Core.Bool.{true};
-ghost use Prim.Native.Nat.{_≤_};
-ghost use lib.ListN.{length};
-ghost use Rattle.octets.specs.Private.Additions.{AtFront};
-ghost use Rattle.links.specs.Links.{isLink};
-ghost use Rattle.message.specs.Grammar.{lineLimit};
-ghost use Rattle.journal.specs.Journal.{recordOf};
-ghost use Rattle.console.specs.Buffers.{recordRoom};
-use journal::write_record;
+ghost use mathlib.Core.Bool.{true, false};
+ghost use Rattle.octets.specs.Private.Additions.{Adds};
+ghost use Rattle.console.specs.Daylog.{placedText, refusedLine, cutLine, unlinked as unlinkedOf, goesOn, OfSomeStart};
+use crate::answers::put_words;
+use bans::BanList;
+use libc::SEEK_END;
 use libc::STDERR_FILENO;
+use links::Links;
+use logfile::FileReplay;
+use logfile::replay_file;
+use octets::decimals::put_decimal;
 use octets::part;
 use octets::put;
-
-// Room for the record of any line.
-const ROOM: usize = 517;
+use refusal::ACCEPTED;
+use refusal::LOG_CUT;
+use table::Head;
 
 // Room for what is said of the file, its name included.
 const SAYING: usize = 4200;
+
+// The last place that a file can have.
+const LAST_PLACE: u64 = 9223372036854775807;
 
 // The file, where there is one. `ready` says that lines can be taken.
 pub(crate) struct Journal {
@@ -26,9 +31,15 @@ pub(crate) struct Journal {
     fd: i32,
 }
 
-// Opens the file for appending, and makes it where it is missing.
+// The table that a day goes on with, and whether it can.
+pub(crate) struct Restored {
+    pub(crate) head: Head,
+    pub(crate) ready: bool,
+}
+
+// Opens the file for reading and writing, and makes it where it is missing.
 fn open_or_make(path: &[u8]) -> i32 {
-    let fd = os::open_append(path);
+    let fd = os::open_update(path);
     if fd >= 0 {
         return fd;
     }
@@ -40,31 +51,78 @@ fn open_or_make(path: &[u8]) -> i32 {
         return made;
     }
     libc::close(made);
-    os::open_append(path)
+    os::open_update(path)
 }
 
-// Says why the file can't be opened.
-fn say_unopened(path: &[u8]) {
+// Says why the file can't be used.
+fn say_unusable(path: &[u8]) {
     let mut text = [0u8; SAYING];
     let opened = put(&mut text, 0, b"relay: ");
     let n = put(&mut text, opened, path);
     os::fail(part(&text, 0, n));
 }
 
-// Whether the file is open, and apart from standard input, output and error: where one of these is closed, the file has got its number, and what
-// is said there would stand in the day log.
-fn is_own(fd: i32, path: &[u8]) -> bool {
+// How many bytes of a path name the folder: those up to and including its last '/'.
+fn folder_len(path: &[u8]) -> usize {
+    let mut n = path.len();
+    while n > 0 {
+        if path[n - 1] == b'/' {
+            return n;
+        }
+        n -= 1;
+    }
+    0
+}
+
+// Whether a folder is synced, which keeps the names of its files. Where it can't be, why is said.
+fn sync_folder(path: &[u8]) -> bool {
+    let fd = os::open_read(path);
     if fd < 0 {
-        say_unopened(path);
+        say_unusable(path);
         return false;
     }
-    if fd < STDERR_FILENO {
+    let synced = libc::fsync(fd);
+    if synced != 0 {
+        say_unusable(path);
+    }
+    libc::close(fd);
+    synced == 0
+}
+
+// Whether the file's name is on the disk.
+fn sync_name(path: &[u8]) -> bool {
+    let n = folder_len(path);
+    if n == 0 {
+        return sync_folder(b".");
+    }
+    sync_folder(part(path, 0, n))
+}
+
+// Whether what the file holds is on the disk, and its name. A pipe or a terminal can't be synced, and is no day log.
+fn sync_file(fd: i32, path: &[u8]) -> bool {
+    if libc::fdatasync(fd) != 0 {
+        say_unusable(path);
+        return false;
+    }
+    sync_name(path)
+}
+
+// Whether the file can be used. Where standard input, output or error is closed, the file has got its number, and what is written there would stand in the day log:
+// then it is closed first.
+fn is_usable(fd: i32, path: &[u8]) -> bool {
+    if fd < 0 {
+        say_unusable(path);
+        return false;
+    }
+    if fd <= STDERR_FILENO {
+        libc::close(fd);
         io::write_all(
             STDERR_FILENO,
-            b"relay: standard input or output is closed\n",
+            b"relay: standard input, output or error is closed\n",
         );
+        return false;
     }
-    fd > STDERR_FILENO
+    sync_file(fd, path)
 }
 
 // Opens the journal that the first argument names. Without an argument there is none.
@@ -87,7 +145,7 @@ pub(crate) fn open_journal() -> Journal {
         };
     }
     let fd = open_or_make(&path[..n]);
-    let ready = is_own(fd, &path[..n]);
+    let ready = is_usable(fd, &path[..n]);
     Journal {
         ready,
         used: true,
@@ -95,27 +153,146 @@ pub(crate) fn open_journal() -> Journal {
     }
 }
 
-// The record of a line that was accepted: it came from one of the links and isn't too long, so it isn't refused here.
-fn put_record(link: u32, line: &[u8], out: &mut [u8]) -> usize
-    requires { ⌜ (isLink link ≡ true) × (length (now line) ≤ lineLimit) × (length (now out) ≡ recordRoom) ⌝ }
-    ensures { λ n. ⌜ AtFront (now (out .exit)) n (recordOf link (now (line .entry))) ⌝ }
+// Adds a number and a place.
+fn put_placed(out: &mut [u8], at: usize, number: u8, place: u64) -> usize
+    ensures { λ n. ⌜ Adds (now (out .entry)) at (now (out .exit)) n (placedText number place) ⌝ }
 {
-    let logged = write_record(link, line, out);
-    logged.size
+    let numbered = put_decimal(out, at, number as u64);
+    let joined = put(out, numbered, b" at ");
+    put_decimal(out, joined, place)
 }
 
-// Keeps the record of an accepted line. Where that fails it says so.
-pub(crate) fn keep(journal: Journal, link: u32, line: &[u8]) -> bool
-    requires { ⌜ (isLink link ≡ true) × (length (now line) ≤ lineLimit) ⌝ }
+// What is said of a log that can't be gone on with.
+fn put_refused(out: &mut [u8], number: u8, place: u64) -> usize
+    ensures { λ n. ⌜ Adds (now (out .entry)) 0 (now (out .exit)) n (refusedLine number place) ⌝ }
 {
+    let opened = put(out, 0, b"relay: day log: refused by ");
+    let placed = put_placed(out, opened, number, place);
+    let parted = put(out, placed, b":");
+    let told = put_words(out, parted, number, true);
+    put(out, told, b"\n")
+}
+
+// What is said of a record that is cut off.
+fn put_cut(out: &mut [u8], place: u64) -> usize
+    ensures { λ n. ⌜ Adds (now (out .entry)) 0 (now (out .exit)) n (cutLine place) ⌝ }
+{
+    let opened = put(out, 0, b"note: day log: a torn record is cut off at ");
+    let placed = put_decimal(out, opened, place);
+    put(out, placed, b"\n")
+}
+
+// Makes the file as long as that, on the disk, and says whether that is done.
+fn cut(fd: i32, length: i64) -> bool {
+    if libc::ftruncate(fd, length) != 0 {
+        return false;
+    }
+    libc::fdatasync(fd) == 0
+}
+
+// The same for a place of the log, which is one of the file.
+fn cut_at(fd: i32, place: u64) -> bool {
+    if LAST_PLACE < place {
+        return false;
+    }
+    cut(fd, place as i64)
+}
+
+// Cuts off the torn record at a place, with which the log ends, and says so.
+fn cut_off(fd: i32, place: u64) -> bool {
+    if !cut_at(fd, place) {
+        os::fail(b"relay: day log");
+        return false;
+    }
+    let mut text = [0u8; SAYING];
+    let n = put_cut(&mut text, place);
+    io::write_all(STDERR_FILENO, part(&text, 0, n));
+    true
+}
+
+// Whether the day can go on where its log ends. A last record that is torn is cut off: its line wasn't answered. Any other fault leaves the file alone.
+fn is_sound(fd: i32, r: FileReplay) -> bool
+    ensures read { λ ok. ⌜ (ok ≡ true → r .failed ≡ false) ⌝ }
+    ensures sound { λ ok. ⌜ (ok ≡ true → goesOn (r .number) ≡ true) ⌝ }
+{
+    if r.failed {
+        os::fail(b"relay: day log");
+        return false;
+    }
+    if r.number == ACCEPTED {
+        return true;
+    }
+    if r.number == LOG_CUT {
+        return cut_off(fd, r.used);
+    }
+    let mut text = [0u8; SAYING];
+    let n = put_refused(&mut text, r.number, r.place);
+    io::write_all(STDERR_FILENO, part(&text, 0, n));
+    false
+}
+
+// The head with no link registered.
+fn unlinked(head: Head) -> Head
+    ensures { λ r. ⌜ r ≡ unlinkedOf head ⌝ }
+{
+    let slots = head.slots;
+    Head {
+        slots,
+        links: Links::none(),
+    }
+}
+
+// The table that the log leaves; no link is registered, as at any start.
+pub(crate) fn restore(journal: Journal, bans: &mut [u8; BanList::BANS]) -> Restored
+    ensures { λ r. ⌜ OfSomeStart r (now (bans .exit)) ⌝ }
+{
+    if !journal.used {
+        return Restored {
+            head: Head::empty(bans),
+            ready: true,
+        };
+    }
+    if !journal.ready {
+        return Restored {
+            head: Head::empty(bans),
+            ready: false,
+        };
+    }
+    let r = replay_file(journal.fd, bans);
+    let ready = is_sound(journal.fd, r);
+    Restored {
+        head: unlinked(r.head),
+        ready,
+    }
+}
+
+// Writes records at the end of the file, in one go, and says whether they are on the disk.
+fn write_synced(fd: i32, records: &[u8]) -> bool {
+    if !io::write_all(fd, records) {
+        return false;
+    }
+    libc::fdatasync(fd) == 0
+}
+
+// Whether a group's records are kept. Where they can't be, the file is cut back to its length before them, and what failed is said.
+pub(crate) fn keep(journal: Journal, records: &[u8]) -> bool {
     if !journal.used {
         return true;
     }
-    let mut record = [0u8; ROOM];
-    let n = put_record(link, line, &mut record);
-    let kept = io::write_all(journal.fd, part(&record, 0, n));
-    if !kept {
-        os::fail(b"relay: day log");
+    if records.len() == 0 {
+        return true;
     }
-    kept
+    let before = libc::lseek(journal.fd, 0, SEEK_END);
+    if before < 0 {
+        os::fail(b"relay: day log");
+        return false;
+    }
+    if write_synced(journal.fd, records) {
+        return true;
+    }
+    os::fail(b"relay: day log");
+    if !cut(journal.fd, before) {
+        os::fail(b"relay: day log, cutting it back");
+    }
+    false
 }

@@ -1,11 +1,9 @@
--- `put_numbered` meets its contract: mark, SPACE, digits and LF are added one after the other, and have room. Assumes nothing.
+-- `put_numbered` meets its contract: mark, SPACE, digits and LF are added one after the other. Assumes nothing.
 use mathlib.Core.List.{[], _∷_}
-use native.Mathlib.Omega.{arith}
 use borrow.Author.Needs.{needs}
 use Rattle.octets.specs.Bytes.{lf, space}
-use Rattle.octets.proofs.Room.{added-at-front, added, adds-then}
+use Rattle.octets.proofs.Room.{added, adds-then}
 use Rattle.console.specs.Answers.{numberedText}
-use Rattle.console.proofs.Answering.{numbered-few}
 use Rattle.console.proofs.answers.put_numbered.Statement.{statement}
 use Rattle.console.proofs.answers.put_numbered.Tie as tie
 
@@ -38,13 +36,11 @@ returns c =
     let digits = words .before .before .before .before in
     let opened = digits .before .before .before .before in
     let a = opened .before .before .before .before .args in
-    added-at-front _ _ _ _
-    (adds-then _ _ _ _ _ _ _ (lf ∷ [])
+    adds-then _ _ _ _ _ _ _ (lf ∷ [])
     (adds-then _ _ _ _ _ _ _ _
     (adds-then _ _ _ _ _ _ (a .mark ∷ space ∷ []) _ (added _ _ _ _ _ (opened .put .ensures .0) (opened .put .ensures .1)) (added _ _ _ _ _ (digits .put-decimal .ensures .0) (digits .put-decimal .ensures .1)))
     (words .put-words .ensures))
-    (added _ _ _ _ _ (ended .put2 .ensures .0) (ended .put2 .ensures .1)))
-    (omega (arith, numbered-few (a .mark) (a .number) (a .worded) (omega arith)))
+    (added _ _ _ _ _ (ended .put2 .ensures .0) (ended .put2 .ensures .1))
 
 pub put-numbered-spec : {M : Type 1} → statement M
 put-numbered-spec =

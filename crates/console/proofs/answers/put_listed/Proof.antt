@@ -1,4 +1,4 @@
--- `put_relayed` meets its contract: links, SPACE and line are added one after the other, and have room. Assumes nothing.
+-- `put_listed` meets its contract: links, SPACE and line are added one after the other, and have room. Assumes nothing.
 use mathlib.Core.List.{[], _∷_}
 use native.Mathlib.Omega.{arith}
 use borrow.Author.Needs.{needs}
@@ -6,8 +6,8 @@ use Rattle.octets.specs.Bytes.{space}
 use Rattle.octets.proofs.Room.{added-at-front, added, adds-then}
 use Rattle.console.specs.Answers.{relayedText}
 use Rattle.console.proofs.Answering.{relayed-few}
-use Rattle.console.proofs.answers.put_relayed.Statement.{statement}
-use Rattle.console.proofs.answers.put_relayed.Tie as tie
+use Rattle.console.proofs.answers.put_listed.Statement.{statement}
+use Rattle.console.proofs.answers.put_listed.Tie as tie
 
 put-set-requires : tie.Need-put-set-requires
 put-set-requires c κs = search needs
@@ -37,7 +37,7 @@ returns c =
     (added _ _ _ _ _ (ended .put2 .ensures .0) (ended .put2 .ensures .1)))
     (omega (arith, relayed-few (a .set) (a .line .now) (omega arith)))
 
-pub put-relayed-spec : {M : Type 1} → statement M
-put-relayed-spec =
+pub put-listed-spec : {M : Type 1} → statement M
+put-listed-spec =
     tie.close
     (tie.spec put-set-requires slice-aggregate-put put-requires put-requires-2 same-length returns)
