@@ -11,7 +11,8 @@ use Rattle.message.specs.Parts.{span}
 use Rattle.journal.specs.declared.RecordRead.{RecordRead}
 use Rattle.journal.specs.declared.faults.Verdict.{Verdict}
 use Rattle.journal.specs.Journal.{headLength, linkIn, lengthIn, lineIn}
-use Rattle.journal.specs.Reading.{Entry, entry, sizeOf, Fault, fault, checksOf, firstFault, Whole, foundBy, found, missingFor, answerAt, readAnswer}
+use Rattle.refusal.specs.Faults.{fault, firstFault}
+use Rattle.journal.specs.Reading.{Entry, entry, sizeOf, Fault, checksOf, Whole, foundBy, found, missingFor, answerAt, readAnswer}
 use Rattle.journal.specs.Private.Faults.{verdictOf}
 use Rattle.journal.proofs.Checks.{Decided, NoFirst, NoSecond, Above, Over, Short, Sound, decided, clean, fault-place}
 use Rattle.journal.proofs.Found.{found-by, found-clean, whole-length}

@@ -14,7 +14,8 @@ use Rattle.laws.proofs.Bools.{and-left}
 use Rattle.links.specs.Links.{isLink}
 use Rattle.message.specs.Grammar.{lineLimit}
 use Rattle.journal.specs.Journal.{headLength, firstMark, secondMark, linkIn, lengthIn}
-use Rattle.journal.specs.Reading.{Fault, fault, Check, isOther, isLinkAbove, isLengthOver, isCut, checksOf, firstFault}
+use Rattle.refusal.specs.Faults.{fault, Check, firstFault}
+use Rattle.journal.specs.Reading.{Fault, isOther, isLinkAbove, isLengthOver, isCut, checksOf}
 
 -- ---- which check decides
 -- The first that applies, those before it not applying, and so which fault is given, or none.
@@ -180,12 +181,12 @@ module _ (s : List ℕ) (f : Fault) (given : firstFault (checksOf s) ≡ some f)
   by-length e (Sound a b c d g is) = other _ e d
 
   -- No check that applies has an earlier place: the fault that is given is that of the first byte at fault.
-  pub fault-first : (c : Check) → List·Memᴰ c (checksOf s) → c .applies ≡ true → f .place ≤ c .fault .place
+  pub fault-first : (c : Check ℕ) → List·Memᴰ c (checksOf s) → c .applies ≡ true → f .place ≤ c .fault .place
   unfolding checksOf
-  fault-first c (List·Memᴰ·head e) a = rw (ap (λ (x : Check). x .fault .place) e) (by-first (sym (ap (λ (x : Check). x .applies) e) ∙ a) (decided s))
-  fault-first c (List·Memᴰ·tail (List·Memᴰ·head e)) a = rw (ap (λ (x : Check). x .fault .place) e) (by-second (sym (ap (λ (x : Check). x .applies) e) ∙ a) (decided s))
-  fault-first c (List·Memᴰ·tail (List·Memᴰ·tail (List·Memᴰ·head e))) a = rw (ap (λ (x : Check). x .fault .place) e) (by-link (sym (ap (λ (x : Check). x .applies) e) ∙ a) (decided s))
+  fault-first c (List·Memᴰ·head e) a = rw (ap (λ (x : Check ℕ). x .fault .place) e) (by-first (sym (ap (λ (x : Check ℕ). x .applies) e) ∙ a) (decided s))
+  fault-first c (List·Memᴰ·tail (List·Memᴰ·head e)) a = rw (ap (λ (x : Check ℕ). x .fault .place) e) (by-second (sym (ap (λ (x : Check ℕ). x .applies) e) ∙ a) (decided s))
+  fault-first c (List·Memᴰ·tail (List·Memᴰ·tail (List·Memᴰ·head e))) a = rw (ap (λ (x : Check ℕ). x .fault .place) e) (by-link (sym (ap (λ (x : Check ℕ). x .applies) e) ∙ a) (decided s))
   fault-first c (List·Memᴰ·tail (List·Memᴰ·tail (List·Memᴰ·tail (List·Memᴰ·head e)))) a =
-      rw (ap (λ (x : Check). x .fault .place) e) (by-length (sym (ap (λ (x : Check). x .applies) e) ∙ a) (decided s))
-  fault-first c (List·Memᴰ·tail (List·Memᴰ·tail (List·Memᴰ·tail (List·Memᴰ·tail (List·Memᴰ·head e))))) a = rw (ap (λ (x : Check). x .fault .place) e) fault-place
+      rw (ap (λ (x : Check ℕ). x .fault .place) e) (by-length (sym (ap (λ (x : Check ℕ). x .applies) e) ∙ a) (decided s))
+  fault-first c (List·Memᴰ·tail (List·Memᴰ·tail (List·Memᴰ·tail (List·Memᴰ·tail (List·Memᴰ·head e))))) a = rw (ap (λ (x : Check ℕ). x .fault .place) e) fault-place
   fault-first c (List·Memᴰ·tail (List·Memᴰ·tail (List·Memᴰ·tail (List·Memᴰ·tail (List·Memᴰ·tail m))))) a = absurd (List·Memᴰ·not-nil m)

@@ -6,7 +6,8 @@ use mathlib.Core.List.{List, [], _∷_, _++_}
 use mathlib.Core.Option.{some}
 use Rattle.refusal.specs.Numbers.{noMark, badLogLink, badLogLength, logCut}
 use Rattle.journal.specs.Journal.{headOf, recordOf, lineIn}
-use Rattle.journal.specs.Reading.{entry, fault, checksOf, firstFault, End, Whole, Faulty, found, readIn, logOf, missingFor, readAnswer}
+use Rattle.refusal.specs.Faults.{fault, firstFault}
+use Rattle.journal.specs.Reading.{entry, checksOf, End, Whole, Faulty, found, readIn, logOf, missingFor, readAnswer}
 
 -- no mark, in its first byte or its second
 marks : (found (74 ∷ []) ≡ Faulty (fault noMark 0)) × (found (73 ∷ 83 ∷ []) ≡ Faulty (fault noMark 1))

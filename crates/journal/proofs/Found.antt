@@ -16,7 +16,8 @@ use Rattle.message.specs.Grammar.{lineLimit}
 use Rattle.laws.specs.Lists.{all}
 use Rattle.laws.proofs.Lists.{all-at}
 use Rattle.journal.specs.Journal.{headLength, firstMark, secondMark, headOf, recordOf, linkIn, lengthIn, lineIn}
-use Rattle.journal.specs.Reading.{Entry, entry, bytesOf, sizeOf, Fault, fault, isOther, isLinkAbove, isLengthOver, checksOf, firstFault, Found, End, Whole, Faulty, foundBy, found, recordLimit}
+use Rattle.refusal.specs.Faults.{fault, firstFault}
+use Rattle.journal.specs.Reading.{Entry, entry, bytesOf, sizeOf, Fault, isOther, isLinkAbove, isLengthOver, checksOf, Found, End, Whole, Faulty, foundBy, found, recordLimit}
 use Rattle.journal.specs.Division.{isByte}
 use Rattle.journal.proofs.Checks.{Decided, NoFirst, NoSecond, Above, Over, Short, Sound, decided, decides, Clean, some-none, clean, faultless, there}
 use Rattle.journal.proofs.Records.{link-back, line-back}

@@ -1,11 +1,13 @@
 -- A log read back (document 02, §5): what stands first in some bytes of it, and so the records of a whole log, up to its end or its first fault.
 use Prim.Native.Nat.{ℕ, zero, suc, _+_}
-use mathlib.Core.Bool.{Bool, true, false, not, cond, _&&_}
+use mathlib.Core.Bool.{Bool, true, false, not, _&&_}
 use mathlib.Core.List.{List, [], _∷_, map}
 use mathlib.Core.Option.{Option, some, none}
 use lib.ListN.{length, drop, getD}
 use lib.Dec.{eqb, ltb}
 use Rattle.refusal.specs.Numbers.{accepted, noMark, badLogLink, badLogLength, logCut}
+use Rattle.refusal.specs.Faults as faults
+use Rattle.refusal.specs.Faults.{fault, Check, _if_, firstFault}
 use Rattle.laws.specs.Joins.{concatenated}
 use Rattle.links.specs.Links.{isLink}
 use Rattle.message.specs.Grammar.{lineLimit}
@@ -40,21 +42,8 @@ sizeOfAll (e ∷ es) = sizeOf e + sizeOfAll es
 
 -- ---- what is wrong with a record
 -- A number, and the place of the first byte at fault.
-pub record Fault : Type 0 where
-  pub number : ℕ
-  pub place : ℕ
-
-abbrev pub fault : ℕ → ℕ → Fault
-fault number place = record { number = number; place = place }
-
--- A fault, and whether some bytes have it.
-pub record Check : Type 0 where
-  pub fault : Fault
-  pub applies : Bool
-
-infix 68 _if_
-abbrev pub _if_ : Fault → Bool → Check
-f if t = record { fault = f; applies = t }
+abbrev pub Fault : Type 0
+Fault = faults.Fault ℕ
 
 -- the byte in a place is there, and isn't this one
 abbrev pub isOther : List ℕ → ℕ → ℕ → Bool
@@ -74,7 +63,7 @@ isCut s = ltb (length s) (headLength + lengthIn s)
 
 -- The faults that a record may have, in the order of their places, which are counted from its first byte: no mark, at the first of its bytes that is another; a link
 -- above 31; a length over 512, at the first of its two bytes; and, where no byte that is there is at fault, that the log ends inside the record, at the log's end.
-unfoldable pub checksOf : List ℕ → List Check
+unfoldable pub checksOf : List ℕ → List (Check ℕ)
 checksOf s =
     fault noMark 0 if isOther s 0 firstMark
     ∷ fault noMark 1 if isOther s 1 secondMark
@@ -82,11 +71,6 @@ checksOf s =
     ∷ fault badLogLength 3 if isLengthOver s
     ∷ fault logCut (length s) if isCut s
     ∷ []
-
--- the first of some that applies
-unfoldable pub firstFault : List Check → Option Fault
-firstFault [] = none
-firstFault (c ∷ cs) = cond (c .applies) (some (c .fault)) (firstFault cs)
 
 -- ---- what stands first in the bytes that are left of a log
 -- The log's end; a record; or a fault.

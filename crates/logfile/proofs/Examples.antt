@@ -2,7 +2,8 @@
 use mathlib.Core.Path.{refl}
 use mathlib.Core.List.{[], _∷_}
 use Rattle.refusal.specs.Numbers.{logCut}
-use Rattle.journal.specs.Reading.{fault, checksOf, firstFault, found}
+use Rattle.refusal.specs.Faults.{fault, firstFault}
+use Rattle.journal.specs.Reading.{checksOf, found}
 use Rattle.logfile.specs.Restarts.{Mends}
 use Rattle.logfile.proofs.Restarts.{mends}
 

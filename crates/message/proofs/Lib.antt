@@ -8,5 +8,6 @@ pub mod Splits
 pub mod Sizes
 pub mod Words
 pub mod Prefixes
+pub mod Sequence
 mod Gathered
 mod Examples

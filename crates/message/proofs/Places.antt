@@ -132,7 +132,7 @@ module _ (b : List ℕ) where
     after-middle-in [] k at e = tt
     after-middle-in (x ∷ s) k at e = let d = drop-next b at x s e in middle-step k at x s (rest-in s k (at + 1) d) (after-middle-in s k (at + 1) d)
 
-  params-in : Each (In b) (params b)
+  pub params-in : Each (In b) (params b)
   unfolding params
   params-in = rest-in (drop (commandEnd b) b) 0 (commandEnd b) refl
 

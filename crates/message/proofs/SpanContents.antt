@@ -125,6 +125,11 @@ module _ (line : List ℕ) where
       go true h = rw h (parts-hold line (read-formed line h .few))
       go false h = rw h (blank-holds line)
 
+  -- Those of a line that is read are the spans of its parts.
+  pub spans-read : isRead line ≡ true → take (messageOf line .count) (messageOf line .params) ≡ map spanOf (params (bodyOf line))
+  unfolding messageOf
+  spans-read h = rw h (spans-are line (read-formed line h .few))
+
   -- and a part that is missing is the empty one at the line's end
   prefix-span : prefixSpan (length line) (messageOf line) ≡ messageOf line .prefix
   unfolding prefixSpan messageOf messageIn blank

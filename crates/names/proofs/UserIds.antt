@@ -29,6 +29,11 @@ pub no-server-id : isServerId [] ≡ false
 unfolding isServerId
 no-server-id = refl
 
+-- a server id has three bytes
+pub server-length : (id : List ℕ) → isServerId id ≡ true → length id ≡ serverIdLength
+unfolding isServerId
+server-length id h = eqb-true (length id) serverIdLength (and-left (eqb (length id) serverIdLength) _ h)
+
 module _ (id : List ℕ) (h : isServerId id ≡ true) where
   server-parts : (all isDigit (take 1 id) ≡ true) × (all isIdByte (drop 1 id) ≡ true)
   unfolding isServerId

@@ -28,7 +28,8 @@ use Rattle.relay.specs.Arrival.{arrival}
 use Rattle.relay.specs.Relay.{takenRules, enteringRules, processRules, Outcome, refused, processAnswer}
 use Rattle.relay.proofs.Taking.{answer-number, from-four}
 use Rattle.relay.proofs.Answering.{answer-accepted, answer-refused}
-use Rattle.journal.specs.Reading.{Entry, entry, bytesOf, writtenLog, sizeOfAll, fault, isOther, Faulty, foundBy, found}
+use Rattle.refusal.specs.Faults.{fault}
+use Rattle.journal.specs.Reading.{Entry, entry, bytesOf, writtenLog, sizeOfAll, isOther, Faulty, foundBy, found}
 use Rattle.journal.specs.Division.{Loggable}
 use Rattle.journal.proofs.Checks.{NoSecond, decides}
 use Rattle.journal.proofs.Found.{found-by}

@@ -7,7 +7,8 @@ use lib.ListN.{length, drop, length-drop}
 use borrow.Author.Needs.{needs}
 use Rattle.octets.proofs.Room.{part-back}
 use Rattle.journal.specs.Journal.{headLength, linkIn, lengthIn}
-use Rattle.journal.specs.Reading.{checksOf, firstFault}
+use Rattle.refusal.specs.Faults.{firstFault}
+use Rattle.journal.specs.Reading.{checksOf}
 use Rattle.journal.specs.Private.Faults.{verdictOf}
 use Rattle.journal.proofs.Answers.{reads-end, place-within, reads-fault, record-within, reads-whole}
 use Rattle.journal.proofs.read_record.Statement.{statement}

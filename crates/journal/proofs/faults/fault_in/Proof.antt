@@ -6,7 +6,8 @@ use lib.ListN.{length}
 use borrow.Author.Tests.{lt-ltb, le-ltb}
 use borrow.Author.Needs.{needs}
 use Rattle.journal.specs.Journal.{headLength, lengthIn}
-use Rattle.journal.specs.Reading.{checksOf, firstFault}
+use Rattle.refusal.specs.Faults.{firstFault}
+use Rattle.journal.specs.Reading.{checksOf}
 use Rattle.journal.proofs.faults.fault_in.Statement.{statement}
 use Rattle.journal.proofs.faults.fault_in.Tie as tie
 
