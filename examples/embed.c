@@ -26,10 +26,13 @@ static void print_words(uint8_t number)
     print(relay_bytes_of(words.bytes, words.len));
 }
 
-/* Prints that something is refused, the number and its words. */
-static void print_refusal(uint8_t number)
+/* Prints that something is refused, the number, its place in a line where it has one, and its words. */
+static void print_refusal(uint8_t number, size_t place)
 {
-    printf("refused by %d, ", number);
+    printf("refused by %d", number);
+    if (place != 0)
+        printf(" at %zu", place);
+    printf(", ");
     print_words(number);
 }
 
@@ -50,7 +53,7 @@ static void take(relay_table *table, uint32_t link, relay_bytes line)
     uint8_t out[RELAY_LINE];
     relay_answer answer = relay_table_take(table, link, line, relay_room_of(out, sizeof out));
     if (answer.number != RELAY_ACCEPTED) {
-        print_refusal(answer.number);
+        print_refusal(answer.number, answer.place);
         printf(": ");
         print(line);
         return;
@@ -104,6 +107,17 @@ static void morning(relay_table *table)
     take(table, 4, text(":1ABAAAAAB QUIT\r\n"));
     take(table, 3, text(":1ABAAAAAB QUIT\r\n"));
     print_channels(table);
+}
+
+/* What is wrong with the modes of a line, and where: each number once, and of 34 both kinds. */
+static void modes(relay_table *table)
+{
+    take(table, 3, text(":1AB SJOIN 1000 #race nt 1ABAAAAAA\r\n"));
+    take(table, 3, text(":1AB SJOIN 1000 #race +ntn 1ABAAAAAA\r\n"));
+    take(table, 3, text(":1AB SJOIN 1000 #race +k 1ABAAAAAA\r\n"));
+    take(table, 3, text(":1AB SJOIN 1000 #race +k buoy 20 1ABAAAAAA\r\n"));
+    take(table, 3, text(":1AB SJOIN 1000 #race +k a,b 1ABAAAAAA\r\n"));
+    take(table, 3, text(":1AB SJOIN 1000 #race +kl buoy 0 1ABAAAAAA\r\n"));
 }
 
 static void print_masks(const relay_table *table, size_t slot)
@@ -169,7 +183,7 @@ static void receive(relay_table *table, uint32_t link, relay_feeder *feeder, rel
         if (fed.number == RELAY_ACCEPTED) {
             take(table, link, relay_bytes_of(fed.line, fed.len));
         } else {
-            print_refusal(fed.number);
+            print_refusal(fed.number, 0);
             printf("\n");
         }
     }
@@ -374,6 +388,7 @@ int main(void)
     printf("version %s\n", RELAY_VERSION);
     static relay_table table;
     morning(&table);
+    modes(&table);
     pieces(&table);
     bans(&table);
     any_bytes();

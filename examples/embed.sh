@@ -75,6 +75,7 @@ try 'a header with smaller lists is noticed' notices 'RELAY_LIST = 3233' 'RELAY_
 try 'a header that leaves out the last mask is noticed' notices 'relay_at_most(RELAY_MASKS, list[0])' 'relay_at_most(RELAY_MASKS - 1, list[0])'
 try 'a header that reads bytes beyond a mask is noticed' notices 'relay_at_most(RELAY_MASK, room[0])' 'room[0]'
 try 'a header that keeps the old head is noticed' notices 'table->head = taken.head' 'taken.head = table->head'
+try 'a header that loses the place is noticed' notices 'answer.place = taken.place' 'answer.place = 0'
 try 'a header with another feeder is noticed' notices 'bool dropping;' 'uint16_t dropping;'
 try 'a header whose loop ends at a line that is too long is noticed' notices 'fed->len != 0 || fed->number == RELAY_LINE_TOO_LONG' 'fed->len != 0'
 try 'a header with another answer of the log reader is noticed' notices 'bool found;' 'uint16_t found;'

@@ -25,6 +25,8 @@ HELP = [
     "          says whether TEXT is banned from channel NAME",
     "help      prints this",
     "Ctrl-D    ends the program",
+    "! NUMBER PLACE",
+    "          answers a refused LINE; PLACE counts in LINE, from 0",
 ]
 
 
@@ -117,6 +119,34 @@ def test_numbers_have_words():
     equal(typed(lines), (0, "".join(line + "\n" for line in words), NOTE))
     numbers = "".join(" ".join(line.split()[:2]) + "\n" for line in words)
     equal(piped(b"".join(lines).replace(b"\n", b"\r\n")), (0, numbers, ""))
+
+
+def test_place_is_shown():
+    lines = [b"+1\n", b"1 :1AB SJOIN 1 #a +nn 1ABAAAAAA\n", b"1 :1AB SJOIN 1 #a +k 1ABAAAAAA  \r\n", b"1 :1AB SJOIN 1 a +nn 1ABAAAAAA\n"]
+    out = [
+        "= 0",
+        "! 33 18 mode letter twice",
+        ":1AB SJOIN 1 #a +nn 1ABAAAAAA",
+        "                  ^",
+        "! 34 30 mode parameter missing, or too many",
+        ":1AB SJOIN 1 #a +k 1ABAAAAAA  ",
+        "                              ^",
+        "! 16 bad channel name, or names differ",
+    ]
+    equal(typed(lines), (0, "".join(line + "\n" for line in out), NOTE))
+    equal(piped(b"".join(lines[:2]).replace(b"\n", b"\r\n")), (0, "= 0\n! 33 18\n", ""))
+
+
+def test_what_moves_the_cursor_is_shown_as_question_marks():
+    line = b":1AB SJOIN 1 #\xc3\xa9\x1b +n\tx 1ABAAAAAA"
+    out = "! 32 20 mode letter unknown, or '+' missing\n:1AB SJOIN 1 #??? +n?x 1ABAAAAAA\n" + " " * 20 + "^\n"
+    equal(typed([b"+1\n", b"1 " + line + b"\n"]), (0, "= 0\n" + out, NOTE))
+
+
+def test_place_at_the_end_of_the_longest_line():
+    longest = b":1AB SJOIN 1 #a +l 1ABAAAAAA".ljust(510)
+    out = "! 34 510 mode parameter missing, or too many\n" + longest.decode() + "\n" + " " * 510 + "^\n"
+    equal(typed([b"+1\n", b"1 " + longest + b"\n"] * 2), (0, ("= 0\n" + out) * 2, NOTE))
 
 
 def test_control_c_ends_it():

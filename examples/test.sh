@@ -72,6 +72,18 @@ unfinished 'banned #a x\r' '! 19\n'
 unfinished '+1\n1 :1CBAAAAAA QUIT' '= 0\n! 5\n'
 unfinished '+1\n1 :1CBAAAAAA QUIT\r' '= 0\n! 5\n'
 
+# ---- lines that are refused at a place, which counts in the link's line: a letter unknown, one twice, a parameter missing, a bad key, a bad limit; one without a place
+{
+    printf '+1\n+31\n'
+    for modes in '+nx' '+nn' '+k' '+k a,b' '+l 0'; do
+        printf '1 :1CB SJOIN 5 #a %s 1CBAAAAAA\r\n31 :1CB SJOIN 5 #a %s 1CBAAAAAA\r\n' "$modes" "$modes"
+    done
+    printf '1 :1CB SJOIN 5 a +nn 1CBAAAAAA\r\n'
+} | $console "$room/none" >"$room/out"
+printf '= 0\n= 0\n! 32 18\n! 32 18\n! 33 18\n! 33 18\n! 34 28\n! 34 28\n! 35 19\n! 35 19\n! 36 19\n! 36 19\n! 16\n' >"$room/expected"
+same "places at fault" "$room/out" "$room/expected"
+same "a line refused at a place isn't kept" "$room/none" /dev/null
+
 # ---- the journal: the accepted lines of the day, and those alone
 {
     record 1 ':1CB SJOIN 70030 #penalty +n :@1CBAAAAAA'

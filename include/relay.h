@@ -62,7 +62,7 @@ extern "C" {
 #endif
 
 /* The version of the whole project, as the file VERSION has it. */
-#define RELAY_VERSION "0.8.0"
+#define RELAY_VERSION "0.9.0"
 
 /* The bytes of stack that are enough for a call. */
 #define RELAY_STACK 131072
@@ -91,9 +91,10 @@ enum {
 /* ---- the numbers of refusals ---- */
 
 /*
- * Where several apply, the first in this order is given: 1 to 18, 26, 19 to 22, 27, 23 to 25. So what a line says by itself is judged
- * before its channel is looked for, and what would result after that. 28 to 31 stand apart: they are a day log's, and of these the first
- * byte at fault decides, not their order.
+ * Where several apply, the first in this order is given: 1 to 16, 32 to 36, 18, 26, 19 to 22, 27, 23 to 25. So what a line says by itself
+ * is judged before its channel is looked for, and what would result after that. Of 32 to 36, which are of an SJOIN's modes, the earliest
+ * place in the line decides, not their order; `relay_taken` has the place. 28 to 31 stand apart: they are a day log's, and of these the
+ * first byte at fault decides.
  */
 enum {
     RELAY_ACCEPTED = 0,
@@ -113,7 +114,7 @@ enum {
     RELAY_BAD_TIME = 14,           /* time malformed or over 4294967295 */
     RELAY_ZERO_TIME = 15,          /* time is 0 */
     RELAY_BAD_NAME = 16,           /* bad channel name; names of two records that are merged differ */
-    RELAY_BAD_MODES = 17,          /* bad modes, key, limit, or their number */
+    RELAY_BAD_MODES = 17,          /* no longer given since 0.9.0; 32 to 36 have taken its place */
     RELAY_BAD_MEMBERS = 18,        /* bad member list */
     RELAY_NO_SUCH_CHANNEL = 19,    /* channel not in the table (PART, BMASK, finding one, asking for a ban) */
     RELAY_NOT_ON_CHANNEL = 20,     /* user not in it (PART) */
@@ -127,7 +128,12 @@ enum {
     RELAY_NO_MARK = 28,            /* the day log has no mark where a record begins */
     RELAY_BAD_LOG_LINK = 29,       /* the link of a record of the day log is above 31 */
     RELAY_BAD_LOG_LENGTH = 30,     /* the length of a record of the day log is over 512 */
-    RELAY_LOG_CUT = 31             /* the day log ends inside a record */
+    RELAY_LOG_CUT = 31,            /* the day log ends inside a record */
+    RELAY_UNKNOWN_MODE = 32,       /* a mode letter is unknown, or no '+' stands first (SJOIN, as the four below) */
+    RELAY_MODE_TWICE = 33,         /* a mode letter, one of the eight, stands twice */
+    RELAY_WRONG_MODE_PARAMS = 34,  /* the parameter of a mode letter is missing, or there are too many */
+    RELAY_BAD_KEY = 35,            /* key not 1 to 23 bytes of 33 to 126 without comma */
+    RELAY_BAD_LIMIT = 36           /* limit not 1 to 65535, or with leading zeros */
 };
 
 /* Words for people, the rest of the room zero. */
@@ -136,7 +142,7 @@ typedef struct relay_text {
     size_t len;
 } relay_text;
 
-/* The words of a number of the list above, as "user not in it" of 20; no words of 0 and of any other number. */
+/* The words of a number of the list above, as "user not in it" of 20; no words of 0, of 17 and of any other number. */
 relay_text relay_refusal_text(uint8_t number);
 
 /* ---- lent bytes ---- */
@@ -363,10 +369,14 @@ typedef struct relay_registered {
     uint8_t number;
 } relay_registered;
 
-/* The answer to a line: the head after, the length of the line to send, the links that it goes to and how many they are. */
+/*
+ * The answer to a line: the head after, the length of the line to send, the place in the line that is at fault, the links that it goes to
+ * and how many they are. `relay_process` tells what the place is.
+ */
 typedef struct relay_taken {
     relay_head head;
     size_t len;
+    size_t place;
     uint32_t set;
     uint32_t count;
     uint8_t number;
@@ -412,7 +422,13 @@ relay_banned relay_is_banned(relay_head head, const uint8_t *bans, relay_bytes n
  *     :sid BMASK time name b list                       the masks are added to the channel's ban list
  * and writes the line to send on to the front of `out`. It goes to every registered link but the one it came by. A channel whose last
  * user leaves is gone, and its list with it. A BMASK that is later than its channel is accepted and goes nowhere: nothing is changed or
- * written, and set, count and len are 0. Numbers 1 to 22, 26, 27.
+ * written, and set, count and len are 0. Numbers 1 to 16, 18 to 22, 26, 27, 32 to 36.
+ *
+ * With 32 to 36 the place is where in the line, counted from 0 at its first byte, what is at fault begins: an unknown letter, or the first
+ * byte of modes that don't begin with '+' (32); the second of a letter that stands twice (33); the first of the parameters that are too
+ * many before the list or, where one is missing, the line's end before its CR LF (34); the key (35); the limit (36). Key and limit are
+ * judged only if there are as many parameters as the letters ask for. The place is over 0 and at most the line's length less 2. With every
+ * other number, and where the line is accepted, it is 0.
  *
  * The link comes last: so no pointer is parted from its length where the registers for arguments end.
  */
@@ -565,12 +581,13 @@ static inline relay_bytes relay_list_mask(const uint8_t *list, size_t i)
 
 /* ---- inline: a table by its pointer ---- */
 
-/* What `relay_process` answers beside the head. An accepted line that goes nowhere has set, count and len 0. */
+/* What `relay_process` answers beside the head: `place` is 0 but with 32 to 36. An accepted line that goes nowhere has set, count and len 0. */
 typedef struct relay_answer {
     uint8_t number;
     uint32_t set;
     uint32_t count;
     size_t len;
+    size_t place;
 } relay_answer;
 
 /* Makes any bytes the empty table: every slot free, no masks, no link registered. */
@@ -608,6 +625,7 @@ static inline relay_answer relay_table_take(relay_table *table, uint32_t link, r
     answer.set = taken.set;
     answer.count = taken.count;
     answer.len = taken.len;
+    answer.place = taken.place;
     return answer;
 }
 
@@ -639,8 +657,8 @@ static inline relay_bytes relay_mask(const relay_table *table, size_t slot, size
 /*
  * How far a day log was replayed: `used` bytes of those given, which are whole records; and where they aren't used up, the number of what
  * stopped it and the place of that in those bytes. It is the log's own number (28 to 31) with its place, as `relay_read_record` tells it,
- * or the number by which the relay refused a record's line, with the place where the record begins. Number and place are 0 where all was
- * replayed.
+ * or the number by which the relay refused a record's line, with the place where the record begins, with 32 to 36 too. Number and place
+ * are 0 where all was replayed.
  */
 typedef struct relay_replayed {
     size_t used;
@@ -751,8 +769,8 @@ static inline bool relay_layout_matches(void)
         RELAY_FIELD(relay_links, set), sizeof(relay_links),
         RELAY_FIELD(relay_head, slots), RELAY_FIELD(relay_head, links), sizeof(relay_head),
         RELAY_FIELD(relay_registered, head), RELAY_FIELD(relay_registered, number), sizeof(relay_registered),
-        RELAY_FIELD(relay_taken, head), RELAY_FIELD(relay_taken, len), RELAY_FIELD(relay_taken, set),
-        RELAY_FIELD(relay_taken, count), RELAY_FIELD(relay_taken, number), sizeof(relay_taken),
+        RELAY_FIELD(relay_taken, head), RELAY_FIELD(relay_taken, len), RELAY_FIELD(relay_taken, place),
+        RELAY_FIELD(relay_taken, set), RELAY_FIELD(relay_taken, count), RELAY_FIELD(relay_taken, number), sizeof(relay_taken),
         RELAY_FIELD(relay_banned, number), RELAY_FIELD(relay_banned, yes), sizeof(relay_banned),
         RELAY_FIELD(relay_logged, number), RELAY_FIELD(relay_logged, size), sizeof(relay_logged),
         RELAY_FIELD(relay_found, number), RELAY_FIELD(relay_found, slot), sizeof(relay_found),

@@ -26,6 +26,10 @@ def refused(number):
     return b"! %d\n" % number
 
 
+def refused_at(number, place):
+    return b"! %d %d\n" % (number, place)
+
+
 def done(number):
     return b"= %d\n" % number
 
@@ -114,6 +118,37 @@ CASES += [
     (b"4 QUIT\r\n", refused(3)),
     (b"32 QUIT\r\n", refused(3)),
     (b"999999999 QUIT\r\n", refused(3)),
+]
+
+# ---- modes that are refused, and where: the place counts from 0 in the link's line, where the modes stand at 16
+CASES += [
+    # no '+' first; a '+' later; a letter that is none; of two faults the first
+    (b"1 :1CB SJOIN 5 #a n 1CBAAAAAA\r\n", refused_at(32, 16)),
+    (b"1 :1CB SJOIN 5 #a ++ 1CBAAAAAA\r\n", refused_at(32, 17)),
+    (b"1 :1CB SJOIN 5 #a +nN 1CBAAAAAA\r\n", refused_at(32, 18)),
+    (b"1 :1CB SJOIN 5 #a +n\xff 1CBAAAAAA\r\n", refused_at(32, 18)),
+    (b"1 :1CB SJOIN 5 #a +nxn 1CBAAAAAA\r\n", refused_at(32, 18)),
+    (b"31 :1CB SJOIN 5 #a +nx 1CBAAAAAA\r\n", refused_at(32, 18)),
+    # a letter twice, at its second place; SPACEs count
+    (b"1 :1CB SJOIN 5 #a +nn 1CBAAAAAA\r\n", refused_at(33, 18)),
+    (b"1 :1CB SJOIN 5 #a +ntnx 1CBAAAAAA\r\n", refused_at(33, 19)),
+    (b"1 :1CB   SJOIN 5  #a +kk a b :1CBAAAAAA\r\n", refused_at(33, 21)),
+    # a parameter missing, at the end of the line, with SPACEs there; too many, at the first surplus one
+    (b"1 :1CB SJOIN 5 #a +k 1CBAAAAAA\r\n", refused_at(34, 28)),
+    (b"1 :1CB SJOIN 5 #a +k 1CBAAAAAA  \r\n", refused_at(34, 30)),
+    (b"1 :1CB SJOIN 5 #a +kl a,b :1CBAAAAAA\r\n", refused_at(34, 34)),
+    (b"1 :1CB SJOIN 5 #a + x 1CBAAAAAA\r\n", refused_at(34, 18)),
+    (b"1 :1CB SJOIN 5 #a +k a,b 7 :1CBAAAAAA\r\n", refused_at(34, 23)),
+    # a bad key, a bad limit; of both the first
+    (b"1 :1CB SJOIN 5 #a +k a,b 1CBAAAAAA\r\n", refused_at(35, 19)),
+    (b"1 :1CB SJOIN 5 #a +k " + b"k" * 24 + b" 1CBAAAAAA\r\n", refused_at(35, 19)),
+    (b"1 :1CB SJOIN 5 #a +kl a,b x :1CBAAAAAA\r\n", refused_at(35, 20)),
+    (b"1 :1CB SJOIN 5 #a +l 65536 1CBAAAAAA\r\n", refused_at(36, 19)),
+    (b"1 :1CB SJOIN 5 #a +kl key 07 1CBAAAAAA\r\n", refused_at(36, 24)),
+    (b"1 :1CB SJOIN 5 #a +lk x a,b :1CBAAAAAA\r\n", refused_at(36, 20)),
+    # what is judged before the modes, and behind them, has no place
+    (b"1 :1CB SJOIN 5 a +nn 1CBAAAAAA\r\n", refused(16)),
+    (b"1 :1CB SJOIN 5 #a +n 1CBAAAAA\r\n", refused(18)),
 ]
 
 # ---- questions: the name and the text are what stands behind the first and the second SPACE, whatever bytes they are

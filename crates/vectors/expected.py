@@ -56,6 +56,7 @@ to the next. `link`, `drop`, `take` and `thin` are answered by
 
 and `take` and `thin` then by
 
+    at P            the place in the line that goes with a number of modes, or 0
     to L L          the links of the relay set, ascending, if any
     count N         how many they are
     sent W          what was written, with its CR LF, if anything was
@@ -75,7 +76,7 @@ An empty line follows each record's.
 
 What is below is made from the text of document 01 ("Reading one line",
 "Names and ids", "SJOIN", "What goes out", "The numbers a caller may get") and
-of document 02, sections 2 and 4, alone. It shares nothing with the program
+of document 02, sections 2, 4 and 6, alone. It shares nothing with the program
 that it judges. A mask is followed through all places of the text at once, so
 that many stars (02, section 3) take no longer than few.
 """
@@ -214,22 +215,32 @@ def example_records(source: bytes) -> List[Record]:
 LONGEST_LINE = 512
 MOST_PARAMETERS = 15
 COMMAND = re.compile(rb"[A-Za-z]+|[0-9]{3}")
+WORD = re.compile(rb"[^ ]+")
 
 
 class Message(NamedTuple):
-    """A line that was read. Without a prefix, `prefix` is None."""
+    """A line that was read. Without a prefix, `prefix` is None.
+
+    `places` has where each parameter begins in the line, and then where CR LF
+    stands; a message that is only to be written has none.
+    """
 
     prefix: Optional[bytes]
     command: bytes
     parameters: List[bytes]
+    places: Tuple[int, ...] = ()
 
 
 class Refused(Exception):
-    """What is refused, with the number that document 01 gives it."""
+    """What is refused, with the number that the documents give it.
 
-    def __init__(self, number: int):
-        super().__init__(number)
+    The place is that of what is wrong with modes, and 0 with any other number.
+    """
+
+    def __init__(self, number: int, place: int = 0):
+        super().__init__(number, place)
         self.number = number
+        self.place = place
 
 
 def line_text(line: bytes) -> bytes:
@@ -267,6 +278,18 @@ def split_parameters(rest: bytes) -> List[bytes]:
     return parameters
 
 
+def parameter_places(text: bytes) -> Tuple[int, ...]:
+    """Return where each parameter of a text begins, and then its length."""
+    words = list(WORD.finditer(text))[2 if text.startswith(COLON) else 1 :]
+    places = []
+    for word in words:
+        trailing = word.group().startswith(COLON)
+        places.append(word.start() + trailing)
+        if trailing:
+            break
+    return (*places, len(text))
+
+
 def read(line: bytes) -> Message:
     """Read one line, or refuse it with the lowest number that applies."""
     prefix, after_prefix = split_prefix(line_text(line))
@@ -278,7 +301,8 @@ def read(line: bytes) -> Message:
     parameters = split_parameters(rest)
     if len(parameters) > MOST_PARAMETERS:
         raise Refused(10)
-    return Message(prefix, command, parameters)
+    places = parameter_places(line[: -len(CR_LF)])
+    return Message(prefix, command, parameters, places)
 
 
 # --- Writing one line -------------------------------------------------------
@@ -438,26 +462,51 @@ def number(text: bytes, largest: int, refusal: int) -> int:
     return int(text)
 
 
+def letter_faults(letters: bytes, place: int) -> Dict[int, int]:
+    """Return the number of each letter at fault, by its place in the line."""
+    faults = {}
+    for k, letter in enumerate(letters):
+        if letter not in (MODES if k else b"+"):
+            faults[place + k] = 32
+        elif letter in letters[1:k]:
+            faults[place + k] = 33
+    return faults
+
+
+def is_limit(text: bytes) -> bool:
+    """Whether the text is a limit."""
+    return bool(NUMBER.fullmatch(text)) and 1 <= int(text) <= LARGEST_LIMIT
+
+
+def parameter_faults(message: Message, wanted: List[int]) -> Dict[int, int]:
+    """Return the number of each parameter at fault, by its place in the line."""
+    given, places = message.parameters[3:-1], message.places
+    if len(given) > len(wanted):
+        return {places[3 + len(wanted)]: 34}
+    if len(given) < len(wanted):
+        return {places[-1]: 34}
+    faults = {}
+    for letter, parameter, place in zip(wanted, given, places[3:]):
+        if letter == ord("k") and not KEY.fullmatch(parameter):
+            faults[place] = 35
+        if letter == ord("l") and not is_limit(parameter):
+            faults[place] = 36
+    return faults
+
+
 def read_modes(
-    text: bytes, given: List[bytes]
+    message: Message,
 ) -> Tuple[FrozenSet[int], Optional[bytes], Optional[int]]:
-    """Return modes, key and limit, or refuse them with 17."""
-    letters = text[1:]
-    distinct = frozenset(letters)
-    if text[:1] != b"+" or not distinct <= set(MODES):
-        raise Refused(17)
-    wanted = [letter for letter in letters if letter in b"kl"]
-    if len(distinct) != len(letters) or len(wanted) != len(given):
-        raise Refused(17)
-    key = limit = None
-    for letter, parameter in zip(wanted, given):
-        if letter == ord("l"):
-            limit = number(parameter, LARGEST_LIMIT, 17)
-        else:
-            key = parameter
-    if limit == 0 or (key is not None and not KEY.fullmatch(key)):
-        raise Refused(17)
-    return distinct, key, limit
+    """Return modes, key and limit, or refuse them by the earliest fault."""
+    modes = message.parameters[2]
+    wanted = [letter for letter in modes[1:] if letter in b"kl"]
+    faults = letter_faults(modes, message.places[2])
+    faults.update(parameter_faults(message, wanted))
+    if faults:
+        raise Refused(faults[min(faults)], min(faults))
+    of = dict(zip(wanted, message.parameters[3:-1]))
+    key, limit = of.get(ord("k")), of.get(ord("l"))
+    return frozenset(modes[1:]), key, None if limit is None else int(limit)
 
 
 def read_members(text: bytes) -> Dict[bytes, int]:
@@ -476,18 +525,21 @@ def read_members(text: bytes) -> Dict[bytes, int]:
 
 
 def read_join(message: Message) -> Channel:
-    """Return the record that an SJOIN tells of, or refuse it, 12 to 18."""
+    """Return the record that an SJOIN tells of, or refuse it.
+
+    The numbers are 12 to 18, with 32 to 36 in the place of 17.
+    """
     if not 4 <= len(message.parameters) <= 6:
         raise Refused(12)
     if not SERVER_ID.fullmatch(message.prefix or b""):
         raise Refused(13)
-    time, name, modes, *given, members = message.parameters
+    time, name, *_, members = message.parameters
     when = number(time, LATEST_TIME, 14)
     if when == 0:
         raise Refused(15)
     if not CHANNEL.fullmatch(name):
         raise Refused(16)
-    return Channel(name, when, *read_modes(modes, given), read_members(members))
+    return Channel(name, when, *read_modes(message), read_members(members))
 
 
 def merged_members(old: Channel, new: Channel) -> Dict[bytes, int]:
@@ -766,9 +818,10 @@ def table_report(table: Table) -> List[bytes]:
     return report
 
 
-def taken_report(relayed: FrozenSet[int], sent: bytes) -> List[bytes]:
-    """Return the output lines for what goes out, and where to."""
-    report = [show_links(b"to", relayed), b"count %d" % len(relayed)]
+def taken_report(place: int, relayed: FrozenSet[int], sent: bytes) -> List[bytes]:
+    """Return the output lines for the place, what goes out, and where to."""
+    report = [b"at %d" % place, show_links(b"to", relayed)]
+    report.append(b"count %d" % len(relayed))
     return report + ([b"sent " + sent + b"\r"] if sent else [])
 
 
@@ -778,9 +831,9 @@ def take_step(table: Table, record: Record) -> Tuple[Table, List[bytes]]:
     try:
         taken = take(table, int(link), line, LENT[record.word])
     except Refused as refusal:
-        nothing = taken_report(frozenset(), b"")
+        nothing = taken_report(refusal.place, frozenset(), b"")
         return table, [refused(refusal), *nothing]
-    return taken.table, [b"done", *taken_report(taken.relayed, taken.sent)]
+    return taken.table, [b"done", *taken_report(0, taken.relayed, taken.sent)]
 
 
 def link_step(table: Table, record: Record) -> Tuple[Table, List[bytes]]:

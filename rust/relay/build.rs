@@ -2,7 +2,7 @@
 //! the variable RELAY_LIB_DIR. RELAY_EARLIER_LIB names the file of an earlier library, which is
 //! linked beside it for the benchmark, its symbols renamed. It may lack the feeder's functions and
 //! the reader of day logs, and its tables may have no ban lists, which the option
-//! earlier_without_lists tells the crate.
+//! earlier_without_lists tells the crate. Whether it tells places is read from its layout at run time.
 
 use std::collections::BTreeSet;
 use std::env;

@@ -8,7 +8,7 @@ use lib.ListN.{length}
 use borrow.Author.Tests.{eq-eqb, ne-eqb, not-false}
 use Rattle.refusal.specs.Numbers.{accepted, wrongParamCount, badSource, badMasks}
 use Rattle.refusal.specs.Rules.{firstOf, ascend, ascendFrom, placeIn}
-use Rattle.refusal.proofs.Rules.{skip, stop, first-nil, first-none, numbered, append-some, append-none, both-none}
+use Rattle.refusal.proofs.Rules.{skip, stop, first-nil, first-none, plainRules, numbered, append-some, append-none, both-none}
 use Rattle.laws.specs.Lists.{all, isNil, same}
 use Rattle.laws.proofs.Bools.{and-right}
 use Rattle.octets.specs.Decimals.{valueOf}
@@ -32,6 +32,11 @@ rules-ascend c = refl
 pub rules-numbered : (c : Content) → numbered (bmaskRules c) ≡ true
 unfolding bmaskRules
 rules-numbered c = refl
+
+-- and none is one of modes
+pub rules-plain : (c : Content) → plainRules (bmaskRules c) ≡ true
+unfolding bmaskRules
+rules-plain c = refl
 
 -- ---- the numbers, in their order
 module _ (c : Content) where

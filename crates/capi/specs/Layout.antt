@@ -107,9 +107,9 @@ numbered k = byte ∷ k ∷ []
 abbrev pub registered : List Kind
 registered = struct head ∷ byte ∷ []
 
--- Taken: the head, the length of what was written, the links and how many they are, then its number
+-- Taken: the head, the length of what was written, the place in the line, the links and how many they are, then its number
 abbrev pub taken : List Kind
-taken = struct head ∷ long ∷ word ∷ word ∷ byte ∷ []
+taken = struct head ∷ long ∷ long ∷ word ∷ word ∷ byte ∷ []
 
 -- Text: the room for the words, then their length
 abbrev pub text : List Kind

@@ -5,7 +5,7 @@ ghost use lib.ListN.{getD};
 ghost use Rattle.capi.specs.Layout.{layout};
 
 // How many numbers there are, this one counted.
-const COUNT: usize = 142;
+const COUNT: usize = 144;
 
 // The number k, or 0 past the last: how many there are after it, then of each struct the place and the size of each field, and its own size.
 pub fn number(k: usize) -> usize
@@ -15,7 +15,7 @@ pub fn number(k: usize) -> usize
         return 0;
     }
     let numbers = [
-        141usize,
+        143usize,
         0, // Span.start
         8,
         8, // Span.end
@@ -101,13 +101,15 @@ pub fn number(k: usize) -> usize
         12168,
         12168, // Taken.len
         8,
-        12176, // Taken.set
+        12176, // Taken.place
+        8,
+        12184, // Taken.set
         4,
-        12180, // Taken.count
+        12188, // Taken.count
         4,
-        12184, // Taken.number
+        12192, // Taken.number
         1,
-        12192, // Taken
+        12200, // Taken
         0, // Banned.number
         1,
         1, // Banned.yes

@@ -2,11 +2,12 @@
 use Prim.Native.Nat.{ℕ, zero, suc, _+_, _-_, _*_, _^_, _≤_, _<_}
 use mathlib.Core.Path.{_≡_, refl, sym, ap, _∙_}
 use mathlib.Core.Bool.{Bool, true, false, cond}
-use mathlib.Core.List.{List, [], _∷_, _++_, map}
+use mathlib.Core.List.{List, [], _∷_, _++_, map, append-nil}
 use native.Mathlib.Numerals.{add-one}
 use native.Mathlib.Omega.{arith}
 use lib.ListN.{length, take, length-append, length-take}
-use borrow.Author.Tests.{ne-eqb, eqb-false, ltb-true}
+use lib.Dec.{eqb}
+use borrow.Author.Tests.{eq-eqb, ne-eqb, eqb-true, eqb-false, ltb-true}
 use Rattle.refusal.specs.Rules.{emitted}
 use Rattle.refusal.proofs.Rules.{emitted-all}
 use Rattle.octets.specs.Bytes.{lf, space, comma}
@@ -27,14 +28,16 @@ use Rattle.journal.proofs.Records.{accepts}
 use Rattle.wording.specs.declared.Text.{Text}
 use Rattle.wording.specs.Wording.{wordsOf, textLimit, textOf}
 use Rattle.wording.proofs.Fitting.{words-few, words-back}
-use Rattle.console.specs.Answers.{spaced, numberedText, noLink, linksText, relayedText, acceptedText}
+use Rattle.console.specs.Showing.{pointedLine}
+use Rattle.console.specs.Answers.{exclamation, spaced, placeText, numberedText, refusedText, IsPlaceIn, noLink, linksText, relayedText, acceptedText}
 use Rattle.console.specs.Buffers.{answerRoom}
+use Rattle.console.proofs.Pointing.{length-pointed}
 
 -- the front of some room is no longer than the room
 pub front-few : {m : ℕ} (s p : List ℕ) (n : ℕ) → p ≡ part s 0 n → length s ≤ m → length p ≤ m
 front-few s p n e h = omega (arith, ap (λ (l : List ℕ). length l) (e ∙ part-front s n), length-take n s)
 
--- ---- a number, and its words
+-- ---- a number, its words and a place
 module _ (n : ℕ) (t : Text) (is : t ≡ textOf n) where
   size : t .len ≡ length (wordsOf n)
   size = ap (λ (x : Text). x .len) is
@@ -58,18 +61,73 @@ worded-few n true = go (isNil (wordsOf n))
     go true = omega arith
     go false = omega (arith, words-few n)
 
-pub numbered-few : (mark n : ℕ) (worded : Bool) → n < 2 ^ 32 → length (numberedText mark n worded) ≤ answerRoom
+place-few : (place : ℕ) → place < 10 ^ 3 → length (placeText place) ≤ 4
+unfolding placeText
+place-few place h = go (eqb place 0)
+  where
+    go : (t : Bool) → length (cond t [] (space ∷ digitsOf place)) ≤ 4
+    go true = omega arith
+    go false = omega (arith, digits-within place 2 h)
+
+numbered-few : (mark n place : ℕ) (worded : Bool) → n < 2 ^ 32 → place < 10 ^ 3 → length (numberedText mark n place worded) ≤ 17 + suc textLimit
 unfolding numberedText
-numbered-few mark n worded h =
+numbered-few mark n place worded h k =
     let words = cond worded (spaced (wordsOf n)) [] in
+    let opening = (mark ∷ space ∷ []) ++ digitsOf n in
     omega (
       arith,
-      length-append ((mark ∷ space ∷ []) ++ digitsOf n ++ words) (lf ∷ []),
-      length-append ((mark ∷ space ∷ []) ++ digitsOf n) words,
+      length-append (opening ++ placeText place ++ words) (lf ∷ []),
+      length-append (opening ++ placeText place) words,
+      length-append opening (placeText place),
       length-append (mark ∷ space ∷ []) (digitsOf n),
       digits-ten n h,
+      place-few place k,
       worded-few n worded,
     )
+
+-- the line of a terminal is shown, and no other
+pointed-few : (place : ℕ) (line : List ℕ) (worded : Bool) → length line ≤ lineLimit → place + 2 ≤ length line → length (cond worded (pointedLine place line) []) ≤ 2 * lineLimit
+pointed-few place line false h k = omega arith
+pointed-few place line true h k = omega (arith, length-pointed place line (omega arith))
+
+-- ---- the answer to a refused line
+module _ (n place : ℕ) (line : List ℕ) (worded : Bool) where
+  pub refused-plain : place ≡ 0 → refusedText n place line worded ≡ numberedText exclamation n place worded
+  unfolding refusedText
+  refused-plain e = rw (eq-eqb place 0 e) (append-nil (numberedText exclamation n place worded))
+
+  -- where a place is at fault
+  module _ (ne : place ≡ 0 → ⊥) where
+    pub refused-wordless : worded ≡ false → refusedText n place line worded ≡ numberedText exclamation n place worded
+    unfolding refusedText
+    refused-wordless e = rw (ne-eqb place 0 ne, e) (append-nil (numberedText exclamation n place false))
+
+    pub refused-pointed : worded ≡ true → refusedText n place line worded ≡ numberedText exclamation n place worded ++ pointedLine place line
+    unfolding refusedText
+    refused-pointed e = rw (ne-eqb place 0 ne, e)
+
+  pub refused-few : n < 2 ^ 32 → IsPlaceIn line place → length (refusedText n place line worded) ≤ answerRoom
+  unfolding refusedText
+  refused-few h inside = go (eqb place 0) refl
+    where
+      numbered : List ℕ
+      numbered = numberedText exclamation n place worded
+
+      below : List ℕ
+      below = cond worded (pointedLine place line) []
+
+      go : (t : Bool) → eqb place 0 ≡ t → length (numbered ++ cond t [] below) ≤ answerRoom
+      go true e =
+          let none : place ≡ 0 = eqb-true place 0 e in
+          omega (arith, length-append numbered [], numbered-few exclamation n place worded h (omega arith))
+      go false e =
+          let there = inside (eqb-false place 0 e) in
+          omega (
+            arith,
+            length-append numbered below,
+            numbered-few exclamation n place worded h (omega arith),
+            pointed-few place line worded (there .0) (there .1),
+          )
 
 -- ---- links, one by one
 -- those from a place on, a comma before each

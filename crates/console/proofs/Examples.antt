@@ -3,6 +3,7 @@ use Prim.Native.Nat.{ℕ}
 use mathlib.Core.Path.{_≡_, refl}
 use mathlib.Core.Bool.{true, false}
 use mathlib.Core.List.{List, [], _∷_, map}
+use native.Mathlib.Omega.{arith}
 use Rattle.octets.specs.Bytes.{cr, lf, space, isDigit, within}
 use Rattle.octets.specs.Order.{compare}
 use Rattle.octets.specs.Room.{part}
@@ -18,7 +19,8 @@ use Rattle.wording.specs.Wording.{bytesOf, table, wordsIn}
 use Rattle.console.specs.declared.requests.Request.the-variants.{Register, Unregister, Take, Banned, Channels, Unknown, Help, Nothing}
 use Rattle.console.specs.Lines.{kept, firstLine}
 use Rattle.console.specs.Requests.{plus, minus, question, ended, takingIn, questionIn, wordedIn, requestIn, lineFrom, nameIn, textIn}
-use Rattle.console.specs.Answers.{spaced, numberedText, linksText, relayedText}
+use Rattle.console.specs.Showing.{shownByte, shown, pointer, pointedLine}
+use Rattle.console.specs.Answers.{exclamation, spaced, placeText, numberedText, refusedText, IsPlaceIn, linksText, relayedText}
 use Rattle.console.specs.Typing.{typed, typedIn}
 use Rattle.console.proofs.Keeping.{kept-line}
 use Rattle.console.proofs.Questioned.{kept-question}
@@ -76,18 +78,45 @@ unfolding firstLine
 first = refl
 
 -- ---- answers
+-- mode n stands twice, at 17 and at 18
+twice : List ℕ
+twice = bytesOf ":1AB SJOIN 1 #a +nn 1ABAAAAAA\r\n"
+
 -- `! 20`; typed, `! 15 time is 0` and `= 0`
-numbered : numberedText 33 20 false ≡ 33 ∷ space ∷ 50 ∷ 48 ∷ lf ∷ []
-unfolding numberedText digitsOf digitsUpTo
+numbered : numberedText exclamation 20 0 false ≡ exclamation ∷ space ∷ 50 ∷ 48 ∷ lf ∷ []
+unfolding numberedText placeText digitsOf digitsUpTo
 numbered = refl
 
-worded : numberedText 33 15 true ≡ bytesOf "! 15 time is 0\n"
-unfolding numberedText digitsOf digitsUpTo spaced table wordsIn bytesOf
+worded : numberedText exclamation 15 0 true ≡ bytesOf "! 15 time is 0\n"
+unfolding numberedText placeText digitsOf digitsUpTo spaced table wordsIn bytesOf
 worded = refl
 
-wordless : numberedText 61 0 true ≡ bytesOf "= 0\n"
-unfolding numberedText digitsOf digitsUpTo spaced table wordsIn bytesOf
+wordless : numberedText 61 0 0 true ≡ bytesOf "= 0\n"
+unfolding numberedText placeText digitsOf digitsUpTo spaced table wordsIn bytesOf
 wordless = refl
+
+-- a line with a fault at a place, from a pipe and typed; a line that has none
+placed : refusedText 33 18 twice false ≡ bytesOf "! 33 18\n"
+unfolding refusedText numberedText placeText digitsOf digitsUpTo bytesOf
+placed = refl
+
+placed-typed : refusedText 33 18 twice true ≡ bytesOf "! 33 18 mode letter twice\n:1AB SJOIN 1 #a +nn 1ABAAAAAA\n                  ^\n"
+unfolding twice refusedText numberedText placeText digitsOf digitsUpTo spaced table wordsIn pointedLine shown shownByte within pointer bytesOf
+placed-typed = refl
+
+unplaced : refusedText 15 0 twice true ≡ bytesOf "! 15 time is 0\n"
+unfolding refusedText numberedText placeText digitsOf digitsUpTo spaced table wordsIn bytesOf
+unplaced = refl
+
+-- DEL, ESC and a byte over 127 are shown as '?'
+odd : shown (97 ∷ 127 ∷ 27 ∷ 255 ∷ 126 ∷ cr ∷ lf ∷ []) ≡ bytesOf "a???~"
+unfolding shown shownByte within bytesOf
+odd = refl
+
+-- a place of a line, as the answer to it asks
+inside : IsPlaceIn twice 18
+unfolding twice bytesOf
+inside ne = (omega arith, omega arith)
 
 -- ---- lines that are typed: `help`, an empty line, `?`
 typing : map typedIn (bytesOf "help\n" ∷ bytesOf "\r\n" ∷ bytesOf "?\n" ∷ []) ≡ Help ∷ Nothing ∷ Channels ∷ []

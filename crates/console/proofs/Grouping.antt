@@ -24,9 +24,10 @@ use Rattle.relay.specs.declared.Taken.{Taken}
 use Rattle.relay.specs.Arrival.{Arrival, arrival}
 use Rattle.relay.specs.Relay.{Outcome, processRules, processAnswer, takenOf, sent}
 use Rattle.relay.proofs.Taking.{answer-number}
+use Rattle.relay.proofs.Places.{answer-place}
 use Rattle.relay.proofs.Answering.{answer-refused, answer-accepted, accepted-line, sent-line}
 use Rattle.console.specs.declared.Session.{Session}
-use Rattle.console.specs.Answers.{refusedText, acceptedText}
+use Rattle.console.specs.Answers.{refusedText, IsPlaceIn, acceptedText}
 use Rattle.console.specs.Buffers.{answerRoom, recordsRoom, answersRoom}
 use Rattle.console.specs.Groups.{hasRoom, Takes}
 use Rattle.console.proofs.Answering.{accepted-few}
@@ -60,6 +61,13 @@ module _ (s : Session) (bans : List ℕ) (link : ℕ) (line : List ℕ) (r : Tak
     number : o .number ≡ r .number
     number = sym (ap (λ (x : Taken). x .number) is)
 
+    place : o .place ≡ r .place
+    place = sym (ap (λ (x : Taken). x .place) is)
+
+    -- the place that the relay gives is one that can be shown
+    pub place-inside : IsPlaceIn line (r .place)
+    place-inside ne = rw (← place) (answer-place t a lineLimit (λ e. ne (sym place ∙ e)))
+
     -- what comes back by value and what is lent are the table after
     after : tableWith (r .head) bans′ ≡ o .table
     after = ap₂ tableWith (ap (λ (x : Taken). x .head) is) lists
@@ -72,15 +80,15 @@ module _ (s : Session) (bans : List ℕ) (link : ℕ) (line : List ℕ) (r : Tak
       stays : o .table ≡ t
       stays = ap (λ (x : Outcome). x .table) (sym (answer-refused t a lineLimit (r .number) rule ne))
 
-      pub takes-refused : length (refusedText (r .number) (s .typed)) ≤ answerRoom → (records answers answers′ : List ℕ) (next : Session) → next ≡ record { head = next .head; pending = s .pending; journal = s .journal; recorded = next .recorded; answered = next .answered; typed = s .typed; more = s .more } → next .head ≡ s .head → next .recorded ≡ s .recorded → s .answered + answerRoom ≤ length answers
-          → Adds answers (s .answered) answers′ (next .answered) (refusedText (r .number) (s .typed)) → Takes s bans records answers link line next bans′ records answers′
+      pub takes-refused : length (refusedText (r .number) (r .place) line (s .typed)) ≤ answerRoom → (records answers answers′ : List ℕ) (next : Session) → next ≡ record { head = next .head; pending = s .pending; journal = s .journal; recorded = next .recorded; answered = next .answered; typed = s .typed; more = s .more } → next .head ≡ s .head → next .recorded ≡ s .recorded → s .answered + answerRoom ≤ length answers
+          → Adds answers (s .answered) answers′ (next .answered) (refusedText (r .number) (r .place) line (s .typed)) → Takes s bans records answers link line next bans′ records answers′
       takes-refused few records answers answers′ next others head recorded fits adds = record {
         others = others;
         table = ap₂ tableWith head (lists ∙ ap (λ (x : Table). x .bans) stays) ∙ sym stays;
         kept = rw (recorded, number, ne-eqb (r .number) accepted ne) (sym (append-nil (take (s .recorded) records)));
         answered =
-            rw (number, ne-eqb (r .number) accepted ne)
-            (added-exactly answers answers′ (s .answered) (next .answered) (refusedText (r .number) (s .typed)) adds (omega (arith, fits, few)));
+            rw (number, place, ne-eqb (r .number) accepted ne)
+            (added-exactly answers answers′ (s .answered) (next .answered) (refusedText (r .number) (r .place) line (s .typed)) adds (omega (arith, fits, few)));
       }
 
     -- ---- an accepted one adds its record, and what goes out is in its answer

@@ -3,6 +3,7 @@ mod Splitting
 mod Asking
 mod Keeping
 mod Questioned
+mod Pointing
 mod Answering
 mod Grouping
 mod Restoring

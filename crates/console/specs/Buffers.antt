@@ -3,7 +3,7 @@ use Prim.Native.Nat.{ℕ}
 
 -- the room for an answer, for the records and the answers of a group, and for a line that was typed and gets CR LF
 abbrev pub answerRoom : ℕ
-answerRoom = 1024
+answerRoom = 1152
 
 abbrev pub recordsRoom : ℕ
 recordsRoom = 8192

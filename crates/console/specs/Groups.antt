@@ -28,7 +28,7 @@ keptOf t a = cond (eqb (processAnswer t a lineLimit .number) accepted) (recordOf
 abbrev pub answerTo : Bool → Table → Arrival → List ℕ
 answerTo worded t a =
     let o : Outcome = processAnswer t a lineLimit in
-    cond (eqb (o .number) accepted) (acceptedText (o .set) (sent t a lineLimit)) (refusedText (o .number) worded)
+    cond (eqb (o .number) accepted) (acceptedText (o .set) (sent t a lineLimit)) (refusedText (o .number) (o .place) (a .line) worded)
 
 -- The relay takes the line; the records of the group have behind them what is kept of it, and its answers have its answer. All else is as it was.
 pub record Takes (s : Session) (bans records answers : List ℕ) (link : ℕ) (line : List ℕ) (next : Session) (bans′ records′ answers′ : List ℕ) : Type 0 where

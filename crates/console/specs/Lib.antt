@@ -1,5 +1,6 @@
 pub mod Lines
 pub mod Requests
+pub mod Showing
 pub mod Answers
 pub mod Buffers
 pub mod Groups

@@ -13,8 +13,9 @@ ghost use Rattle.octets.specs.Private.Additions.{Adds, AtFront};
 ghost use Rattle.links.specs.Links.{linksIn};
 ghost use Rattle.message.specs.Grammar.{lineLimit};
 ghost use Rattle.wording.specs.Wording.{wordsOf};
-ghost use Rattle.console.specs.Answers.{spaced, numberedText, refusedText, linksText, relayedText, acceptedText};
+ghost use Rattle.console.specs.Answers.{spaced, placeText, numberedText, refusedText, IsPlaceIn, linksText, relayedText, acceptedText};
 ghost use Rattle.console.specs.Buffers.{answerRoom};
+use crate::showing::put_pointed;
 use bans::BanList;
 use libc::STDOUT_FILENO;
 use links::Links;
@@ -30,8 +31,8 @@ use table::Banned;
 use table::Head;
 use wording::words;
 
-// Room for any answer but the table.
-pub(crate) const ROOM: usize = 1024;
+// Room for any answer but the table: the longest has number, place and words, and a line of 512 bytes with a caret at its end.
+pub(crate) const ROOM: usize = 1152;
 
 pub(crate) fn print(s: &[u8]) -> bool {
     io::write_all(STDOUT_FILENO, s)
@@ -53,23 +54,57 @@ pub(crate) fn put_words(out: &mut [u8], at: usize, number: u8, worded: bool) -> 
     put(out, next, part(&bytes, 0, text.len))
 }
 
-// Adds a mark, a SPACE and a number, with its words where they are asked for.
-fn put_numbered(out: &mut [u8], at: usize, mark: u8, number: u8, worded: bool) -> usize
-    ensures { λ n. ⌜ Adds (now (out .entry)) at (now (out .exit)) n (numberedText mark number worded) ⌝ }
+// Adds a SPACE and a place, or nothing where it is 0: the relay answers 0 where it tells no place.
+fn put_place(out: &mut [u8], at: usize, place: usize) -> usize
+    ensures { λ n. ⌜ Adds (now (out .entry)) at (now (out .exit)) n (placeText place) ⌝ }
+{
+    if place == 0 {
+        return at;
+    }
+    let next = put(out, at, b" ");
+    put_decimal(out, next, place as u64)
+}
+
+// Adds a mark, a SPACE, a number, and a place where it isn't 0, with the number's words where they are asked for.
+fn put_numbered(
+    out: &mut [u8],
+    at: usize,
+    mark: u8,
+    number: u8,
+    place: usize,
+    worded: bool,
+) -> usize
+    ensures { λ n. ⌜ Adds (now (out .entry)) at (now (out .exit)) n (numberedText mark number place worded) ⌝ }
 {
     let opening = [mark, b' '];
     let opened = put(out, at, &opening);
     let numbered = put_decimal(out, opened, number as u64);
-    let told = put_words(out, numbered, number, worded);
+    let placed = put_place(out, numbered, place);
+    let told = put_words(out, placed, number, worded);
     put(out, told, b"\n")
 }
 
-// Adds the answer to a line that is refused.
-pub(crate) fn put_refused(out: &mut [u8], at: usize, number: u8, worded: bool) -> usize
-    ensures adds { λ n. ⌜ Adds (now (out .entry)) at (now (out .exit)) n (refusedText number worded) ⌝ }
-    ensures few { λ _. ⌜ length (refusedText number worded) ≤ answerRoom ⌝ }
+// Adds the answer to a line that is refused. A place that isn't 0 is told, and shown to whoever reads the words.
+pub(crate) fn put_refused(
+    out: &mut [u8],
+    at: usize,
+    number: u8,
+    place: usize,
+    line: &[u8],
+    worded: bool,
+) -> usize
+    requires { ⌜ IsPlaceIn (now line) place ⌝ }
+    ensures adds { λ n. ⌜ Adds (now (out .entry)) at (now (out .exit)) n (refusedText number place (now (line .entry)) worded) ⌝ }
+    ensures few { λ _. ⌜ length (refusedText number place (now (line .entry)) worded) ≤ answerRoom ⌝ }
 {
-    put_numbered(out, at, b'!', number, worded)
+    let told = put_numbered(out, at, b'!', number, place, worded);
+    if place == 0 {
+        return told;
+    }
+    if !worded {
+        return told;
+    }
+    put_pointed(out, told, place, line)
 }
 
 // Adds the answer to what is no request.
@@ -79,7 +114,7 @@ pub(crate) fn put_input(out: &mut [u8], at: usize) -> usize {
 
 fn say_numbered(mark: u8, number: u8, worded: bool) -> bool {
     let mut text = [0u8; ROOM];
-    let n = put_numbered(&mut text, 0, mark, number, worded);
+    let n = put_numbered(&mut text, 0, mark, number, 0, worded);
     print(part(&text, 0, n))
 }
 
@@ -112,7 +147,7 @@ pub(crate) fn say_channels(t: Head, bans: &[u8; BanList::BANS]) -> bool {
 // The answer to `help`.
 pub(crate) fn say_help() -> bool {
     print(
-        b"+N        registers link N\n-N        drops link N\nN LINE    takes LINE from link N\n?         prints the table\nbanned NAME TEXT\n          says whether TEXT is banned from channel NAME\nhelp      prints this\nCtrl-D    ends the program\n",
+        b"+N        registers link N\n-N        drops link N\nN LINE    takes LINE from link N\n?         prints the table\nbanned NAME TEXT\n          says whether TEXT is banned from channel NAME\nhelp      prints this\nCtrl-D    ends the program\n! NUMBER PLACE\n          answers a refused LINE; PLACE counts in LINE, from 0\n",
     )
 }
 

@@ -16,7 +16,8 @@ use octets::put;
 
 // Room for the records of a group, and for its answers. From a pipe or a file the lines of one read always have room: it brings 4,096 bytes behind at most 573 that
 // are kept of the line under way; an accepted line of n bytes, with the number and the SPACE before it, has a record of at most n + 3; and no answer is longer than
-// eight times its input line, the longest being `! input` to an empty one. At a terminal, where a number has its words, a group may be closed sooner.
+// eight times its input line, the longest being `! input` to an empty one. At a terminal, where a number has its words and a line is shown with its place at fault, a
+// group may be closed sooner.
 pub(crate) const RECORDS: usize = 8192;
 
 pub(crate) const ANSWERS: usize = 40960;

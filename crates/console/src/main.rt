@@ -1,6 +1,8 @@
 // The relay on standard input and output, for a person at a terminal, a script, or socat. Input, a line each: `+N` registers link N, `-N` drops it, `N `
 // and the bytes up to and including LF are a line from link N, `?` asks for the table, and `banned NAME TEXT` whether a text is banned from a channel. Answers come
-// in the order of the input. The links' lines of one read are a group: they are answered together, at its end. Any other request closes the group before it.
+// in the order of the input. A refused line gets `! NUMBER`, or `! NUMBER PLACE` where the relay tells the place at fault: how many bytes of the link's line, without
+// the `N ` before it, stand before that. At a terminal the number has its words, and the line is shown with a caret under the place. The links' lines of one read are a
+// group: they are answered together, at its end. Any other request closes the group before it.
 // With an argument, the file of that name is the day log. Its records are taken first, so that the day goes on where it was; then the records of each group's accepted
 // lines are added, and on the disk, before any line of the group is answered. What makes the program stop is said on standard error in a line that begins with
 // 'relay: ', by which bin/relay knows, since a program of this language has no exit status.
@@ -9,6 +11,7 @@ mod daylog;
 mod groups;
 mod lines;
 mod requests;
+mod showing;
 
 ghost use mathlib.Core.Path.{_≡_};
 ghost use mathlib.Core.Bool.{true};
@@ -111,7 +114,14 @@ fn take(
     let mut out = [0u8; LINE_LIMIT];
     let taken = process(s.head, bans, link, line, &mut out);
     if taken.number != ACCEPTED {
-        s.answered = put_refused(answers, s.answered, taken.number, s.typed);
+        s.answered = put_refused(
+            answers,
+            s.answered,
+            taken.number,
+            taken.place,
+            line,
+            s.typed,
+        );
         return s;
     }
     let head = taken.head;

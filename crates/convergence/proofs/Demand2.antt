@@ -69,7 +69,7 @@ module _ (t : Table) (a : Arrival) (out : List ℕ) (good : ruled t a out ≡ ac
       }
 
   accepts : Accepts t a out (taken t a) after
-  accepts = record { number = refl; table = refl; relays = relays; silent = silent }
+  accepts = record { number = refl; place = refl; table = refl; relays = relays; silent = silent }
 
 -- Our taking meets demand 2.
 pub demand2 : Demand2 ours

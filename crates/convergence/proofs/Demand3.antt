@@ -169,7 +169,7 @@ merged m n (l ∷ s) (j ∷ t) p q h i k e f =
 -- Our taking and our merging meet demand 3.
 pub demand3 : Demand3 ours ourMerging
 demand3 = record {
-  numbers = λ start js empty kept. walked start empty js kept .0;
+  verdicts = λ start js empty kept. walked start empty js kept .0;
   leaves = λ start js empty kept. leaves start empty js kept;
   alike = λ start other js ks empty void kept h i.
       rw (first-after start empty js kept, first-after other void ks (kept-same (goodLines start js) (goodLines other ks) h i kept))

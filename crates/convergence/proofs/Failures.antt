@@ -9,7 +9,7 @@ use native.Mathlib.Omega.{arith}
 use lib.ListN.{length, set}
 use lib.Dec.{eqb}
 use borrow.Author.Tests.{eq-eqb, eqb-true, eqb-false}
-use Rattle.refusal.specs.Numbers.{accepted, notWellFormed}
+use Rattle.refusal.specs.Numbers.{accepted, notWellFormed, isModeNumber}
 use Rattle.refusal.proofs.Rules.{stop}
 use Rattle.laws.specs.Bits.{hasBit}
 use Rattle.laws.specs.Lists.{all, sameBy}
@@ -41,12 +41,12 @@ use Rattle.relay.specs.Relay.{networkBy, Outcome}
 use Rattle.relay.proofs.Answering.{answer-accepted}
 use Rattle.relay.proofs.Taking.{network-joined}
 use Rattle.relay.proofs.Joined.{command-join, opened}
-use Rattle.convergence.specs.Demands.{Taking, Merging, ruled, ruledMerge, Merges, Accepts, Demand2, Join, goodLines, takeJoin, tableAfter, channelOf, Kept, plainRecord, plainWhole, holding, firstSlot, isLateMask, Demand3}
+use Rattle.convergence.specs.Demands.{Taking, Merging, ruled, ruledMerge, Merges, Accepts, Demand2, Join, goodLines, takeJoin, tableAfter, channelOf, Kept, plainRecord, plainWhole, holding, firstSlot, isLateMask, Demand3, Demand1}
 use Rattle.convergence.specs.Ours.{ours}
-use Rattle.convergence.specs.Useless.{refusing, constant, unaltering, firstOnly, countedAs, firstRecord, neverRefusing}
+use Rattle.convergence.specs.Useless.{refusing, constant, unaltering, firstOnly, countedAs, firstRecord, neverRefusing, unpointing}
 use Rattle.convergence.proofs.Demand2.{goes}
 use Rattle.convergence.proofs.Demand3.{first-plain, demand3}
-use Rattle.convergence.proofs.Lines.{earlier, later, earlier-command, later-command, room, start, earlierFrom, laterFrom, earlier-tells, later-tells, earlier-number, later-number, stored-race, incoming-race, kept-by, not-none}
+use Rattle.convergence.proofs.Lines.{earlier, later, earlier-command, later-command, room, start, earlierFrom, laterFrom, earlier-tells, later-tells, earlier-number, later-number, stored-race, incoming-race, kept-by, not-none, twice, twice-number}
 
 -- ---- the lines are good: links 0, 3 and 5 are registered
 abbrev links : ℕ
@@ -275,6 +275,14 @@ module _ (n : ℕ) (d : Demand2 (countedAs n)) where
 pub counted-fails : (n : ℕ) → Demand2 (countedAs n) → ⊥
 counted-fails n d = omega (arith, counts n d links 3 on-3 ∙ two-others, counts n d 1 0 alone ∙ no-other)
 
+-- ---- a relay that never tells the place: `twice` has its second n at place 21
+-- A relay that never tells the place doesn't meet demand 1.
+pub unpointing-fails : Demand1 unpointing → ⊥
+unpointing-fails d =
+    let n = twice-number links 3 on-3 in
+    let p = d .places (start links) (arrival 3 twice) room (ap isModeNumber n) in
+    omega (arith, p .0)
+
 -- ---- a merging that answers its first record, whatever the taking
 -- for the records of `later` and of `earlier` it doesn't answer the record of both lines
 pub first-record : firstRecord (plainWhole (later ∷ [])) (plainWhole (earlier ∷ [])) ≡ record { number = accepted; result = plainWhole (later ∷ earlier ∷ []) } → ⊥
@@ -302,7 +310,7 @@ none = whole emptyRecord emptyList
 -- With our taking, the merging that never refuses meets demand 3.
 pub never-refusing-meets : Demand3 ours neverRefusing
 never-refusing-meets = record {
-  numbers = demand3 .numbers;
+  verdicts = demand3 .verdicts;
   leaves = demand3 .leaves;
   alike = demand3 .alike;
   merges = λ start other js ks empty void some any kept. ap unrefused (demand3 .merges start other js ks empty void some any kept);

@@ -33,6 +33,9 @@ use Rattle.table.specs.Network.{Table, Network, networkOf, withNetwork, withSlo
 use Rattle.table.specs.Table.{goodTable}
 use Rattle.table.specs.Slots.{slotFor}
 use Rattle.table.proofs.Alone.{free-good, free-slot, alone-good, held-first, encoded-holds}
+use Rattle.sjoin.specs.Join.{linePlace}
+use Rattle.sjoin.proofs.Answers.{place-none}
+use Rattle.message.specs.Reading.{messageOf}
 use Rattle.telling.specs.Telling.{sjoin}
 use Rattle.relay.specs.Arrival.{said}
 use Rattle.relay.specs.Sjoin.{joined}
@@ -41,7 +44,7 @@ use Rattle.relay.proofs.Results.{free-rules}
 use Rattle.relay.proofs.Taking.{network-joined}
 use Rattle.relay.proofs.Answering.{answer-refused, answer-accepted}
 use Rattle.relay.proofs.Joined.{command-join, earlierRules, entered, join-refused, join-entered, opened, merged, merge-room}
-use Rattle.convergence.specs.Demands.{Join, Empty, numberAt, isGood, goodLines, takeJoin, numbersOf, tableAfter, channelOf, Kept}
+use Rattle.convergence.specs.Demands.{Join, Empty, numberAt, Verdict, verdict, verdictAt, isGood, goodLines, takeJoin, verdictOf, verdictsOf, tableAfter, channelOf, Kept}
 use Rattle.convergence.specs.Ours.{ours}
 
 -- the channels of the good lines
@@ -156,16 +159,24 @@ module _ (start : Table) (empty : Empty start) where
 
   -- what the joins answer, and what they leave
   abbrev Walked : List ℕ → List Join → List Channel → List Channel → Type 0
-  Walked name js q s = (numbersOf ours (after start q) js ≡ map (numberAt start) js) × (tableAfter ours (after start q) js ≡ after start (q ++ s)) × Sound name (q ++ s)
+  Walked name js q s = (verdictsOf ours (after start q) js ≡ map (verdictAt start) js) × (tableAfter ours (after start q) js ≡ after start (q ++ s)) × Sound name (q ++ s)
 
-  onward : (name : List ℕ) (j : Join) (js : List Join) (p q s u : List Channel) → takeJoin ours (after start p) j .number ≡ numberAt start j → takeJoin ours (after start p) j .table ≡ after start q → q ++ s ≡ p ++ u
+  -- a number with its place in the line of a join
+  abbrev numbered : Join → ℕ → Verdict
+  numbered j n = verdict n (linePlace n (j .arrival .line))
+
+  -- a good join has neither
+  accepts : (j : Join) → numberAt start j ≡ accepted → verdictAt start j ≡ verdict accepted 0
+  accepts j g = ap (numbered j) g ∙ ap (verdict accepted) (place-none accepted (j .arrival .line) (messageOf (j .arrival .line)) refl)
+
+  onward : (name : List ℕ) (j : Join) (js : List Join) (p q s u : List Channel) → verdictOf (takeJoin ours (after start p) j) ≡ verdictAt start j → takeJoin ours (after start p) j .table ≡ after start q → q ++ s ≡ p ++ u
       → Walked name js q s → Walked name (j ∷ js) p u
-  unfolding numbersOf tableAfter
+  unfolding verdictsOf tableAfter
   onward name j js p q s u a b c w =
-      (ap₂ _∷_ a (ap (λ (t : Table). numbersOf ours t js) b ∙ w .0), ap (λ (t : Table). tableAfter ours t js) b ∙ w .1 ∙ ap (after start) c, rw c at (w .2))
+      (ap₂ _∷_ a (ap (λ (t : Table). verdictsOf ours t js) b ∙ w .0), ap (λ (t : Table). tableAfter ours t js) b ∙ w .1 ∙ ap (after start) c, rw c at (w .2))
 
   walk : (name : List ℕ) (js : List Join) (q : List Channel) → Sound name q → Ahead name q (good start js) → Walked name js q (good start js)
-  unfolding numbersOf tableAfter goodLines
+  unfolding verdictsOf tableAfter goodLines
   walk name [] q h a = rw (append-nil q) (refl, refl, h)
   walk name (j ∷ js) q h a = go (isGood start j) refl (walk name js) a
     where
@@ -183,16 +194,16 @@ module _ (start : Table) (empty : Empty start) where
           let room : length (everyone ((q ++ k ∷ []) ++ good start js)) ≤ memberLimit = rw same (f .1) in
           let w = step name q j h g (f .0 k (List·Memᴰ·head refl)) (omega (arith, length-everyone (q ++ k ∷ []) (good start js), room)) in
           let t = answer-accepted (after start q) (j .arrival) (length (j .output)) (w .0) in
-          onward name j js q (q ++ k ∷ []) (good start js) (k ∷ good start js) (ap (λ (a : Outcome). a .number) t ∙ sym g) (ap (λ (a : Outcome). a .table) t ∙ w .1) same
+          onward name j js q (q ++ k ∷ []) (good start js) (k ∷ good start js) (ap verdictOf t ∙ sym (accepts j g)) (ap (λ (a : Outcome). a .table) t ∙ w .1) same
           (ih (q ++ k ∷ []) (w .2) (λ c i. f .0 c (List·Memᴰ·tail i), room))
       go false e ih f =
           let g : numberAt start j ≡ accepted → ⊥ = eqb-false (numberAt start j) accepted e in
           let same : numberAt (after start q) j ≡ numberAt start j = bad-number name q h j g in
           let t = sym (answer-refused (after start q) (j .arrival) (length (j .output)) _ refl (λ z. g (sym same ∙ z))) in
-          onward name j js q q (good start js) (good start js) (ap (λ (a : Outcome). a .number) t ∙ same) (ap (λ (a : Outcome). a .table) t) refl (ih q h f)
+          onward name j js q q (good start js) (good start js) (ap verdictOf t ∙ ap (numbered j) same) (ap (λ (a : Outcome). a .table) t) refl (ih q h f)
 
   -- ---- the whole list
-  -- Where the good lines keep to one channel and to 64 users, each join is answered its number at the start, and the table left holds the good lines, merged in
+  -- Where the good lines keep to one channel and to 64 users, each join is answered its number at the start, with its place, and the table left holds the good lines, merged in
   -- their order. What they come to is proper.
   pub walked : (js : List Join) → Kept (goodLines start js) → Walked (shared (good start js)) js [] (good start js)
   walked js k = walk (shared (good start js)) js [] tt (shares (goodLines start js) k, k .few)

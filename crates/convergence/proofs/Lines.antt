@@ -8,20 +8,23 @@ use mathlib.Core.List.{List, [], _∷_, _++_, map, List·Memᴰ, List·Memᴰ·h
 use native.Mathlib.Omega.{arith}
 use lib.ListN.{length, getD, replicate, length-replicate}
 use lib.Dec.{ltb}
-use Rattle.refusal.specs.Numbers.{accepted, emptyPrefix, zeroTime, badLink}
+use Rattle.refusal.specs.Numbers.{accepted, emptyPrefix, zeroTime, modeTwice, badLink}
+use Rattle.refusal.specs.Faults.{firstFault}
 use Rattle.refusal.specs.Rules.{firstOf}
 use Rattle.refusal.proofs.Rules.{skip, stop}
 use Rattle.octets.specs.Bytes.{capital, within, isPlain, isLetter, isDigit, isIdByte, isNameByte, isKeyByte}
-use Rattle.laws.specs.Lists.{all, sameBy, startsWith}
+use Rattle.laws.specs.Lists.{all, sameBy, startsWith, padded}
 use Rattle.octets.specs.Order.{compare}
+use Rattle.octets.specs.Room.{part}
 use Rattle.ascending.specs.Ascending.{insert, put, unite}
 use Rattle.octets.specs.Decimals.{leadsWithZero, isDecimal, valueFrom}
 use Rattle.names.specs.Fold.{fold}
 use Rattle.names.specs.Names.{isChannel, isServerId, isUserId}
 use Rattle.message.specs.Grammar.{lineLimit, word, spaces, prefix, prefixEnd, commandStart, command, commandEnd, isCommand, rest, params}
 use Rattle.message.specs.Content.{contentIn, prefixIs}
+use Rattle.message.specs.Parts.{messageIn, contentBy, paramSpan}
 use Rattle.message.specs.Words.{wordsAt}
-use Rattle.message.specs.Reading.{crlf, endsLine, bodyOf, bodyRules, lineRules, numberFor, isRead, contentOf}
+use Rattle.message.specs.Reading.{crlf, endsLine, bodyOf, bodyRules, lineRules, numberFor, isRead, contentOf, messageOf}
 use Rattle.channel.specs.Limits.{memberLimit}
 use Rattle.channel.specs.Modes.{withMode, placeAmong}
 use Rattle.channel.specs.Key.{isKey}
@@ -30,9 +33,10 @@ use Rattle.channel.proofs.Examples.{2cd, 1ab, stored, incoming}
 use Rattle.merging.specs.Plain.{everyone}
 use Rattle.links.specs.Links.{hasLink, links}
 use Rattle.table.specs.Network.{Table, tableOf, emptyNetwork}
-use Rattle.sjoin.specs.Modes.{once, goodLetters, modesByte, parametered, isLimit, goodArgument, goodArguments, argumentOf, isModes}
+use Rattle.sjoin.specs.Modes.{modesByte, parametered, isLimit, goodArgument, argumentOf}
+use Rattle.sjoin.specs.Faults.{letterChecks, ownChecks, argumentChecks, countChecks, modesChecks}
 use Rattle.sjoin.specs.Entries.{past, idOf, statusOf, isEntry, memberOf, goodEntries}
-use Rattle.sjoin.specs.Join.{argumentsIn, goodCount, isTime, joinRules, channelIn}
+use Rattle.sjoin.specs.Join.{argumentsIn, goodCount, isTime, modeRules, joinRules, channelIn, spanPlace, linePlace}
 use Rattle.telling.specs.Telling.{sjoin}
 use Rattle.sjoin.proofs.Examples.{line, line-tells}
 use Rattle.relay.specs.Arrival.{arrival}
@@ -61,17 +65,21 @@ unread = 58 ∷ 32 ∷ 88 ∷ crlf
 unfoldable pub untimed : List ℕ
 untimed = 58 ∷ 49 ∷ 65 ∷ 66 ∷ 32 ∷ 83 ∷ 74 ∷ 79 ∷ 73 ∷ 78 ∷ 32 ∷ 48 ∷ 32 ∷ 35 ∷ 114 ∷ 97 ∷ 99 ∷ 101 ∷ 32 ∷ 43 ∷ 32 ∷ 49 ∷ 65 ∷ 66 ∷ 65 ∷ 65 ∷ 65 ∷ 65 ∷ 65 ∷ 65 ∷ crlf
 
+-- `:1AB SJOIN 1 #race +nn 1ABAAAAAA`, whose second n is at place 21
+unfoldable pub twice : List ℕ
+twice = 58 ∷ 49 ∷ 65 ∷ 66 ∷ 32 ∷ 83 ∷ 74 ∷ 79 ∷ 73 ∷ 78 ∷ 32 ∷ 49 ∷ 32 ∷ 35 ∷ 114 ∷ 97 ∷ 99 ∷ 101 ∷ 32 ∷ 43 ∷ 110 ∷ 110 ∷ 32 ∷ 49 ∷ 65 ∷ 66 ∷ 65 ∷ 65 ∷ 65 ∷ 65 ∷ 65 ∷ 65 ∷ crlf
+
 -- ---- what the rules give them, those on link and output apart
 abbrev judge : List ℕ → ℕ
 judge l = firstOf (lineRules l ++ joinRules (contentOf l))
 
-judged : map judge (earlier ∷ later ∷ equal ∷ unread ∷ untimed ∷ []) ≡ accepted ∷ accepted ∷ accepted ∷ emptyPrefix ∷ zeroTime ∷ []
-unfolding earlier line equal unread untimed joinRules goodCount prefixIs isTime isDecimal leadsWithZero valueFrom isDigit isChannel isNameByte isServerId isUserId isIdByte isModes goodLetters once parametered goodArguments goodArgument isKey isKeyByte isLimit argumentsIn placeAmong goodEntries isEntry idOf past wordsAt contentOf contentIn isRead numberFor lineRules bodyRules firstOf endsLine sameBy bodyOf all isPlain startsWith prefix word prefixEnd commandStart spaces command isCommand isLetter within commandEnd rest params
+judged : map judge (earlier ∷ later ∷ equal ∷ unread ∷ untimed ∷ twice ∷ []) ≡ accepted ∷ accepted ∷ accepted ∷ emptyPrefix ∷ zeroTime ∷ modeTwice ∷ []
+unfolding earlier line equal unread untimed twice joinRules goodCount prefixIs isTime isDecimal leadsWithZero valueFrom isDigit isChannel isNameByte isServerId isUserId isIdByte modeRules modesChecks ownChecks letterChecks countChecks argumentChecks firstFault parametered goodArgument isKey isKeyByte isLimit argumentsIn placeAmong goodEntries isEntry idOf past wordsAt contentOf contentIn isRead numberFor lineRules bodyRules firstOf endsLine sameBy bodyOf all isPlain startsWith prefix word prefixEnd commandStart spaces command isCommand isLetter within commandEnd rest params
 judged = refl
 
 -- the commands, and the line that isn't read
-commands : map (λ l. map capital (contentOf l .command)) (earlier ∷ later ∷ equal ∷ untimed ∷ []) ≡ sjoin ∷ sjoin ∷ sjoin ∷ sjoin ∷ []
-unfolding earlier line equal untimed capital contentOf contentIn isRead numberFor lineRules bodyRules firstOf endsLine sameBy bodyOf all isPlain startsWith prefix word prefixEnd commandStart spaces command isCommand isLetter within commandEnd rest params
+commands : map (λ l. map capital (contentOf l .command)) (earlier ∷ later ∷ equal ∷ untimed ∷ twice ∷ []) ≡ sjoin ∷ sjoin ∷ sjoin ∷ sjoin ∷ sjoin ∷ []
+unfolding earlier line equal untimed twice capital contentOf contentIn isRead numberFor lineRules bodyRules firstOf endsLine sameBy bodyOf all isPlain startsWith prefix word prefixEnd commandStart spaces command isCommand isLetter within commandEnd rest params
 commands = refl
 
 not-read : isRead unread ≡ false
@@ -145,6 +153,10 @@ equal-is = inl (ap (λ (l : List (List ℕ)). getD l 2 []) commands)
 pub untimed-is : IsJoin untimed
 untimed-is = inl (ap (λ (l : List (List ℕ)). getD l 3 []) commands)
 
+-- so may `twice`
+pub twice-is : IsJoin twice
+twice-is = inl (ap (λ (l : List (List ℕ)). getD l 4 []) commands)
+
 -- `unread` may be a join: it isn't read
 pub unread-is : IsJoin unread
 unread-is = inr not-read
@@ -164,6 +176,10 @@ equalFrom = from equal equal-is
 -- the join of `untimed` by a link
 abbrev pub untimedFrom : ℕ → Join
 untimedFrom = from untimed untimed-is
+
+-- the join of `twice` by a link
+abbrev pub twiceFrom : ℕ → Join
+twiceFrom = from twice twice-is
 
 -- the join of `unread` by a link
 abbrev pub unreadFrom : ℕ → Join
@@ -202,6 +218,15 @@ module _ (set link : ℕ) where
     -- `untimed` is refused for its time 0
     pub untimed-number : numberAt (start set) (untimedFrom link) ≡ zeroTime
     untimed-number = on-link untimed untimed-is h ∙ ap (λ (l : List ℕ). getD l 4 0) judged
+
+    -- `twice` is refused for its second n
+    pub twice-number : numberAt (start set) (twiceFrom link) ≡ modeTwice
+    twice-number = on-link twice twice-is h ∙ ap (λ (l : List ℕ). getD l 5 0) judged
+
+-- which is where it points
+pub twice-place : linePlace modeTwice twice ≡ 21
+unfolding twice spanPlace contentBy paramSpan part messageOf messageIn padded argumentsIn modesChecks ownChecks letterChecks countChecks argumentChecks firstFault parametered placeAmong isRead numberFor lineRules bodyRules firstOf endsLine sameBy bodyOf all isPlain startsWith prefix word prefixEnd commandStart spaces command isCommand isLetter within commandEnd rest params
+twice-place = refl
 
 -- ---- lines that keep to one channel and to 64 users, by what they tell
 -- the folded name

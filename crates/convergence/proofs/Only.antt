@@ -38,7 +38,8 @@ module _ (t : Table) (a : Arrival) (out : List ℕ) where
       both set count len output =
           let number : x .number ≡ y .number = p .number ∙ sym (q .number) in
           let table : x .table ≡ y .table = p .table ∙ sym (q .table) in
-          λ i. (record { number = number i; table = table i; len = len i; set = set i; count = count i }, output i)
+          let place : x .place ≡ y .place = p .place ∙ sym (q .place) in
+          λ i. (record { number = number i; place = place i; table = table i; len = len i; set = set i; count = count i }, output i)
 
       go : (late : Bool) → isLateMask t a ≡ late → _≡_ {A = Outcome × List ℕ} (x, v) (y, w)
       go true e =

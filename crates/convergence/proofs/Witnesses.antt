@@ -5,8 +5,8 @@ use mathlib.Core.Path.{_≡_, refl, sym, ap, _∙_}
 use mathlib.Core.Bool.{true, false}
 use mathlib.Core.List.{List, [], _∷_, _++_, map, List·Memᴰ·head, List·Memᴰ·tail, List·Memᴰ·not-nil}
 use native.Mathlib.Omega.{arith}
-use lib.ListN.{set}
-use Rattle.refusal.specs.Numbers.{accepted, notWellFormed, badLink, emptyPrefix, zeroTime}
+use lib.ListN.{length, set}
+use Rattle.refusal.specs.Numbers.{accepted, notWellFormed, badLink, emptyPrefix, zeroTime, badModes, modeTwice, isModeNumber}
 use Rattle.laws.specs.Bits.{hasBit}
 use Rattle.laws.specs.Lists.{sameBy}
 use Rattle.octets.specs.Order.{compare}
@@ -26,15 +26,18 @@ use Rattle.merging.specs.Plain.{earliest, entries, everyone, statusAt, plain}
 use Rattle.links.specs.Links.{hasLink}
 use Rattle.table.specs.Network.{networkOf, withNetwork, withSlots}
 use Rattle.relay.specs.Arrival.{arrival}
-use Rattle.relay.specs.Relay.{refused}
-use Rattle.convergence.specs.Demands.{ruled, ruledMerge, Accepts, Join, numberAt, goodLines, numbersOf, tableAfter, Kept, plainRecord, holding, firstSlot, Among, Alike}
+use Rattle.sjoin.specs.Join.{spanPlace, linePlace}
+use Rattle.relay.specs.Relay.{Outcome, refused}
+use Rattle.relay.specs.Former.{formerAnswer}
+use Rattle.relay.proofs.Former.{splits}
+use Rattle.convergence.specs.Demands.{ruled, ruledMerge, Accepts, Join, Verdict, verdict, verdictAt, goodLines, verdictsOf, tableAfter, Kept, plainRecord, holding, firstSlot, Among, Alike}
 use Rattle.convergence.specs.Ours.{ours}
 use Rattle.convergence.proofs.Demand1.{demand1}
 use Rattle.convergence.proofs.Demand2.{demand2}
 use Rattle.convergence.proofs.Demand3.{demand3}
 use Rattle.convergence.proofs.Merges.{merges}
 use Rattle.convergence.proofs.Failures.{none, empty-number, empty-refused}
-use Rattle.convergence.proofs.Lines.{earlier, later, equal, unread, third, room, start, earlierFrom, laterFrom, equalFrom, unreadFrom, untimedFrom, later-is, earlier-tells, later-tells, equal-tells, off-link, earlier-number, later-number, equal-number, unread-number, untimed-number, stored-race, incoming-race, third-race, kept-by, not-none}
+use Rattle.convergence.proofs.Lines.{earlier, later, equal, unread, third, room, start, earlierFrom, laterFrom, equalFrom, unreadFrom, untimedFrom, later-is, earlier-tells, later-tells, equal-tells, off-link, earlier-number, later-number, equal-number, unread-number, untimed-number, stored-race, incoming-race, third-race, kept-by, not-none, twice, twiceFrom, twice-number, twice-place}
 
 -- ---- two starts: links 0, 3 and 5, and links 0, 1 and 2
 on-first : (hasLink 41 0 ≡ true) × (hasLink 41 3 ≡ true) × (hasLink 41 5 ≡ true) × (hasLink 41 7 ≡ false)
@@ -49,8 +52,23 @@ on-second = (refl, refl, refl)
 unread-bad : ruled (start 41) (arrival 3 unread) room ≡ accepted → ⊥
 unread-bad e = omega (arith, e, unread-number 41 3 (on-first .1))
 
-unread-refused : ours (start 41) (arrival 3 unread) room ≡ (refused (start 41) emptyPrefix, room)
-unread-refused = demand1 .refuses (start 41) (arrival 3 unread) room unread-bad ∙ ap (λ (n : ℕ). (refused (start 41) n, room)) (unread-number 41 3 (on-first .1))
+unread-refused : ours (start 41) (arrival 3 unread) room ≡ (refused (start 41) emptyPrefix 0, room)
+unfolding spanPlace
+unread-refused = demand1 .refuses (start 41) (arrival 3 unread) room unread-bad ∙ ap (λ (n : ℕ). (refused (start 41) n (linePlace n unread), room)) (unread-number 41 3 (on-first .1))
+
+-- and one whose modes have a letter twice, at place 21
+twice-bad : ruled (start 41) (arrival 3 twice) room ≡ accepted → ⊥
+twice-bad e = omega (arith, e, twice-number 41 3 (on-first .1))
+
+twice-refused : ours (start 41) (arrival 3 twice) room ≡ (refused (start 41) modeTwice 21, room)
+twice-refused =
+    demand1 .refuses (start 41) (arrival 3 twice) room twice-bad
+    ∙ ap (λ (n : ℕ). (refused (start 41) n (linePlace n twice), room)) (twice-number 41 3 (on-first .1))
+    ∙ ap (λ (p : ℕ). (refused (start 41) modeTwice p, room)) twice-place
+
+-- which was 17 before, and nothing else of the answer was another
+twice-was : formerAnswer (start 41) (arrival 3 twice) (length room) .number ≡ badModes
+twice-was = splits (start 41) (arrival 3 twice) (length room) .only (ap (λ (answer : Outcome × List ℕ). isModeNumber (answer .0 .number)) twice-refused)
 
 -- ---- demand 2: a line by the rules
 later-ruled : ruled (start 41) (arrival 3 later) room ≡ accepted
@@ -60,21 +78,26 @@ later-taken : Accepts (start 41) (arrival 3 later) room (ours (start 41) (arriva
 later-taken = demand2 (start 41) (arrival 3 later) room later-ruled
 
 -- ---- demand 3: a list with good joins and bad ones
--- not read, on a link that isn't registered, at time 0
+-- not read, on a link that isn't registered, at time 0, with a letter twice
 js : List Join
-js = laterFrom 3 ∷ unreadFrom 3 ∷ earlierFrom 0 ∷ laterFrom 7 ∷ untimedFrom 5 ∷ equalFrom 5 ∷ []
+js = laterFrom 3 ∷ unreadFrom 3 ∷ earlierFrom 0 ∷ laterFrom 7 ∷ untimedFrom 5 ∷ twiceFrom 3 ∷ equalFrom 5 ∷ []
 
-js-numbers : map (numberAt (start 41)) js ≡ accepted ∷ emptyPrefix ∷ accepted ∷ badLink ∷ zeroTime ∷ accepted ∷ []
-unfolding js
-js-numbers =
+-- what they get at the start
+verdicts : List Verdict
+verdicts = verdict accepted 0 ∷ verdict emptyPrefix 0 ∷ verdict accepted 0 ∷ verdict badLink 0 ∷ verdict zeroTime 0 ∷ verdict modeTwice 21 ∷ verdict accepted 0 ∷ []
+
+js-verdicts : map (verdictAt (start 41)) js ≡ verdicts
+unfolding js spanPlace verdicts
+js-verdicts =
     let (on-0, on-3, on-5, off-7) = on-first in
-    rw (later-number 41 3 on-3, unread-number 41 3 on-3, earlier-number 41 0 on-0, off-link 41 7 later later-is off-7, untimed-number 41 5 on-5, equal-number 41 5 on-5)
+    rw (later-number 41 3 on-3, unread-number 41 3 on-3, earlier-number 41 0 on-0, off-link 41 7 later later-is off-7, untimed-number 41 5 on-5, twice-number 41 3 on-3, equal-number 41 5 on-5)
+    (ap (λ (p : ℕ). verdict accepted 0 ∷ verdict emptyPrefix 0 ∷ verdict accepted 0 ∷ verdict badLink 0 ∷ verdict zeroTime 0 ∷ verdict modeTwice p ∷ verdict accepted 0 ∷ []) twice-place)
 
 js-good : goodLines (start 41) js ≡ later ∷ earlier ∷ equal ∷ []
 unfolding goodLines js
 js-good =
     let (on-0, on-3, on-5, off-7) = on-first in
-    rw (later-number 41 3 on-3, unread-number 41 3 on-3, earlier-number 41 0 on-0, off-link 41 7 later later-is off-7, untimed-number 41 5 on-5, equal-number 41 5 on-5)
+    rw (later-number 41 3 on-3, unread-number 41 3 on-3, earlier-number 41 0 on-0, off-link 41 7 later later-is off-7, untimed-number 41 5 on-5, twice-number 41 3 on-3, equal-number 41 5 on-5)
 
 -- they keep to one channel and 64 users
 js-kept : Kept (goodLines (start 41) js)
@@ -84,8 +107,8 @@ js-kept =
     (kept-by (later ∷ earlier ∷ equal ∷ []) (incoming ∷ stored ∷ third ∷ []) (rw (later-tells, earlier-tells, equal-tells)) (incoming-race, (stored-race, (third-race, tt))) (omega arith))
 
 -- each is answered as at the start
-js-answered : numbersOf ours (start 41) js ≡ accepted ∷ emptyPrefix ∷ accepted ∷ badLink ∷ zeroTime ∷ accepted ∷ []
-js-answered = demand3 .numbers (start 41) js refl js-kept ∙ js-numbers
+js-answered : verdictsOf ours (start 41) js ≡ verdicts
+js-answered = demand3 .verdicts (start 41) js refl js-kept ∙ js-verdicts
 
 -- #race, as the first good line spells it; at time 1000 two lines count: k and l, the greater key, the limit, operator and voice
 after : Channel

@@ -1,14 +1,14 @@
--- The customer's three demands (document 00; document 01, 'Many joins, for demand 3' and 'How the promises are judged'; document 02, §2) as predicates of a
+-- The customer's three demands (document 00; document 01, 'Many joins, for demand 3' and 'How the promises are judged'; document 02, §2 and §6) as predicates of a
 -- relay. Two things vary in them: how a line is taken, and how two records are merged. All else is fixed by the definitions below this crate: the rules and their
 -- numbers, what a line reads as, the fold, the limits, the plain record and the record that holds a channel.
-use Prim.Native.Nat.{ℕ, _≤_}
+use Prim.Native.Nat.{ℕ, _+_, _≤_}
 use mathlib.Core.Path.{_≡_}
 use mathlib.Core.Bool.{Bool, true, false, not, cond, _&&_}
 use mathlib.Core.Logic.{_⊎_}
 use mathlib.Core.List.{List, [], _∷_, _++_, map, List·Memᴰ}
 use lib.ListN.{length, take, getD, set}
 use lib.Dec.{eqb}
-use Rattle.refusal.specs.Numbers.{accepted, order}
+use Rattle.refusal.specs.Numbers.{accepted, isModeNumber, order}
 use Rattle.refusal.specs.Rules.{firstOf}
 use Rattle.laws.specs.Bits.{hasBit}
 use Rattle.laws.specs.Lists.{same}
@@ -29,7 +29,7 @@ use Rattle.merging.specs.Merging.{mergedWhole, mergeRules}
 use Rattle.merging.specs.Plain.{everyone, plain}
 use Rattle.links.specs.Links.{hasLink, linksIn}
 use Rattle.table.specs.Network.{Table, networkOf, withNetwork, withSlots, listIn, emptyNetwork}
-use Rattle.sjoin.specs.Join.{channelIn}
+use Rattle.sjoin.specs.Join.{channelIn, linePlace}
 use Rattle.telling.specs.Telling.{sjoin}
 use Rattle.relay.specs.Arrival.{Arrival}
 use Rattle.relay.specs.Bmask.{bmask, isLater}
@@ -50,6 +50,10 @@ Merging = WholeRecord → WholeRecord → Merged
 abbrev pub ruled : Table → Arrival → List ℕ → ℕ
 ruled t a out = firstOf (processRules t a (length out))
 
+-- the place in the line that goes with it: where the fault of its modes is, with one of their numbers, and else 0
+abbrev pub placed : Table → Arrival → List ℕ → ℕ
+placed t a out = linePlace (ruled t a out) (a .line)
+
 -- the number that they give two records that are to be merged
 abbrev pub ruledMerge : WholeRecord → WholeRecord → ℕ
 ruledMerge a b = firstOf (mergeRules a b)
@@ -68,10 +72,13 @@ One {A} P = (a : A) × P a × ((b : A) → P b → b ≡ a)
 pub record Demand1 (taking : Taking) : Type 0 where
   -- each input has one answer: by construction, since a taking is a function
   pub one : (t : Table) (a : Arrival) (out : List ℕ) → One (λ answer. taking t a out ≡ answer)
-  -- where the rules give a number: that number, the table as before, its lists too, relay set 0, count 0, length 0, the output as before
-  pub refuses : (t : Table) (a : Arrival) (out : List ℕ) → (ruled t a out ≡ accepted → ⊥) → taking t a out ≡ (refused t (ruled t a out), out)
+  -- where the rules give a number: that number with its place, the table as before, its lists too, relay set 0, count 0, length 0, the output as before
+  pub refuses : (t : Table) (a : Arrival) (out : List ℕ) → (ruled t a out ≡ accepted → ⊥) → taking t a out ≡ (refused t (ruled t a out) (placed t a out), out)
   -- and the number is from the list
   pub listed : (t : Table) (a : Arrival) (out : List ℕ) → (ruled t a out ≡ accepted → ⊥) → Listed (taking t a out .0 .number)
+  -- every answer has a place: over 0 and at most the line's length less 2 with a number of modes, and 0 with any other
+  pub places : (t : Table) (a : Arrival) (out : List ℕ) → isModeNumber (ruled t a out) ≡ true → (1 ≤ taking t a out .0 .place) × (taking t a out .0 .place + 2 ≤ length (a .line))
+  pub unplaced : (t : Table) (a : Arrival) (out : List ℕ) → isModeNumber (ruled t a out) ≡ false → taking t a out .0 .place ≡ 0
 
 -- Of a merging demand 1 asks the same, and a refused merge answers its first record as given. All else is merged by the rule of SJOIN (document 01: "Two whole
 -- records merge by the same rule, the first one's spelling kept"), and the lists as document 02 says (§2). Demand 3 says nothing of a refused merge, and of an
@@ -113,6 +120,7 @@ isLateMask t a = same (map capital (contentOf (a .line) .command)) bmask && isLa
 -- The answer to a line that is taken, and the output after.
 pub record Accepts (t : Table) (a : Arrival) (out : List ℕ) (answer : Outcome) (after : List ℕ) : Type 0 where
   pub number : answer .number ≡ accepted
+  pub place : answer .place ≡ 0
   -- the network changes as SJOIN, PART, QUIT and BMASK say, and the links stay
   pub table : answer .table ≡ withNetwork t (networkBy (networkOf t) a)
   -- the line goes out
@@ -144,6 +152,18 @@ Empty t = networkOf t ≡ emptyNetwork
 abbrev pub numberAt : Table → Join → ℕ
 numberAt start j = ruled start (j .arrival) (j .output)
 
+-- A number, and its place in the line; `accepted` is none, and has 0.
+pub record Verdict : Type 0 where
+  pub number : ℕ
+  pub place : ℕ
+
+abbrev pub verdict : ℕ → ℕ → Verdict
+verdict number place = record { number = number; place = place }
+
+-- what they give it with the place
+abbrev pub verdictAt : Table → Join → Verdict
+verdictAt start j = verdict (numberAt start j) (placed start (j .arrival) (j .output))
+
 -- a join is good if they give it none there
 abbrev pub isGood : Table → Join → Bool
 isGood start j = eqb (numberAt start j) accepted
@@ -157,10 +177,13 @@ goodLines start (j ∷ js) = cond (isGood start j) (j .arrival .line ∷ goodLin
 abbrev pub takeJoin : Taking → Table → Join → Outcome
 takeJoin taking t j = taking t (j .arrival) (j .output) .0
 
--- the number that each is answered
-unfoldable pub numbersOf : Taking → Table → List Join → List ℕ
-numbersOf taking t [] = []
-numbersOf taking t (j ∷ js) = takeJoin taking t j .number ∷ numbersOf taking (takeJoin taking t j .table) js
+-- the number that each is answered, with its place
+abbrev pub verdictOf : Outcome → Verdict
+verdictOf o = verdict (o .number) (o .place)
+
+unfoldable pub verdictsOf : Taking → Table → List Join → List Verdict
+verdictsOf taking t [] = []
+verdictsOf taking t (j ∷ js) = verdictOf (takeJoin taking t j) ∷ verdictsOf taking (takeJoin taking t j .table) js
 
 -- the table after the last
 unfoldable pub tableAfter : Taking → Table → List Join → Table
@@ -214,8 +237,8 @@ pub record Alike (w v : WholeRecord) : Type 0 where
 
 -- "This holds for every list of joins, refused ones included, from an empty table, each given the table that the last one left."
 pub record Demand3 (taking : Taking) (merging : Merging) : Type 0 where
-  -- each good join is accepted, every other is refused by the number that it has at the start
-  pub numbers : (start : Table) (js : List Join) → Empty start → Kept (goodLines start js) → numbersOf taking start js ≡ map (numberAt start) js
+  -- each good join is accepted, every other is refused by the number that it has at the start, in the place that it has there
+  pub verdicts : (start : Table) (js : List Join) → Empty start → Kept (goodLines start js) → verdictsOf taking start js ≡ map (verdictAt start) js
   -- after the list the first slot holds the plain record, the other fifteen are free, every ban list is empty, the links are as at the start; with no good join all
   -- is as at the start
   pub leaves : (start : Table) (js : List Join) → Empty start → Kept (goodLines start js) → tableAfter taking start js ≡ holding start (goodLines start js)

@@ -13,6 +13,7 @@ use Rattle.refusal.specs.Numbers.{accepted, lineTooLong, noLineEnd, forbiddenBy
 use Rattle.refusal.specs.Rules.{_when_, firstOf, ascend, ascendFrom, placeIn}
 use Rattle.refusal.proofs.Rules.{skip, stop, first-nil, first-none, first-lacks, numbered}
 use Rattle.octets.specs.Bytes.{cr, lf, isPlain}
+use Rattle.octets.proofs.Bytes.{same-true}
 use Rattle.laws.specs.Lists.{all, isNil, sameBy}
 use Rattle.octets.specs.Room.{part}
 use Rattle.octets.proofs.Room.{part-front}
@@ -24,7 +25,7 @@ use Rattle.message.specs.declared.Reading.the-variants.{Line, Refused}
 use Rattle.message.specs.Grammar.{Part, lineLimit, paramLimit, hasPrefix, prefix, prefixEnd, command, isCommand, params}
 use Rattle.message.specs.Content.{bytesOf, contentIn}
 use Rattle.message.specs.Parts.{emptyAt, messageIn, blank}
-use Rattle.message.specs.Reading.{endsLine, bodyOf, bodyRules, grammarRules, lineRules, numberFor, isRead, numberOf, countOf, answer, readingOf, contentOf, messageOf, parsedOf}
+use Rattle.message.specs.Reading.{crlf, endsLine, bodyOf, bodyRules, grammarRules, lineRules, numberFor, isRead, numberOf, countOf, answer, readingOf, contentOf, messageOf, parsedOf}
 use Rattle.message.specs.Private.Scan.{unread, bodyParsed}
 use Rattle.message.proofs.Places.{Placed, empty-placed, command-placed, prefix-in-line, command-in-line, param-in-line}
 
@@ -116,6 +117,11 @@ module _ (line : List ℕ) (h : isRead line ≡ true) where
 
   pub read-formed : Formed line
   read-formed = formed line (unmarked .1)
+
+  -- its last two bytes are CR LF
+  pub read-ends : drop (length line - 2) line ≡ crlf
+  unfolding endsLine
+  read-ends = same-true (drop (length line - 2) line) crlf (read-formed .ends)
 
   pub read-content : contentOf line ≡ contentIn (bodyOf line)
   unfolding contentOf

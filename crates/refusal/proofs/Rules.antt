@@ -9,7 +9,7 @@ use native.Mathlib.Omega.{arith}
 use lib.ListN.{length}
 use lib.Dec.{eqb, leb, ltb}
 use borrow.Author.Tests.{ne-eqb, eqb-true, eqb-false, leb-true, ltb-true}
-use Rattle.refusal.specs.Numbers.{accepted, badMembers, tooManyMembers, noRoom, badMasks, tooManyMasks, order}
+use Rattle.refusal.specs.Numbers.{accepted, badName, badModes, unknownMode, badLimit, badMembers, tooManyMembers, noRoom, badMasks, tooManyMasks, modeNumbers, isModeNumber, order}
 use Rattle.refusal.specs.Rules.{Rule, firstOf, emitted, placeIn, rank, ascendFrom, ascend}
 
 -- ---- one rule
@@ -51,6 +51,23 @@ first-lacks n (r ∷ rs) ne e = go (r .applies) refl (eqb (r .number) n) refl (f
     go t h true f ih = absurd (true≢false (sym e ∙ rw f))
     go true h false f ih = rw h f
     go false h false f ih = rw h (ih (rw f at e))
+
+-- ---- rules that have no number of modes, and so no place
+-- none of some rules does
+abbrev pub plainRules : List Rule → Bool
+plainRules [] = true
+plainRules (r ∷ rs) = not (isModeNumber (r .number)) && plainRules rs
+
+-- and so none is given
+pub first-plain : (rs : List Rule) → plainRules rs ≡ true → isModeNumber (firstOf rs) ≡ false
+unfolding firstOf
+first-plain [] e = refl
+first-plain (r ∷ rs) e = go (isModeNumber (r .number)) refl (r .applies) refl (first-plain rs)
+  where
+    go : (t : Bool) → isModeNumber (r .number) ≡ t → (u : Bool) → r .applies ≡ u → (plainRules rs ≡ true → isModeNumber (firstOf rs) ≡ false) → isModeNumber (firstOf (r ∷ rs)) ≡ false
+    go true f u g ih = absurd (true≢false (sym e ∙ rw f))
+    go false f true g ih = rw g f
+    go false f false g ih = rw g (ih (rw f at e))
 
 -- ---- two lists of rules, one after the other
 -- no rule's number is `accepted`
@@ -94,6 +111,14 @@ module _ (ys : List Rule) where
       let r = both-none xs (n .1) (q .1) in
       (skip x xs (q .0) ∙ r .0, r .1)
 
+-- where neither gives a number of modes, both together don't
+pub append-plain : (xs ys : List Rule) → numbered xs ≡ true → isModeNumber (firstOf xs) ≡ false → isModeNumber (firstOf ys) ≡ false → isModeNumber (firstOf (xs ++ ys)) ≡ false
+append-plain xs ys a p q = go (eqb (firstOf xs) accepted) refl
+  where
+    go : (t : Bool) → eqb (firstOf xs) accepted ≡ t → isModeNumber (firstOf (xs ++ ys)) ≡ false
+    go true e = ap isModeNumber (append-none ys xs a (eqb-true (firstOf xs) accepted e)) ∙ q
+    go false e = ap isModeNumber (append-some ys xs (eqb-false (firstOf xs) accepted e)) ∙ p
+
 -- ---- what is written
 pub emitted-none : (rules : List Rule) (w : List ℕ) (k : ℕ) → firstOf rules ≡ k → (k ≡ accepted → ⊥) → emitted rules w ≡ []
 unfolding emitted
@@ -122,6 +147,20 @@ order-increases = refl
 order-bans : (rank badMasks ≡ suc (rank badMembers)) × (rank tooManyMasks ≡ suc (rank tooManyMembers))
 unfolding placeIn
 order-bans = (refl, refl)
+
+-- 32 to 36 stand in the place of 17, between 16 and 18, and 17 has none (document 02, §6).
+order-modes : (rank unknownMode ≡ suc (rank badName)) × (rank badMembers ≡ suc (rank badLimit)) × (rank badModes ≡ length order)
+unfolding placeIn
+order-modes = (refl, refl, refl)
+
+-- those of a list that are numbers of modes
+abbrev ofModes : List ℕ → List ℕ
+ofModes [] = []
+ofModes (m ∷ l) = cond (isModeNumber m) (m ∷ ofModes l) (ofModes l)
+
+-- and they are the numbers of modes
+order-of-modes : ofModes order ≡ modeNumbers
+order-of-modes = refl
 
 -- ---- rules in the order of their numbers
 -- what the check says of the first rule, and of the others

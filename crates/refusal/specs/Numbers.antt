@@ -1,7 +1,9 @@
 -- The numbers of document 01's table and of 02's requests, under the names that src/lib.rt gives them there with the papers' words.
 -- A contract that cites one here and a function that answers the constant agree, or the function isn't proved.
 use Prim.Native.Nat.{ℕ}
+use mathlib.Core.Bool.{Bool, _&&_}
 use mathlib.Core.List.{List, [], _∷_, _++_}
+use lib.Dec.{leb}
 
 abbrev pub accepted : ℕ
 accepted = 0
@@ -54,6 +56,7 @@ zeroTime = 15
 abbrev pub badName : ℕ
 badName = 16
 
+-- given no longer: `modeNumbers` have taken its place (document 02, §6)
 abbrev pub badModes : ℕ
 badModes = 17
 
@@ -99,8 +102,23 @@ badLogLength = 30
 abbrev pub logCut : ℕ
 logCut = 31
 
+abbrev pub unknownMode : ℕ
+unknownMode = 32
+
+abbrev pub modeTwice : ℕ
+modeTwice = 33
+
+abbrev pub wrongModeParams : ℕ
+wrongModeParams = 34
+
+abbrev pub badKey : ℕ
+badKey = 35
+
+abbrev pub badLimit : ℕ
+badLimit = 36
+
 -- The fixed list, in the order in which the numbers are looked for: where more than one applies, the first in this list is given. In document 01 that is "the
--- lowest"; document 02 puts numbers between those.
+-- lowest"; document 02 puts numbers between those. Of 32 to 36, the numbers of modes, the earliest place in the line decides (§6).
 abbrev pub order : List ℕ
 order =
     notWellFormed
@@ -119,7 +137,11 @@ order =
     ∷ badTime
     ∷ zeroTime
     ∷ badName
-    ∷ badModes
+    ∷ unknownMode
+    ∷ modeTwice
+    ∷ wrongModeParams
+    ∷ badKey
+    ∷ badLimit
     ∷ badMembers
     ∷ badMasks
     ∷ noSuchChannel
@@ -131,6 +153,14 @@ order =
     ∷ unwritable
     ∷ noRoom
     ∷ []
+
+-- those of modes
+abbrev pub modeNumbers : List ℕ
+modeNumbers = unknownMode ∷ modeTwice ∷ wrongModeParams ∷ badKey ∷ badLimit ∷ []
+
+-- a number is one of these: 32 to 36
+abbrev pub isModeNumber : ℕ → Bool
+isModeNumber n = leb unknownMode n && leb n badLimit
 
 -- The log reader's stand apart (document 02, §5): of these the place of the first byte at fault decides. They stand here by those places.
 abbrev pub logOrder : List ℕ

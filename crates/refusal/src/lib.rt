@@ -52,7 +52,7 @@ pub const ZERO_TIME: u8 = 15;
 // bad channel name; two records' names differ
 pub const BAD_NAME: u8 = 16;
 
-// bad modes, key, limit, or their number
+// bad modes, key, limit, or their number: given no longer, 32 to 36 have taken its place (02 §6)
 pub const BAD_MODES: u8 = 17;
 
 // bad member list
@@ -96,3 +96,18 @@ pub const BAD_LOG_LENGTH: u8 = 30;
 
 // the day log ends inside a record (02 §5)
 pub const LOG_CUT: u8 = 31;
+
+// a letter of the modes is none of the eight, or no '+' stands before them (02 §6); 32 to 36 stand in 17's place, and of them the earliest place in the line decides
+pub const UNKNOWN_MODE: u8 = 32;
+
+// a letter of the eight stands twice in the modes (02 §6)
+pub const MODE_TWICE: u8 = 33;
+
+// a parameter of the modes is missing, or there are too many (02 §6)
+pub const WRONG_MODE_PARAMS: u8 = 34;
+
+// bad key (02 §6)
+pub const BAD_KEY: u8 = 35;
+
+// bad limit (02 §6)
+pub const BAD_LIMIT: u8 = 36;

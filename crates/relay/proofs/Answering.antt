@@ -18,6 +18,7 @@ use Rattle.message.proofs.Readings.{read-small}
 use Rattle.table.specs.declared.Head.{Head}
 use Rattle.table.specs.Network.{Table, Network, headOf, networkOf}
 use Rattle.table.specs.Table.{goodNetwork, goodTable}
+use Rattle.sjoin.specs.Join.{linePlace}
 use Rattle.relay.specs.declared.Change.{Change}
 use Rattle.relay.specs.declared.Taken.{Taken}
 use Rattle.relay.specs.Arrival.{Arrival, said}
@@ -31,7 +32,7 @@ module _ (t : Table) (a : Arrival) (n : ℕ) where
   -- ---- a rule refuses it
   module _ (k : ℕ) (e : firstOf (processRules t a n) ≡ k) (ne : k ≡ accepted → ⊥) where
     -- the answer is that refusal
-    pub answer-refused : refused t k ≡ processAnswer t a n
+    pub answer-refused : refused t k (linePlace k (a .line)) ≡ processAnswer t a n
     unfolding processAnswer
     answer-refused = rw (e, ne-eqb k accepted ne)
 
@@ -79,7 +80,7 @@ module _ (t : Table) (a : Arrival) (n : ℕ) where
       -- the answer with the change made is the one to give
       pub answer-taken : (number set count len : ℕ) (head : Head) → number ≡ accepted → head ≡ headWith (headOf t) (doneBy (j .deed) j (said a) (networkOf t) .slots)
           → set ≡ sentTo (j .sending) (t .links) (a .link) → count ≡ length (linksIn set) → len ≡ length (relayed (networkOf t) a)
-          → _≡_ {A = Taken} (record { number = number; head = head; set = set; count = count; len = len }) (takenOf (processAnswer t a n))
+          → _≡_ {A = Taken} (record { number = number; place = 0; head = head; set = set; count = count; len = len }) (takenOf (processAnswer t a n))
       unfolding processAnswer networkBy goesBy
       answer-taken number set count len head e f g h i =
           let to = g ∙ goes-to (j .sending) j (said a) _ _ (d .sends) (t .links) (a .link) in

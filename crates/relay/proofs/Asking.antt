@@ -8,7 +8,7 @@ use native.Mathlib.Omega.{arith}
 use lib.ListN.{getD}
 use lib.Dec.{eqb}
 use borrow.Author.Tests.{ne-eqb, eqb-true}
-use Rattle.refusal.specs.Numbers.{accepted}
+use Rattle.refusal.specs.Numbers.{accepted, isModeNumber}
 use Rattle.refusal.specs.Rules.{firstOf}
 use Rattle.octets.specs.Room.{part}
 use Rattle.octets.proofs.Room.{part-next}
@@ -25,6 +25,8 @@ use Rattle.message.proofs.SpanContents.{message-holds}
 use Rattle.channel.specs.declared.Record.{Record}
 use Rattle.table.specs.Network.{Network}
 use Rattle.table.specs.Slots.{foundFor}
+use Rattle.sjoin.specs.Join.{spanPlace, linePlace}
+use Rattle.sjoin.proofs.Answers.{place-none, reader-plain}
 use Rattle.relay.specs.declared.Command.{Command}
 use Rattle.relay.specs.declared.Asked.{Asked}
 use Rattle.relay.specs.Arrival.{Arrival, said}
@@ -36,39 +38,46 @@ use Rattle.relay.proofs.Lawful.{Lawful}
 use Rattle.relay.proofs.Entering.{reader-refuses, command-decides}
 
 -- ---- a message
-module _ (k : Command) (m : Message) (c : Content) where
+module _ (k : Command) (line : List ℕ) (m : Message) where
+  abbrev content : Content
+  content = contentBy line m
+
   -- its own rules refuse it
-  pub asked-refused : (number : ℕ) → firstOf (workOf k .own c) ≡ number → (number ≡ accepted → ⊥) → nothing number ≡ askedBy k m c
+  pub asked-refused : (number : ℕ) → firstOf (workOf k .own content) ≡ number → (number ≡ accepted → ⊥) → nothing number (spanPlace number line m) ≡ askedBy k line m
   unfolding askedBy
   asked-refused number e ne = rw (e, ne-eqb number accepted ne)
 
+  -- by a number that has no place
+  pub asked-plain : (number : ℕ) → firstOf (workOf k .own content) ≡ number → (number ≡ accepted → ⊥) → isModeNumber number ≡ false → nothing number 0 ≡ askedBy k line m
+  asked-plain number e ne p = ap (nothing number) (sym (place-none number line m p)) ∙ asked-refused number e ne
+
   -- or none does
-  pub asked-passes : firstOf (workOf k .own c) ≡ accepted → workOf k .asks m c ≡ askedBy k m c
+  pub asked-passes : firstOf (workOf k .own content) ≡ accepted → workOf k .asks m content ≡ askedBy k line m
   unfolding askedBy
   asked-passes e = rw e
 
-  asked-number : Lawful k → askedBy k m c .request .number ≡ firstOf (workOf k .own c)
+  asked-number : Lawful k → askedBy k line m .request .number ≡ firstOf (workOf k .own content)
   unfolding askedBy
-  asked-number law = go (eqb (firstOf (workOf k .own c)) accepted) refl
+  asked-number law = go (eqb (firstOf (workOf k .own content)) accepted) refl
     where
-      go : (t : Bool) → eqb (firstOf (workOf k .own c)) accepted ≡ t → askedBy k m c .request .number ≡ firstOf (workOf k .own c)
-      go true h = rw h (law .asks m c ∙ sym (eqb-true (firstOf (workOf k .own c)) accepted h))
+      go : (t : Bool) → eqb (firstOf (workOf k .own content)) accepted ≡ t → askedBy k line m .request .number ≡ firstOf (workOf k .own content)
+      go true h = rw h (law .asks m content ∙ sym (eqb-true (firstOf (workOf k .own content)) accepted h))
       go false h = rw h
 
 -- ---- a line
 module _ (line : List ℕ) where
   -- the reader refuses it
-  pub asked-unread : isRead line ≡ false → nothing (numberFor line) ≡ askedOf line
+  pub asked-unread : isRead line ≡ false → nothing (numberFor line) 0 ≡ askedOf line
   unfolding askedOf
   asked-unread h = rw h
 
-  asked-read : isRead line ≡ true → askedBy (commandIn line) (messageOf line) (contentOf line) ≡ askedOf line
+  asked-read : isRead line ≡ true → askedBy (commandIn line) line (messageOf line) ≡ askedOf line
   unfolding askedOf
   asked-read h = rw h
 
   -- or it asks what its parts say, as the reader found them
-  pub asked-parts : isRead line ≡ true → (m : Message) → m ≡ messageOf line → (k : Command) → commandOf (contentBy line m .command) ≡ k → (q : Asked) → q ≡ askedBy k m (contentBy line m) → q ≡ askedOf line
-  asked-parts h m e k is q f = f ∙ ap (λ (x : Command). askedBy x m (contentBy line m)) (sym is) ∙ rw (e, message-holds line) (asked-read h)
+  pub asked-parts : isRead line ≡ true → (m : Message) → m ≡ messageOf line → (k : Command) → commandOf (contentBy line m .command) ≡ k → (q : Asked) → q ≡ askedBy k line m → q ≡ askedOf line
+  asked-parts h m e k is q f = f ∙ ap (λ (x : Command). askedBy x line m) (sym is) ∙ rw (e, message-holds line) (asked-read h)
 
   -- its name is one of the parameters
   pub name-is : (k : ℕ) → k < paramLimit → bytesAt line (getD (messageOf line .params) k nowhere) ≡ getD (contentOf line .params) k []
@@ -93,15 +102,29 @@ module _ (a : Arrival) (law : Lawful (commandIn (a .line))) where
   abbrev own : ℕ
   own = firstOf (workOf command .own (said a))
 
-  -- a number that it gets is that of its first rule
-  pub request-refuses : (q : Asked) → q ≡ askedOf (a .line) → (q .request .number ≡ accepted → ⊥) → (n : Network) → firstOf (takenRules n a) ≡ q .request .number
-  request-refuses q e ne n = go (isRead (a .line)) refl
+  -- what its message's own rules give
+  asks-own : askedBy command (a .line) (messageOf (a .line)) .request .number ≡ own
+  asks-own = asked-number command (a .line) (messageOf (a .line)) law ∙ ap (λ (c : Content). firstOf (workOf command .own c)) (message-holds (a .line))
+
+  -- a number that it gets is that of its first rule, and has its place in the line
+  pub request-refuses : (q : Asked) → q ≡ askedOf (a .line) → (q .request .number ≡ accepted → ⊥)
+      → ((n : Network) → firstOf (takenRules n a) ≡ q .request .number) × (q .request .place ≡ linePlace (q .request .number) (a .line))
+  request-refuses q e ne = go (isRead (a .line)) refl
     where
-      go : (t : Bool) → isRead (a .line) ≡ t → firstOf (takenRules n a) ≡ q .request .number
+      go : (t : Bool) → isRead (a .line) ≡ t → ((n : Network) → firstOf (takenRules n a) ≡ q .request .number) × (q .request .place ≡ linePlace (q .request .number) (a .line))
       go true h =
-          let is : own ≡ q .request .number = sym (asked-number command (messageOf (a .line)) (said a) law) ∙ ap (λ (x : Asked). x .request .number) (asked-read (a .line) h ∙ sym e) in
-          command-decides a h n ∙ law .first n a (λ z. ne (sym is ∙ z)) ∙ is
-      go false h = reader-refuses a h n ∙ ap (λ (x : Asked). x .request .number) (asked-unread (a .line) h ∙ sym e)
+          let r = asked-read (a .line) h ∙ sym e in
+          let is : own ≡ q .request .number = sym asks-own ∙ ap (λ (x : Asked). x .request .number) r in
+          let by : nothing own (linePlace own (a .line)) ≡ q = asked-refused command (a .line) (messageOf (a .line)) own (ap (λ (c : Content). firstOf (workOf command .own c)) (message-holds (a .line))) (λ z. ne (sym is ∙ z)) ∙ r in (
+            λ n. command-decides a h n ∙ law .first n a (λ z. ne (sym is ∙ z)) ∙ is,
+            sym (ap (λ (x : Asked). x .request .place) by) ∙ ap (λ (k : ℕ). linePlace k (a .line)) is,
+          )
+      go false h =
+          let by : nothing (numberFor (a .line)) 0 ≡ q = asked-unread (a .line) h ∙ sym e in
+          let is : numberFor (a .line) ≡ q .request .number = ap (λ (x : Asked). x .request .number) by in (
+            λ n. reader-refuses a h n ∙ is,
+            sym (ap (λ (x : Asked). x .request .place) by) ∙ sym (place-none (numberFor (a .line)) (a .line) (messageOf (a .line)) (reader-plain (a .line))) ∙ ap (λ (k : ℕ). linePlace k (a .line)) is,
+          )
 
   -- where it gets none, it is read, and none of its own rules applies
   pub request-passes : (q : Asked) → q ≡ askedOf (a .line) → q .request .number ≡ accepted → (isRead (a .line) ≡ true) × (own ≡ accepted) × (q ≡ workOf command .asks (messageOf (a .line)) (said a))
@@ -109,7 +132,8 @@ module _ (a : Arrival) (law : Lawful (commandIn (a .line))) where
     where
       go : (t : Bool) → isRead (a .line) ≡ t → (isRead (a .line) ≡ true) × (own ≡ accepted) × (q ≡ workOf command .asks (messageOf (a .line)) (said a))
       go true h =
-          let is : q ≡ askedBy command (messageOf (a .line)) (said a) = e ∙ sym (asked-read (a .line) h) in
-          let none : own ≡ accepted = sym (asked-number command (messageOf (a .line)) (said a) law) ∙ ap (λ (x : Asked). x .request .number) (sym is) ∙ z in
-          (h, none, is ∙ sym (asked-passes command (messageOf (a .line)) (said a) none))
+          let is : q ≡ askedBy command (a .line) (messageOf (a .line)) = e ∙ sym (asked-read (a .line) h) in
+          let none : own ≡ accepted = sym asks-own ∙ ap (λ (x : Asked). x .request .number) (sym is) ∙ z in
+          let passes = asked-passes command (a .line) (messageOf (a .line)) (ap (λ (c : Content). firstOf (workOf command .own c)) (message-holds (a .line)) ∙ none) in
+          (h, none, is ∙ sym passes ∙ ap (workOf command .asks (messageOf (a .line))) (message-holds (a .line)))
       go false h = absurd (refused-number (a .line) h (ap (λ (x : Asked). x .request .number) (asked-unread (a .line) h ∙ sym e) ∙ z))

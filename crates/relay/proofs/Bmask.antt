@@ -2,7 +2,7 @@
 -- read. Assumes nothing.
 use Prim.Native.Nat.{ℕ, _<_}
 use mathlib.Core.Path.{_≡_, refl, sym, ap, _∙_}
-use mathlib.Core.Bool.{Bool, true, false, not, cond, _&&_, false≢true}
+use mathlib.Core.Bool.{Bool, true, false, not, cond, _&&_, false≢true, true≢false}
 use mathlib.Core.List.{List, [], _∷_}
 use native.Mathlib.Omega.{arith}
 use lib.ListN.{length, getD}
@@ -10,7 +10,7 @@ use lib.Dec.{ltb}
 use borrow.Author.Tests.{not-false}
 use Rattle.refusal.specs.Numbers.{accepted, noSuchChannel, tooManyMasks}
 use Rattle.refusal.specs.Rules.{_when_, firstOf, ascendFrom, placeIn}
-use Rattle.refusal.proofs.Rules.{skip, stop, first-nil, first-none, append-some, append-none, both-none}
+use Rattle.refusal.proofs.Rules.{plainRules, first-plain, skip, stop, first-nil, first-none, append-some, append-none, both-none}
 use Rattle.laws.specs.Lists.{all}
 use Rattle.octets.specs.Decimals.{valueOf}
 use Rattle.channel.specs.declared.Record.{Record}
@@ -33,7 +33,7 @@ use Rattle.table.proofs.Searching.{slot-held}
 use Rattle.table.proofs.WellFormed.{holding-used, list-good, list-whole, list-change}
 use Rattle.sjoin.specs.Join.{timeIn, nameIn}
 use Rattle.bmask.specs.Masks.{maskListIn, listed, bmaskRules}
-use Rattle.bmask.proofs.Rules.{rules-numbered, named, masked as are-masks}
+use Rattle.bmask.proofs.Rules.{rules-numbered, rules-plain, named, masked as are-masks}
 use Rattle.relay.specs.declared.Command.the-variants.{Bmask}
 use Rattle.relay.specs.declared.Change.{Change}
 use Rattle.relay.specs.declared.Sending.the-variants.{AsRead}
@@ -50,6 +50,10 @@ module _ (n : Network) (a : Arrival) where
   ordered : BehindReader (meaning .rules n a)
   unfolding ascendFrom placeIn bmaskRules maskedRules
   ordered = refl
+
+  unplaced : plainRules (meaning .rules n a) ≡ true
+  unfolding bmaskRules maskedRules
+  unplaced = refl
 
   module _ (own : firstOf (bmaskRules (said a)) ≡ accepted) where
     -- the rules of its slot are left
@@ -157,6 +161,8 @@ lawful = record {
   ordered = ordered;
   first = λ n a ne. append-some (maskedRules n (said a)) (bmaskRules (said a)) ne;
   asks = λ m c. refl;
+  modes = λ c e. absurd (true≢false (sym e ∙ first-plain (bmaskRules c) (rules-plain c)));
+  plain = λ n a own. first-plain (meaning .rules n a) (unplaced n a);
   judged = λ n a good sixteen read own j e.
       let found = name-found (a .line) (n .slots) 1 (omega arith) (named (said a) own) in
       settled n a own good sixteen j (slotIn n (nameIn (said a))) refl

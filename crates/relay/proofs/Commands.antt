@@ -1,13 +1,13 @@
 -- Every command is lawful, and a line's command has its word. Assumes nothing.
 use mathlib.Core.Path.{_≡_, refl, sym, _∙_}
-use mathlib.Core.Bool.{Bool, true, false}
+use mathlib.Core.Bool.{Bool, true, false, true≢false}
 use mathlib.Core.Logic.{_⊎_, inl, inr}
 use mathlib.Core.List.{List, [], _∷_}
 use Prim.Native.Nat.{ℕ}
 use native.Mathlib.Omega.{arith}
 use Rattle.refusal.specs.Numbers.{accepted, unknownCommand}
 use Rattle.refusal.specs.Rules.{_when_, firstOf, ascendFrom, placeIn}
-use Rattle.refusal.proofs.Rules.{stop}
+use Rattle.refusal.proofs.Rules.{stop, first-plain}
 use Rattle.laws.specs.Lists.{same}
 use Rattle.octets.proofs.Bytes.{same-true}
 use Rattle.relay.specs.declared.Command.{Command}
@@ -31,6 +31,8 @@ strange = record {
   ordered = λ n a. refl;
   first = λ n a ne. refl;
   asks = λ m c. refl;
+  modes = λ c e. absurd (true≢false (sym e ∙ first-plain (unknownCommand when true ∷ []) refl));
+  plain = λ n a own. first-plain (meaningOf Unknown .rules n a) refl;
   judged = λ n a good sixteen read own j e. absurd (unknown-refused own);
   keeps = λ n a p. absurd (unknown-refused (p .none));
   reads = λ n a p. absurd (unknown-refused (p .none));

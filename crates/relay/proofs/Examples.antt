@@ -7,6 +7,7 @@ use mathlib.Core.List.{List, [], _∷_, _++_}
 use native.Mathlib.Omega.{arith}
 use lib.ListN.{length, replicate}
 use Rattle.refusal.specs.Numbers.{accepted}
+use Rattle.refusal.specs.Faults.{firstFault}
 use Rattle.refusal.specs.Rules.{firstOf}
 use Rattle.refusal.proofs.Rules.{skip, first-nil}
 use Rattle.octets.specs.Bytes.{within, isPlain, isLetter, isDigit, isIdByte, isNameByte, isKeyByte, capital}
@@ -43,9 +44,10 @@ use Rattle.table.specs.Network.{Table, Network, networkOf, withBans, emptiedIf,
 use Rattle.table.specs.Table.{holds, goodNetwork, goodTable}
 use Rattle.table.specs.Slots.{slotIn, firstAt, freeSlot, slotFor, placeOf, slotRules}
 use Rattle.table.proofs.Alone.{alone-good}
-use Rattle.sjoin.specs.Modes.{once, goodLetters, modesByte, parametered, goodArguments, argumentOf, isModes}
+use Rattle.sjoin.specs.Modes.{modesByte, parametered, argumentOf}
+use Rattle.sjoin.specs.Faults.{letterChecks, ownChecks, argumentChecks, countChecks, modesChecks}
 use Rattle.sjoin.specs.Entries.{past, idOf, statusOf, isEntry, memberOf, goodEntries}
-use Rattle.sjoin.specs.Join.{argumentsIn, goodCount, joinRules, channelIn, isTime}
+use Rattle.sjoin.specs.Join.{argumentsIn, goodCount, modeRules, joinRules, channelIn, isTime}
 use Rattle.bmask.specs.Masks.{goodMasks, bmaskRules}
 use Rattle.telling.specs.Telling.{lettersFrom, entryOf, paramsOf}
 use Rattle.retelling.specs.Retelling.{Reads}
@@ -128,7 +130,7 @@ unfolding water race stored 2cd masking telling loud rowdy masksWith wordsAt con
 both-masks = rw no-masks
 
 accepts : Accepted joining × Accepted parting × Accepted quitting
-unfolding water race stored 2cd joining parting quitting takenRules slotRules commandAmong capital joinRules goodCount prefixIs isTime isDecimal leadsWithZero valueFrom isDigit isChannel isNameByte isServerId isUserId isIdByte isModes goodLetters once parametered goodArguments argumentsIn placeAmong goodEntries isEntry idOf past wordsAt contentOf contentIn isRead numberFor lineRules bodyRules firstOf endsLine sameBy bodyOf all isPlain startsWith prefix word prefixEnd commandStart spaces command isCommand isLetter within commandEnd rest params joinedRules resulting channelIn argumentOf modesByte memberOf statusOf slotFor firstAt freeSlot holds sameName fold emptyRecord encode decode padded withMode merge settingsAt standing counts bare insert put unite compare greater joinSettings partRules partedRules hasMember quitRules
+unfolding water race stored 2cd joining parting quitting takenRules slotRules commandAmong capital joinRules goodCount prefixIs isTime isDecimal leadsWithZero valueFrom isDigit isChannel isNameByte isServerId isUserId isIdByte modeRules modesChecks ownChecks letterChecks countChecks argumentChecks firstFault parametered argumentsIn placeAmong goodEntries isEntry idOf past wordsAt contentOf contentIn isRead numberFor lineRules bodyRules firstOf endsLine sameBy bodyOf all isPlain startsWith prefix word prefixEnd commandStart spaces command isCommand isLetter within commandEnd rest params joinedRules resulting channelIn argumentOf modesByte memberOf statusOf slotFor firstAt freeSlot holds sameName fold emptyRecord encode decode padded withMode merge settingsAt standing counts bare insert put unite compare greater joinSettings partRules partedRules hasMember quitRules
 accepts = (refl, refl, refl)
 
 -- masks at the channel's time are counted, later ones aren't
@@ -183,7 +185,7 @@ water-enters line = skip _ _ (ap not water-good) ∙ skip _ _ refl ∙ skip _ _ 
 answer-of : (line : List ℕ) (out : Bool) (next : Network) (w : List ℕ) → Accepted line
     → goesBy (networkOf water) (from3 line) ≡ out → networkBy (networkOf water) (from3 line) ≡ next → relayed (networkOf water) (from3 line) ≡ w
     → let set : ℕ = cond out (relaySet (water .links) 3) 0 in
-    processAnswer water (from3 line) lineLimit ≡ record { number = accepted; table = withNetwork water next; len = length w; set = set; count = length (linksIn set) }
+    processAnswer water (from3 line) lineLimit ≡ record { number = accepted; place = 0; table = withNetwork water next; len = length w; set = set; count = length (linksIn set) }
 answer-of line out next w none g e f = answer-accepted water (from3 line) lineLimit (enters water (from3 line) lineLimit (water-enters line) ∙ none) ∙ rw (f, e, g)
 
 -- the SJOIN and the first BMASK go out, the later one doesn't
@@ -192,13 +194,13 @@ unfolding water race stored 2cd joining masking later telling loud rowdy goesBy 
 goes = (refl, refl, refl)
 
 -- that to the SJOIN: to links 0 and 5, count 2, and 46 bytes, CR LF counted
-answers : processAnswer water (from3 joining) lineLimit ≡ record { number = accepted; table = withNetwork water (alone (encode after)); len = 46; set = 33; count = 2 }
+answers : processAnswer water (from3 joining) lineLimit ≡ record { number = accepted; place = 0; table = withNetwork water (alone (encode after)); len = 46; set = 33; count = 2 }
 unfolding water relaySet lessLink setBelow linksFrom hasBit
 answers = answer-of joining true (alone (encode after)) _ (accepts .0) (goes .0) (comes-to .0) (goes-out .0)
 
 -- that to the BMASK: to the same links, and 42 bytes; to the later one: the table as it was, to no links, and no bytes
-answers-masks : (processAnswer water (from3 masking) lineLimit ≡ record { number = accepted; table = withNetwork water (withList (networkOf water) 0 (listWith (rowdy ∷ loud ∷ []))); len = 42; set = 33; count = 2 })
-    × (processAnswer water (from3 later) lineLimit ≡ record { number = accepted; table = water; len = 0; set = 0; count = 0 })
+answers-masks : (processAnswer water (from3 masking) lineLimit ≡ record { number = accepted; place = 0; table = withNetwork water (withList (networkOf water) 0 (listWith (rowdy ∷ loud ∷ []))); len = 42; set = 33; count = 2 })
+    × (processAnswer water (from3 later) lineLimit ≡ record { number = accepted; place = 0; table = water; len = 0; set = 0; count = 0 })
 unfolding water telling loud rowdy relaySet lessLink setBelow linksFrom hasBit
 answers-masks = (answer-of masking true _ _ (accepts-masks .0) (goes .1) (masks-come-to .0) (masks-go-out .0), answer-of later false _ _ (accepts-masks .1) (goes .2) (masks-come-to .1) (masks-go-out .1))
 

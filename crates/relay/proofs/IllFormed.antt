@@ -2,7 +2,7 @@
 -- stands before one that has to come first, or before one with the same fold; so names, and masks, that differ in '~' and '^' alone make them so. True since 1 is
 -- the first rule of each. Assumes nothing.
 use Prim.Native.Nat.{ℕ, _<_}
-use mathlib.Core.Path.{_≡_, sym, ap, _∙_}
+use mathlib.Core.Path.{_≡_, refl, sym, ap, _∙_}
 use mathlib.Core.Bool.{Bool, false, true, _&&_, and-false}
 use mathlib.Core.List.{List, [], map}
 use native.Mathlib.Omega.{arith}
@@ -25,8 +25,10 @@ use Rattle.table.specs.Table.{isFree, holds, goodTable}
 use Rattle.table.proofs.WellFormed.{holding-equal, held-twice, list-ill}
 use Rattle.table.proofs.Registering.{links-ill-formed}
 use Rattle.table.proofs.Questions.{banned-ill}
+use Rattle.message.specs.Reading.{messageOf}
+use Rattle.sjoin.proofs.Answers.{place-none}
 use Rattle.relay.specs.Arrival.{Arrival}
-use Rattle.relay.specs.Relay.{processRules}
+use Rattle.relay.specs.Relay.{processRules, refused}
 use Rattle.relay.specs.IllFormed.{TableGets1, RecordGets1}
 use Rattle.relay.proofs.Entering.{entry-ill-formed, entry-refuses}
 use Rattle.relay.proofs.Answering.{answer-refused, sent-nothing}
@@ -34,7 +36,7 @@ use Rattle.relay.proofs.Answering.{answer-refused, sent-nothing}
 -- ---- what isn't well formed gets 1
 pub table-gets-1 : (t : Table) → goodTable t ≡ false → TableGets1 t
 table-gets-1 t ill = record {
-  taking = λ a n. sym (answer-refused t a n notWellFormed (number a n) some);
+  taking = λ a n. sym (answer-refused t a n notWellFormed (number a n) some) ∙ ap (refused t notWellFormed) (place-none notWellFormed (a .line) (messageOf (a .line)) refl);
   sending = λ a n. sent-nothing t a n notWellFormed (number a n) some;
   registering = λ link. links-ill-formed t link (withLink (t .links) link) ill;
   dropping = λ link. links-ill-formed t link (withoutLink (t .links) link) ill;

@@ -30,7 +30,7 @@ use Rattle.table.specs.declared.Slot.the-variants.{Held, Free}
 use Rattle.table.specs.Network.{Table, Network, networkOf, withSlots, emptiedIf}
 use Rattle.table.specs.Table.{goodTable}
 use Rattle.table.specs.Slots.{slotIn}
-use Rattle.sjoin.specs.Join.{joinRules, channelIn}
+use Rattle.sjoin.specs.Join.{modeRules, joinRules, channelIn}
 use Rattle.sjoin.proofs.Wellformed.{read-proper}
 use Rattle.telling.specs.Telling.{sjoin}
 use Rattle.relay.specs.declared.Command.the-variants.{Sjoin}
@@ -67,7 +67,7 @@ module _ (links : Links) (a : Arrival) (n : ℕ) where
   reader-numbered = refl
 
   earlier-numbered : numbered (earlierRules links a n) ≡ true
-  unfolding lineRules bodyRules joinRules
+  unfolding lineRules bodyRules joinRules modeRules
   earlier-numbered = refl
 
   reader-none : firstOf (readerRules links a n) ≡ accepted → numberFor (a .line) ≡ accepted

@@ -1,11 +1,11 @@
 -- What holds of any command that the relay may take: its rules stand in their order, its judgement is what it means, and a line of it that no rule refuses keeps
 -- the network well formed and goes out as a line that reads as its message. What is common to all is proved of any lawful one. Assumes nothing.
 use mathlib.Core.Path.{_≡_}
-use mathlib.Core.Bool.{true}
+use mathlib.Core.Bool.{true, false}
 use mathlib.Core.List.{List, map}
 use Prim.Native.Nat.{suc}
 use lib.ListN.{length}
-use Rattle.refusal.specs.Numbers.{accepted, tooManyParams}
+use Rattle.refusal.specs.Numbers.{accepted, tooManyParams, isModeNumber}
 use Rattle.refusal.specs.Rules.{Rule, firstOf, ascendFrom, rank}
 use Rattle.octets.specs.Bytes.{capital}
 use Rattle.message.specs.declared.Message.{Message}
@@ -16,6 +16,7 @@ use Rattle.table.specs.Network.{Network}
 use Rattle.table.specs.Table.{goodNetwork}
 use Rattle.retelling.specs.Retelling.{Reads}
 use Rattle.relay.specs.declared.Command.{Command}
+use Rattle.relay.specs.declared.Command.the-variants.{Sjoin}
 use Rattle.relay.specs.declared.Change.{Change}
 use Rattle.relay.specs.Arrival.{Arrival, said}
 use Rattle.relay.specs.Meaning.{Meaning}
@@ -41,6 +42,10 @@ pub record Lawful (k : Command) : Type 0 where
   pub first : (n : Network) (a : Arrival) → (firstOf (workOf k .own (said a)) ≡ accepted → ⊥) → firstOf (meaningOf k .rules n a) ≡ firstOf (workOf k .own (said a))
   -- where it gets none, its request has none
   pub asks : (m : Message) (c : Content) → workOf k .asks m c .request .number ≡ accepted
+  -- a number of modes is an SJOIN's
+  pub modes : (c : Content) → isModeNumber (firstOf (workOf k .own c)) ≡ true → k ≡ Sjoin
+  -- and its message's own
+  pub plain : (n : Network) (a : Arrival) → isModeNumber (firstOf (workOf k .own (said a))) ≡ false → isModeNumber (firstOf (meaningOf k .rules n a)) ≡ false
   -- and what that is settled to is the judgement
   pub judged : (n : Network) (a : Arrival) → goodNetwork n ≡ true → length (n .slots) ≡ slotCount → isRead (a .line) ≡ true → firstOf (workOf k .own (said a)) ≡ accepted
       → (j : Change) → j ≡ settledIn n (a .line) (workOf k .asks (messageOf (a .line)) (said a)) → Judged (meaningOf k) n a j

@@ -18,5 +18,7 @@ mod Acted
 pub mod Answering
 pub mod Joined
 pub mod IllFormed
+pub mod Places
+pub mod Former
 mod Examples
 mod Clashing

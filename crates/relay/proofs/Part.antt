@@ -1,14 +1,14 @@
 -- PART is lawful: its request is settled to the record that its slot is left with, which keeps its name or is empty, and the line goes out as read. Assumes nothing.
 use Prim.Native.Nat.{ℕ, _≤_, _<_}
-use mathlib.Core.Path.{_≡_, refl, ap, _∙_}
-use mathlib.Core.Bool.{Bool, true, false, not, false≢true}
+use mathlib.Core.Path.{_≡_, refl, ap, _∙_, sym}
+use mathlib.Core.Bool.{Bool, true, false, not, false≢true, true≢false}
 use mathlib.Core.List.{List, [], _∷_}
 use native.Mathlib.Omega.{arith}
 use lib.ListN.{length, getD, set}
 use borrow.Author.Tests.{le-leb, lt-leb, not-false}
 use Rattle.refusal.specs.Numbers.{accepted, wrongParamCount, badSource, badName, noSuchChannel, notOnChannel}
 use Rattle.refusal.specs.Rules.{_when_, firstOf, ascendFrom, placeIn}
-use Rattle.refusal.proofs.Rules.{skip, stop, first-nil, first-none, numbered, append-some, append-none, both-none}
+use Rattle.refusal.proofs.Rules.{plainRules, first-plain, skip, stop, first-nil, first-none, numbered, append-some, append-none, both-none}
 use Rattle.names.specs.Names.{isChannel, isUserId}
 use Rattle.message.specs.Content.{Content, prefixIs, sourceIn}
 use Rattle.channel.specs.declared.Record.{Record}
@@ -86,6 +86,10 @@ module _ (n : Network) (a : Arrival) where
   unfolding ascendFrom placeIn partRules partedRules
   ordered = refl
 
+  unplaced : plainRules (meaning .rules n a) ≡ true
+  unfolding partRules partedRules
+  unplaced = refl
+
   module _ (own : firstOf (partRules (said a)) ≡ accepted) where
     -- the rules of its slot are left
     rest : firstOf (meaning .rules n a) ≡ firstOf (partedRules n (said a))
@@ -149,12 +153,18 @@ module _ (n : Network) (a : Arrival) where
       go (Free k) e h = absurd (false≢true h)
       go Full e h = absurd (false≢true h)
 
+own-unplaced : (c : Content) → plainRules (partRules c) ≡ true
+unfolding partRules
+own-unplaced c = refl
+
 -- PART is lawful.
 pub lawful : Lawful Part
 lawful = record {
   ordered = ordered;
   first = λ n a ne. append-some (partedRules n (said a)) (partRules (said a)) ne;
   asks = λ m c. refl;
+  modes = λ c e. absurd (true≢false (sym e ∙ first-plain (partRules c) (own-unplaced c)));
+  plain = λ n a own. first-plain (meaning .rules n a) (unplaced n a);
   judged = λ n a good sixteen read own j e.
       let found = name-found (a .line) (n .slots) 0 (omega arith) (names-channel (said a) own) in
       settled n a own sixteen j (slotIn n (partedIn (said a))) refl (e ∙ ap (λ (f : Found). partsFound (f .slot) (f .«record») (sourceIn (said a))) found);

@@ -1,14 +1,14 @@
 -- QUIT is lawful: nothing in the network refuses it, a slot that loses a member stays good, and the line goes out as read. Assumes nothing.
 use Prim.Native.Nat.{_≤_, _<_}
-use mathlib.Core.Path.{_≡_, refl, ap, _∙_}
-use mathlib.Core.Bool.{true, false, not}
+use mathlib.Core.Path.{_≡_, refl, ap, _∙_, sym}
+use mathlib.Core.Bool.{true, false, not, true≢false}
 use mathlib.Core.List.{[], _∷_, map}
 use native.Mathlib.Omega.{arith}
 use lib.ListN.{length, length-map}
 use borrow.Author.Tests.{le-leb, lt-leb}
 use Rattle.refusal.specs.Numbers.{accepted, wrongParamCount, badSource}
 use Rattle.refusal.specs.Rules.{_when_, firstOf, ascendFrom, placeIn}
-use Rattle.refusal.proofs.Rules.{skip, stop, first-nil}
+use Rattle.refusal.proofs.Rules.{plainRules, first-plain, skip, stop, first-nil}
 use Rattle.laws.proofs.Lists.{all-map}
 use Rattle.names.specs.Names.{isUserId}
 use Rattle.message.specs.Content.{Content, prefixIs, sourceIn}
@@ -55,6 +55,10 @@ module _ (n : Network) (a : Arrival) where
   unfolding ascendFrom placeIn quitRules
   ordered = refl
 
+  unplaced : plainRules (meaning .rules n a) ≡ true
+  unfolding quitRules
+  unplaced = refl
+
   judged : firstOf (quitRules (said a)) ≡ accepted → (j : Change) → j ≡ drops (sourceIn (said a)) AsRead → Judged meaning n a j
   unfolding quitted
   judged own j e = settles meaning n a accepted own j (drops (sourceIn (said a)) AsRead) refl (omega arith) (λ _. record { network = refl; sends = (refl, refl) }) e
@@ -67,12 +71,18 @@ module _ (n : Network) (a : Arrival) where
       network-made (quitted n (said a)) (omega (arith, length-map (n .slots) gone, slots-few n good)) (all-map goodRecord gone (without-good id) (n .slots) (slots-good n good)) (left-lists id n good)
       (distinct-kept (n .slots) (map gone (n .slots)) (kept-map gone (without-keeps id) (n .slots)) (slots-distinct n good))
 
+own-unplaced : (c : Content) → plainRules (quitRules c) ≡ true
+unfolding quitRules
+own-unplaced c = refl
+
 -- QUIT is lawful.
 pub lawful : Lawful Quit
 lawful = record {
   ordered = ordered;
   first = λ n a ne. refl;
   asks = λ m c. refl;
+  modes = λ c e. absurd (true≢false (sym e ∙ first-plain (quitRules c) (own-unplaced c)));
+  plain = λ n a own. first-plain (meaning .rules n a) (unplaced n a);
   judged = λ n a good sixteen read own j e. judged n a own j e;
   keeps = λ n a p. keeps n a (p .good);
   reads = λ n a p. as-read (a .line) (p .read);

@@ -6,9 +6,9 @@ use Prim.Native.Nat.{ℕ}
 use native.Mathlib.Omega.{arith}
 use lib.ListN.{length, getD}
 use lib.Dec.{eqb, ltb}
-use Rattle.refusal.specs.Numbers.{accepted, noFreeSlot}
+use Rattle.refusal.specs.Numbers.{accepted, noFreeSlot, isModeNumber}
 use Rattle.refusal.specs.Rules.{firstOf, ascendFrom, placeIn}
-use Rattle.refusal.proofs.Rules.{append-some, append-none, both-none}
+use Rattle.refusal.proofs.Rules.{first-plain, append-some, append-none, both-none, append-plain}
 use Rattle.laws.proofs.Lists.{take-map}
 use Rattle.message.specs.Content.{sourceIn}
 use Rattle.message.specs.Reading.{isRead, messageOf}
@@ -27,7 +27,7 @@ use Rattle.table.specs.declared.Slot.the-variants.{Held, Free, Full}
 use Rattle.table.specs.Network.{Network}
 use Rattle.table.specs.Table.{goodNetwork}
 use Rattle.table.specs.Slots.{slotIn, heldIn, foundFor, placeOf, slotRules}
-use Rattle.sjoin.specs.Join.{joinRules, channelIn}
+use Rattle.sjoin.specs.Join.{modeRules, joinRules, channelIn}
 use Rattle.telling.specs.Telling.{joinMessage}
 use Rattle.sjoin.proofs.Judged.{rules-numbered}
 use Rattle.sjoin.proofs.Wellformed.{read-proper}
@@ -121,8 +121,14 @@ unfolding channelIn
 found n a read own = name-found (a .line) (n .slots) 1 (omega arith) (proper n a read own .name)
 
 ordered : (n : Network) (a : Arrival) → BehindReader (meaning .rules n a)
-unfolding ascendFrom placeIn joinRules joinedRules slotRules
+unfolding ascendFrom placeIn joinRules modeRules joinedRules slotRules
 ordered n a = refl
+
+plain : (n : Network) (a : Arrival) → isModeNumber (firstOf (joinRules (said a))) ≡ false → isModeNumber (firstOf (meaning .rules n a)) ≡ false
+unfolding joinedRules slotRules
+plain n a own =
+    let slotted = joinedRules n (channelIn (said a)) in
+    append-plain (joinRules (said a)) slotted (rules-numbered (said a)) own (first-plain slotted refl)
 
 -- SJOIN is lawful.
 pub lawful : Lawful Sjoin
@@ -130,6 +136,8 @@ lawful = record {
   ordered = ordered;
   first = λ n a ne. append-some (joinedRules n (channelIn (said a))) (joinRules (said a)) ne;
   asks = λ m c. refl;
+  modes = λ c e. refl;
+  plain = plain;
   judged = λ n a good sixteen read own j e.
       settled n a read own good sixteen j (slotIn n (channelIn (said a) .name)) refl
       (e ∙ ap (λ (f : Found). joinsFound (f .slot) (f .«record») (encode (channelIn (said a)))) (found n a read own));

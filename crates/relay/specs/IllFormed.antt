@@ -16,7 +16,7 @@ use Rattle.relay.specs.Relay.{refused, processAnswer, sent}
 
 -- The table gets 1 from taking any line, which writes nothing; from registering and dropping any link; and from the question whether any text is banned.
 pub record TableGets1 (t : Table) : Type 0 where
-  pub taking : (a : Arrival) (n : ℕ) → processAnswer t a n ≡ refused t notWellFormed
+  pub taking : (a : Arrival) (n : ℕ) → processAnswer t a n ≡ refused t notWellFormed 0
   pub sending : (a : Arrival) (n : ℕ) → sent t a n ≡ []
   pub registering : (link : ℕ) → registerAnswer t link ≡ record { number = notWellFormed; table = t }
   pub dropping : (link : ℕ) → unregisterAnswer t link ≡ record { number = notWellFormed; table = t }

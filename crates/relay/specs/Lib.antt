@@ -8,4 +8,6 @@ pub mod Bmask
 pub mod Commands
 pub mod Relay
 pub mod IllFormed
+pub mod Places
+pub mod Former
 pub mod Private

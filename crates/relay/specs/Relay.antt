@@ -1,4 +1,4 @@
--- Taking a line (document 01, 'SJOIN', 'What goes out' and 'The numbers a caller may get'; document 02, §2): the rules in their order, the network after, the line that
+-- Taking a line (document 01, 'SJOIN', 'What goes out' and 'The numbers a caller may get'; document 02, §2 and §6): the rules in their order, the network after, the line that
 -- goes out, and the answer. From rule 4 on, all depends on the network and the arrival alone; the links enter rule 3 and the relay set.
 use Prim.Native.Nat.{ℕ}
 use mathlib.Core.Bool.{Bool, not, cond}
@@ -15,6 +15,7 @@ use Rattle.links.specs.declared.Links.{Links}
 use Rattle.links.specs.Links.{hasLink, relaySet, linksIn}
 use Rattle.table.specs.Network.{Table, Network, headOf, networkOf, withNetwork}
 use Rattle.table.specs.Table.{goodTable}
+use Rattle.sjoin.specs.Join.{linePlace}
 use Rattle.relay.specs.declared.Taken.{Taken}
 use Rattle.relay.specs.Arrival.{Arrival}
 use Rattle.relay.specs.Meaning.{Meaning}
@@ -64,36 +65,39 @@ abbrev pub receivers : Table → Arrival → ℕ
 receivers t a = cond (goesBy (networkOf t) a) (relaySet (t .links) (a .link)) 0
 
 -- ---- the answer
--- What becomes of a line: a number, the table after, how many bytes were written, the links that it goes to, and how many they are.
+-- What becomes of a line: a number and its place in the line, the table after, how many bytes were written, the links that it goes to, and how many they are.
 pub record Outcome : Type 0 where
   pub number : ℕ
+  pub place : ℕ
   pub table : Table
   pub len : ℕ
   pub set : ℕ
   pub count : ℕ
 
--- the table as given, and zeros
-abbrev pub refused : Table → ℕ → Outcome
-refused t number = record { number = number; table = t; len = 0; set = 0; count = 0 }
+-- the number and its place, the table as given, and zeros
+abbrev pub refused : Table → ℕ → ℕ → Outcome
+refused t number place = record { number = number; place = place; table = t; len = 0; set = 0; count = 0 }
 
 -- the network after, with the links as they were
 abbrev pub taken : Table → Arrival → Outcome
 taken t a = record {
   number = accepted;
+  place = 0;
   table = withNetwork t (networkBy (networkOf t) a);
   len = length (relayed (networkOf t) a);
   set = receivers t a;
   count = length (linksIn (receivers t a));
 }
 
+-- a number of modes has the place of their fault, and any other 0
 unfoldable pub processAnswer : Table → Arrival → ℕ → Outcome
 processAnswer t a n =
     let number : ℕ = firstOf (processRules t a n) in
-    cond (eqb number accepted) (taken t a) (refused t number)
+    cond (eqb number accepted) (taken t a) (refused t number (linePlace number (a .line)))
 
 -- what comes back of it by value: the ban lists are lent
 abbrev pub takenOf : Outcome → Taken
-takenOf o = record { number = o .number; head = headOf (o .table); len = o .len; set = o .set; count = o .count }
+takenOf o = record { number = o .number; place = o .place; head = headOf (o .table); len = o .len; set = o .set; count = o .count }
 
 -- what is written to the front of the output
 unfoldable pub sent : Table → Arrival → ℕ → List ℕ

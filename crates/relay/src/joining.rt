@@ -4,7 +4,6 @@ ghost use Prim.Native.Nat.{_≤_};
 ghost use lib.ListN.{length};
 ghost use Rattle.channel.specs.Standing.{bare as bareOf};
 ghost use Rattle.message.specs.Grammar.{lineLimit};
-ghost use Rattle.message.specs.Parts.{contentBy};
 ghost use Rattle.relay.specs.declared.Command.the-variants.{Sjoin};
 ghost use Rattle.relay.specs.Private.Commands.{askedBy};
 ghost use Rattle.relay.specs.Private.Sjoin.{toldOf, joins as joinsOf, joinsHeld, joinsFound};
@@ -29,12 +28,12 @@ use table::Slot;
 // SJOIN: the name, and the record that the line tells of.
 pub(crate) fn join_request(line: &[u8], m: Message) -> Asked
     requires { ⌜ length (now line) ≤ lineLimit ⌝ }
-    ensures { λ r. ⌜ r ≡ askedBy Sjoin m (contentBy (now (line .entry)) m) ⌝ }
+    ensures { λ r. ⌜ r ≡ askedBy Sjoin (now (line .entry)) m ⌝ }
 {
     let told = read_message(line, m);
     let number = told.number;
     if number != ACCEPTED {
-        return nothing(number);
+        return nothing(number, told.place);
     }
     let name = m.params[1];
     let request = Request {
@@ -43,6 +42,7 @@ pub(crate) fn join_request(line: &[u8], m: Message) -> Asked
         time: 0,
         command: Command::Sjoin,
         number,
+        place: 0,
     };
     let incoming = told.record;
     Asked { request, incoming }

@@ -1,4 +1,4 @@
-// Taking a line (document 01, 'SJOIN', 'What goes out'; document 02, §2): SJOIN, PART, QUIT and BMASK judged, folded into the table and relayed. Any bytes, on
+// Taking a line (document 01, 'SJOIN', 'What goes out'; document 02, §2 and §6): SJOIN, PART, QUIT and BMASK judged, folded into the table and relayed. Any bytes, on
 // any link, with any table and any lent output, get one answer.
 mod acting;
 mod joining;
@@ -42,13 +42,15 @@ enum Command {
 }
 
 // What a message asks for by itself: the number of its refusal, or ACCEPTED, its command, the name of the channel that it is about, as a part of the
-// line, the user who leaves, and the time of masks. What doesn't belong to the command is zero: the name of no channel is empty.
+// line, the user who leaves, and the time of masks; and the place in the line of what is wrong with its modes. What doesn't belong to the command is zero: the name of
+// no channel is empty.
 struct Request {
     name: Span,
     user: [u8; USER_ID],
     time: u32,
     command: Command,
     number: u8,
+    place: usize,
 }
 
 // A request, and the record that came with it; else the empty one.
@@ -85,24 +87,27 @@ struct Change {
     user: [u8; USER_ID],
 }
 
-// The head after, or as given; how many bytes were written; the links that the line goes to, and how many they are; and the number of a refusal, or
-// ACCEPTED. The head comes first: behind a smaller field it is copied twice more.
+// The head after, or as given; how many bytes were written; the place in the line of what is wrong with its modes, 0 with any other number and with none (document 02,
+// §6); the links that the line goes to, and how many they are; and the number of a refusal, or ACCEPTED. The head comes first: behind a smaller field it is copied twice
+// more.
 #[repr(C)]
 pub struct Taken {
     pub head: Head,
     pub len: usize,
+    pub place: usize,
     pub set: u32,
     pub count: u32,
     pub number: u8,
 }
 
 // Nothing changes, and nothing goes out.
-fn refused(t: Head, number: u8) -> Taken
-    ensures { λ r. ⌜ r ≡ refusing t number ⌝ }
+fn refused(t: Head, number: u8, place: usize) -> Taken
+    ensures { λ r. ⌜ r ≡ refusing t number place ⌝ }
 {
     Taken {
         head: t,
         len: 0,
+        place,
         set: 0,
         count: 0,
         number,
@@ -125,20 +130,20 @@ pub fn process(
 {
     let entry = entry_number(is_well_formed(t, bans), out.len(), t.links, link);
     if entry != ACCEPTED {
-        return refused(t, entry);
+        return refused(t, entry, 0);
     }
     let parsed = parse(line);
     let asked = requested(line, parsed);
     let request = asked.request;
     let asks = request.number;
     if asks != ACCEPTED {
-        return refused(t, asks);
+        return refused(t, asks, request.place);
     }
     let m = parsed.message;
     let change = settled(line, m, asked, slot_of(t, line, request.name), bans);
     let number = change.number;
     if number != ACCEPTED {
-        return refused(t, number);
+        return refused(t, number, 0);
     }
     let len = send(line, m, change, out);
     let sending = change.sending;
@@ -148,6 +153,7 @@ pub fn process(
     Taken {
         head,
         len,
+        place: 0,
         set,
         count: n,
         number,

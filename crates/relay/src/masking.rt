@@ -1,6 +1,5 @@
 // BMASK: what its line asks for, and what that comes to in the slot that its channel uses. Nothing is written.
 ghost use mathlib.Core.Path.{_≡_};
-ghost use Rattle.message.specs.Parts.{contentBy};
 ghost use Rattle.relay.specs.declared.Command.the-variants.{Bmask};
 ghost use Rattle.relay.specs.Private.Commands.{askedBy};
 ghost use Rattle.relay.specs.Private.Bmask.{masksHeld, masksFound};
@@ -29,12 +28,12 @@ pub(crate) const MASKS_AT: usize = 3;
 
 // BMASK: the channel's name, and the time of its masks.
 pub(crate) fn mask_request(line: &[u8], m: Message) -> Asked
-    ensures { λ r. ⌜ r ≡ askedBy Bmask m (contentBy (now (line .entry)) m) ⌝ }
+    ensures { λ r. ⌜ r ≡ askedBy Bmask (now (line .entry)) m ⌝ }
 {
     let listing = read_message(line, m);
     let number = listing.number;
     if number != ACCEPTED {
-        return nothing(number);
+        return nothing(number, 0);
     }
     let name = m.params[1];
     let request = Request {
@@ -43,6 +42,7 @@ pub(crate) fn mask_request(line: &[u8], m: Message) -> Asked
         time: listing.time,
         command: Command::Bmask,
         number,
+        place: 0,
     };
     Asked {
         request,

@@ -2,7 +2,6 @@
 ghost use mathlib.Core.Path.{_≡_};
 ghost use mathlib.Core.Bool.{not, _&&_};
 ghost use lib.Dec.{eqb};
-ghost use Rattle.message.specs.Parts.{contentBy};
 ghost use Rattle.relay.specs.declared.Command.the-variants.{Part};
 ghost use Rattle.relay.specs.Private.Commands.{askedBy};
 ghost use Rattle.relay.specs.Private.Part.{partsHeld, partsFound};
@@ -34,21 +33,21 @@ use table::Slot;
 
 // PART: the channel's name, and the user who leaves it.
 pub(crate) fn part_request(line: &[u8], m: Message) -> Asked
-    ensures { λ r. ⌜ r ≡ askedBy Part m (contentBy (now (line .entry)) m) ⌝ }
+    ensures { λ r. ⌜ r ≡ askedBy Part (now (line .entry)) m ⌝ }
 {
     let count = m.count;
     if count < 1 {
-        return nothing(WRONG_PARAM_COUNT);
+        return nothing(WRONG_PARAM_COUNT, 0);
     }
     if 2 < count {
-        return nothing(WRONG_PARAM_COUNT);
+        return nothing(WRONG_PARAM_COUNT, 0);
     }
     let source = prefix_in(line, m);
     if !is_user_id(source) {
-        return nothing(BAD_SOURCE);
+        return nothing(BAD_SOURCE, 0);
     }
     if !is_channel(param_in(line, m, 0)) {
-        return nothing(BAD_NAME);
+        return nothing(BAD_NAME, 0);
     }
     let name = m.params[0];
     let request = Request {
@@ -57,6 +56,7 @@ pub(crate) fn part_request(line: &[u8], m: Message) -> Asked
         time: 0,
         command: Command::Part,
         number: ACCEPTED,
+        place: 0,
     };
     Asked {
         request,

@@ -1,6 +1,5 @@
 // QUIT: what its line asks for, and what that comes to. It names no channel. Nothing is written.
 ghost use mathlib.Core.Path.{_≡_};
-ghost use Rattle.message.specs.Parts.{contentBy};
 ghost use Rattle.relay.specs.declared.Command.the-variants.{Quit};
 ghost use Rattle.relay.specs.declared.Sending.the-variants.{AsRead};
 ghost use Rattle.relay.specs.Private.Work.{drops};
@@ -25,15 +24,15 @@ use refusal::WRONG_PARAM_COUNT;
 
 // QUIT: the user who leaves every channel.
 pub(crate) fn quit_request(line: &[u8], m: Message) -> Asked
-    ensures { λ r. ⌜ r ≡ askedBy Quit m (contentBy (now (line .entry)) m) ⌝ }
+    ensures { λ r. ⌜ r ≡ askedBy Quit (now (line .entry)) m ⌝ }
 {
     let count = m.count;
     if 1 < count {
-        return nothing(WRONG_PARAM_COUNT);
+        return nothing(WRONG_PARAM_COUNT, 0);
     }
     let source = prefix_in(line, m);
     if !is_user_id(source) {
-        return nothing(BAD_SOURCE);
+        return nothing(BAD_SOURCE, 0);
     }
     let request = Request {
         name: Span { start: 0, end: 0 },
@@ -41,6 +40,7 @@ pub(crate) fn quit_request(line: &[u8], m: Message) -> Asked
         time: 0,
         command: Command::Quit,
         number: ACCEPTED,
+        place: 0,
     };
     Asked {
         request,

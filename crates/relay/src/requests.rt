@@ -40,9 +40,9 @@ fn is_word(word: &[u8], name: &[u8]) -> bool
     true
 }
 
-// Nothing is asked for.
-pub(crate) fn nothing(number: u8) -> Asked
-    ensures { λ r. ⌜ r ≡ nothingOf number ⌝ }
+// Nothing is asked for: the number of a refusal, and its place in the line, or 0.
+pub(crate) fn nothing(number: u8, place: usize) -> Asked
+    ensures { λ r. ⌜ r ≡ nothingOf number place ⌝ }
 {
     let request = Request {
         name: Span { start: 0, end: 0 },
@@ -50,6 +50,7 @@ pub(crate) fn nothing(number: u8) -> Asked
         time: 0,
         command: Command::Unknown,
         number,
+        place,
     };
     Asked {
         request,
@@ -57,14 +58,15 @@ pub(crate) fn nothing(number: u8) -> Asked
     }
 }
 
-// What a line asks for, with what it reads as: the reader's own number, or the first of the numbers 11 to 18 and 26 that applies, or the request.
+// What a line asks for, with what it reads as: the reader's own number, or the first of the numbers 11 to 16, 32 to 36, 18 and 26 that applies,
+// or the request.
 pub(crate) fn requested(line: &[u8], parsed: Parsed) -> Asked
     requires { ⌜ parsed ≡ parsedOf (now line) ⌝ }
     ensures { λ r. ⌜ r ≡ askedOf (now (line .entry)) ⌝ }
 {
     let reading = parsed.reading;
     let Reading::Line(_) = reading else {
-        return nothing(reading.number());
+        return nothing(reading.number(), 0);
     };
     let m = parsed.message;
     let word = command_in(line, m);
@@ -80,5 +82,5 @@ pub(crate) fn requested(line: &[u8], parsed: Parsed) -> Asked
     if is_word(word, b"BMASK") {
         return mask_request(line, m);
     }
-    nothing(UNKNOWN_COMMAND)
+    nothing(UNKNOWN_COMMAND, 0)
 }

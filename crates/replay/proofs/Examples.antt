@@ -8,6 +8,7 @@ use mathlib.Core.List.{List, [], _∷_, _++_, map}
 use native.Mathlib.Omega.{arith}
 use lib.ListN.{length, getD, set, replicate}
 use Rattle.refusal.specs.Numbers.{accepted}
+use Rattle.refusal.specs.Faults.{firstFault}
 use Rattle.refusal.specs.Rules.{firstOf}
 use Rattle.refusal.proofs.Rules.{skip, first-nil}
 use Rattle.octets.specs.Bytes.{capital, within, isPlain, isLetter, isDigit, isIdByte, isNameByte, isKeyByte}
@@ -45,9 +46,10 @@ use Rattle.table.specs.Network.{Table, Network, networkOf, tableOf, withSlots, 
 use Rattle.table.specs.Table.{holds, goodTable}
 use Rattle.table.specs.Slots.{slotIn, firstAt, slotFor}
 use Rattle.table.proofs.Alone.{free-good, free-slot, alone-good, held-first, encoded-holds}
-use Rattle.sjoin.specs.Modes.{once, goodLetters, modesByte, parametered, goodArgument, goodArguments, argumentOf, isModes}
+use Rattle.sjoin.specs.Modes.{modesByte, parametered, goodArgument, argumentOf}
+use Rattle.sjoin.specs.Faults.{letterChecks, ownChecks, argumentChecks, countChecks, modesChecks}
 use Rattle.sjoin.specs.Entries.{past, idOf, statusOf, isEntry, memberOf, goodEntries}
-use Rattle.sjoin.specs.Join.{argumentsIn, goodCount, isTime, joinRules, channelIn}
+use Rattle.sjoin.specs.Join.{argumentsIn, goodCount, isTime, modeRules, joinRules, channelIn}
 use Rattle.sjoin.proofs.Examples.{line, line-tells}
 use Rattle.telling.specs.Telling.{sjoin}
 use Rattle.bmask.specs.Masks.{goodMasks, bmaskRules}
@@ -95,7 +97,7 @@ abbrev judge : List ℕ → ℕ
 judge l = firstOf (lineRules l ++ joinRules (contentOf l))
 
 judged : map judge (opening ∷ later ∷ []) ≡ accepted ∷ accepted ∷ []
-unfolding opening line joinRules goodCount prefixIs isTime isDecimal leadsWithZero valueFrom isDigit isChannel isNameByte isServerId isUserId isIdByte isModes goodLetters once parametered goodArguments goodArgument isKey isKeyByte argumentsIn placeAmong goodEntries isEntry idOf past wordsAt contentOf contentIn isRead numberFor lineRules bodyRules firstOf endsLine sameBy bodyOf all isPlain startsWith prefix word prefixEnd commandStart spaces command isCommand isLetter within commandEnd rest params
+unfolding opening line joinRules goodCount prefixIs isTime isDecimal leadsWithZero valueFrom isDigit isChannel isNameByte isServerId isUserId isIdByte modeRules modesChecks ownChecks letterChecks countChecks argumentChecks firstFault parametered goodArgument isKey isKeyByte argumentsIn placeAmong goodEntries isEntry idOf past wordsAt contentOf contentIn isRead numberFor lineRules bodyRules firstOf endsLine sameBy bodyOf all isPlain startsWith prefix word prefixEnd commandStart spaces command isCommand isLetter within commandEnd rest params
 judged = refl
 
 -- the commands

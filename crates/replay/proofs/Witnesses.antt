@@ -15,7 +15,8 @@ use Rattle.laws.specs.Bits.{hasBit}
 use Rattle.laws.specs.Lists.{all, sameBy, startsWith}
 use Rattle.octets.specs.Bytes.{isPlain}
 use Rattle.message.specs.Grammar.{lineLimit, word, prefix}
-use Rattle.message.specs.Reading.{endsLine, bodyOf, bodyRules, lineRules}
+use Rattle.message.specs.Reading.{endsLine, bodyOf, bodyRules, lineRules, messageOf}
+use Rattle.sjoin.proofs.Answers.{place-none}
 use Rattle.channel.proofs.Examples.{stored}
 use Rattle.links.specs.declared.Links.{Links}
 use Rattle.links.specs.Links.{hasLink, noLinks, allLinks, withLink, withoutLink}
@@ -84,12 +85,12 @@ held-good = holding-good opening stored opening-command opening-good opening-tel
 
 -- by any registered link, where the first slot holds the channel
 unread-refused : (links : Links) (link : ℕ) → hasLink (links .set) link ≡ true
-    → processAnswer (tableOf (alone stored) links) (arrival link unread) lineLimit ≡ refused (tableOf (alone stored) links) emptyPrefix
+    → processAnswer (tableOf (alone stored) links) (arrival link unread) lineLimit ≡ refused (tableOf (alone stored) links) emptyPrefix 0
 unread-refused links link on =
     let t : Table = tableOf (alone stored) links in
     let enters : firstOf (enteringRules t (arrival link unread) lineLimit) ≡ accepted = skip _ _ (ap not held-good) ∙ skip _ _ refl ∙ skip _ _ (ap not on) ∙ first-nil in
     let number = sym (answer-number t (arrival link unread) lineLimit) ∙ from-four t (arrival link unread) lineLimit enters .0 ∙ unread-number (alone stored) link in
-    sym (answer-refused t (arrival link unread) lineLimit emptyPrefix number (λ z. omega (arith, z)))
+    sym (answer-refused t (arrival link unread) lineLimit emptyPrefix number (λ z. omega (arith, z))) ∙ ap (refused t emptyPrefix) (place-none emptyPrefix unread (messageOf unread) refl)
 
 -- link 7 is dropped
 dropped : unregisterAnswer met 7 ≡ record { number = accepted; table = tableOf (alone stored) (withoutLink seventh 7) }

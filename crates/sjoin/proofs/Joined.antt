@@ -21,9 +21,10 @@ use Rattle.channel.proofs.Keys.{key-length}
 use Rattle.message.specs.Content.{Content, prefixIs}
 use Rattle.sjoin.specs.Modes.{keyLetter, limitLetter, lettersOf, lacks, hasParameter, parametered, isLimit, goodLetters, goodArgument, goodArguments, argumentAmong, argumentOf, isModes}
 use Rattle.sjoin.specs.Entries.{goodEntries}
-use Rattle.sjoin.specs.Join.{timeIn, nameIn, modesIn, listIn, argumentsIn, goodCount, isTime, headRules, joinRules}
+use Rattle.sjoin.specs.Join.{timeIn, nameIn, modesIn, listIn, argumentsIn, goodCount, isTime, headRules, modeRules, joinRules}
 use Rattle.sjoin.specs.Private.Scanning.{limitIn}
-use Rattle.sjoin.proofs.Judged.{heads}
+use Rattle.sjoin.proofs.Faults.{good-modes, mode-none}
+use Rattle.sjoin.proofs.Judged.{modes-numbered, heads}
 
 -- ---- each test is passed
 -- What the rules test of a line, each passed.
@@ -44,7 +45,7 @@ passes c e =
     let b = first-none _ _ (λ z. omega arith) (a .1) in
     let d = both-none _ (headRules c) refl (b .1) in
     let f = heads c (d .0) in
-    let g = first-none _ _ (λ z. omega arith) (d .1) in
+    let g = both-none _ (modeRules c) (modes-numbered c) (d .1) in
     let h = first-none _ _ (λ z. omega arith) (g .1) in
     record {
       count = not-false _ (a .0);
@@ -52,7 +53,7 @@ passes c e =
       time = f .time;
       after = f .after;
       name = f .name;
-      modes = not-false _ (g .0);
+      modes = good-modes c (mode-none c (g .0));
       list = not-false _ (h .0);
     }
 

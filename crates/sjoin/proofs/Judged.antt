@@ -1,15 +1,17 @@
 -- What the rules of SJOIN give, test by test, of a message and of one whose parts are spans. Assumes nothing.
 use Prim.Native.Nat.{ℕ, _≤_, _<_}
 use mathlib.Core.Path.{_≡_, refl, sym, ap, _∙_}
-use mathlib.Core.Bool.{Bool, true, false, not, _&&_, and-false}
+use mathlib.Core.Bool.{Bool, true, false, true≢false, not, and-false}
 use mathlib.Core.List.{List, [], _∷_}
+use mathlib.Core.Option.{Option, some, none}
 use native.Mathlib.Omega.{arith}
 use lib.ListN.{length}
 use lib.Dec.{eqb, leb}
 use borrow.Author.Tests.{eq-eqb, ne-eqb, eqb-true, eqb-false, lt-ltb, le-ltb, le-leb, lt-leb, leb-true, not-false}
-use Rattle.refusal.specs.Numbers.{accepted, lineTooLong, wrongParamCount, badSource, badTime, zeroTime, badName, badModes, badMembers}
-use Rattle.refusal.specs.Rules.{firstOf, ascend, ascendFrom, placeIn}
-use Rattle.refusal.proofs.Rules.{skip, stop, first-nil, first-none, numbered, append-some, append-none}
+use Rattle.refusal.specs.Numbers.{accepted, lineTooLong, wrongParamCount, badSource, badTime, zeroTime, badName, badMembers, isModeNumber}
+use Rattle.refusal.specs.Rules.{_when_, firstOf, ascend, ascendFrom, placeIn}
+use Rattle.refusal.specs.Faults.{Fault, numberOf}
+use Rattle.refusal.proofs.Rules.{skip, stop, first-nil, first-none, first-plain, numbered, append-some, append-none}
 use Rattle.laws.specs.Lists.{same}
 use Rattle.laws.proofs.Bools.{and-left, and-right, both-ways}
 use Rattle.octets.specs.declared.Decimal.the-variants.{Value, Malformed}
@@ -23,23 +25,25 @@ use Rattle.message.specs.Grammar.{lineLimit}
 use Rattle.message.specs.Content.{Content, prefixIs}
 use Rattle.message.specs.Parts.{contentBy}
 use Rattle.message.specs.Reading.{bodyRules, lineRules}
-use Rattle.sjoin.specs.Modes.{lettersOf, goodLetters, parametered, goodArguments, isModes}
+use Rattle.sjoin.specs.Modes.{isModes}
 use Rattle.sjoin.specs.Entries.{goodEntries}
-use Rattle.sjoin.specs.Join.{timeIn, nameIn, modesIn, listIn, argumentsIn, fewest, most, goodCount, isTime, timeOf, sourceRules, headRules, leadRules, tellingRules, joinRules, spanRules, lineJoinRules}
+use Rattle.sjoin.specs.Faults.{Site}
+use Rattle.sjoin.specs.Join.{timeIn, nameIn, modesIn, listIn, argumentsIn, fewest, most, goodCount, isTime, timeOf, sourceRules, headRules, faultIn, modeRules, leadRules, tellingRules, joinRules, spanRules, lineJoinRules}
+use Rattle.sjoin.proofs.Faults.{modes-good, fault-numbered, mode-some, mode-number}
 
 -- The rules stand in the order of their numbers: the first in it that applies is given.
 pub rules-ascend : (c : Content) → ascend (joinRules c) ≡ true
-unfolding ascendFrom joinRules placeIn
+unfolding ascendFrom joinRules modeRules placeIn
 rules-ascend c = refl
 
 -- those of a line, behind the reader's own
 pub line-rules-ascend : (line : List ℕ) → ascend (lineJoinRules line) ≡ true
-unfolding ascendFrom lineJoinRules lineRules bodyRules joinRules placeIn
+unfolding ascendFrom lineJoinRules lineRules bodyRules joinRules modeRules placeIn
 line-rules-ascend line = refl
 
 -- none of them is `accepted`
 pub rules-numbered : (c : Content) → numbered (joinRules c) ≡ true
-unfolding joinRules
+unfolding joinRules modeRules
 rules-numbered c = refl
 
 -- ---- the time
@@ -85,17 +89,6 @@ time-zero s t =
 pub time-bounds : (s : List ℕ) → isTime s ≡ true → same s (zeroDigit ∷ []) ≡ false → (1 ≤ valueOf s) × (valueOf s ≤ timeLimit)
 unfolding isTime
 time-bounds s t z = (omega (arith, eqb-false (valueOf s) 0 (sym (time-zero s t) ∙ z)), leb-true (valueOf s) timeLimit (and-right (isDecimal s) _ t))
-
--- ---- the modes
--- modes are good exactly if their letters and their parameters are
-pub modes-parts : (c : Content) (t u : Bool) → goodLetters (modesIn c) ≡ t → goodArguments (parametered (lettersOf (modesIn c))) (argumentsIn c) ≡ u → isModes (modesIn c) (argumentsIn c) ≡ t && u
-unfolding isModes
-modes-parts c t u e f = rw (e, f)
-
--- modes with bad letters are bad, whatever their parameters
-pub modes-letters : (c : Content) → goodLetters (modesIn c) ≡ false → isModes (modesIn c) (argumentsIn c) ≡ false
-unfolding isModes
-modes-letters c e = rw e
 
 -- ---- the numbers of count and source, in their order
 module _ (c : Content) where
@@ -165,19 +158,28 @@ heads c e =
     record { time = not-false _ (a .0); after = b .0; name = not-false _ (d .0) }
 
 -- ---- those of time, name and modes
+-- no number of modes is `accepted`
+pub modes-numbered : (c : Content) → numbered (modeRules c) ≡ true
+unfolding modeRules
+modes-numbered c = refl
+
 module _ (c : Content) where
   -- a rule of time and name that applies decides
   pub head-decides : (firstOf (headRules c) ≡ accepted → ⊥) → firstOf (leadRules c) ≡ firstOf (headRules c)
   head-decides = append-some _ (headRules c)
 
-  module _ (h : firstOf (headRules c) ≡ accepted) where
-    -- behind a good time and a good name bad modes give their number
-    pub unfit : isModes (modesIn c) (argumentsIn c) ≡ false → badModes ≡ firstOf (leadRules c)
-    unfit e = sym (append-none _ (headRules c) refl h ∙ stop _ _ (ap not e))
+  -- behind a good time and a good name those of the modes do
+  pub modes-decide : firstOf (headRules c) ≡ accepted → firstOf (leadRules c) ≡ firstOf (modeRules c)
+  modes-decide = append-none (modeRules c) (headRules c) refl
 
-    -- where time, name and modes are good, no rule of theirs applies
-    pub led : isModes (modesIn c) (argumentsIn c) ≡ true → accepted ≡ firstOf (leadRules c)
-    led e = sym (append-none _ (headRules c) refl h ∙ skip _ _ (ap not e) ∙ first-nil)
+  -- where all are good, no rule of theirs applies
+  pub led : firstOf (headRules c) ≡ accepted → isModes (modesIn c) (argumentsIn c) ≡ true → accepted ≡ firstOf (leadRules c)
+  led h e = sym (modes-decide h ∙ mode-number c ∙ ap numberOf (modes-good c e))
+
+  -- none of them is `accepted`
+  pub lead-numbered : numbered (leadRules c) ≡ true
+  unfolding modeRules
+  lead-numbered = refl
 
 -- ---- and all of them, one after the other
 module _ (c : Content) where
@@ -198,17 +200,17 @@ module _ (c : Content) where
     module _ (t : firstOf (leadRules c) ≡ accepted) where
       -- behind all of these a bad list gives its number
       pub unlisted : goodEntries (listIn c) ≡ false → firstOf (joinRules c) ≡ badMembers
-      unlisted e = telling-decides ∙ append-none _ (leadRules c) refl t ∙ stop _ _ (ap not e)
+      unlisted e = telling-decides ∙ append-none _ (leadRules c) (lead-numbered c) t ∙ stop _ _ (ap not e)
 
       -- where the list is good too, no rule refuses the message
       pub listed : goodEntries (listIn c) ≡ true → firstOf (joinRules c) ≡ accepted
-      listed e = telling-decides ∙ append-none _ (leadRules c) refl t ∙ skip _ _ (ap not e) ∙ first-nil
+      listed e = telling-decides ∙ append-none _ (leadRules c) (lead-numbered c) t ∙ skip _ _ (ap not e) ∙ first-nil
 
 -- ---- of spans
 module _ (text : List ℕ) (m : Message) where
   -- The rules of spans stand in the order of their numbers.
   pub span-rules-ascend : ascend (spanRules text m) ≡ true
-  unfolding ascendFrom spanRules joinRules placeIn
+  unfolding ascendFrom spanRules joinRules modeRules placeIn
   span-rules-ascend = refl
 
   -- a text longer than a line gives the number of a long line
@@ -220,3 +222,38 @@ module _ (text : List ℕ) (m : Message) where
   pub span-rules : length text ≤ lineLimit → firstOf (spanRules text m) ≡ firstOf (joinRules (contentBy text m))
   unfolding spanRules
   span-rules h = skip _ _ (le-ltb lineLimit (length text) h)
+
+-- ---- a number of modes
+-- What holds where one is given: the count is good, and the modes have a fault of that number.
+pub record Faulty (c : Content) : Type 0 where
+  pub count : goodCount c ≡ true
+  pub fault : Fault Site
+  pub given : faultIn c ≡ some fault
+  pub number : firstOf (joinRules c) ≡ fault .number
+
+pub faulty : (c : Content) → isModeNumber (firstOf (joinRules c)) ≡ true → Faulty c
+faulty c is = go (eqb (firstOf (sourceRules c)) accepted) refl (eqb (firstOf (headRules c)) accepted) refl (faultIn c) refl
+  where
+    -- another number isn't one
+    other : {A : Type 0} (n : ℕ) → firstOf (joinRules c) ≡ n → isModeNumber n ≡ false → A
+    other n e p = absurd (true≢false (sym is ∙ ap isModeNumber e ∙ p))
+
+    go : (t : Bool) → eqb (firstOf (sourceRules c)) accepted ≡ t → (u : Bool) → eqb (firstOf (headRules c)) accepted ≡ u → (o : Option (Fault Site)) → faultIn c ≡ o → Faulty c
+    go false e u f o g = other (firstOf (sourceRules c)) (source-decides c (eqb-false (firstOf (sourceRules c)) accepted e)) (first-plain (sourceRules c) refl)
+    go true e false f o g =
+        let s = eqb-true (firstOf (sourceRules c)) accepted e in
+        let ne = eqb-false (firstOf (headRules c)) accepted f in
+        let h = head-decides c ne in
+        other (firstOf (headRules c)) (lead-decides c s (λ z. ne (sym h ∙ z)) ∙ h) (first-plain (headRules c) refl)
+    go true e true f none g =
+        let s = eqb-true (firstOf (sourceRules c)) accepted e in
+        let h = eqb-true (firstOf (headRules c)) accepted f in
+        let l = modes-decide c h ∙ mode-number c ∙ ap numberOf g in
+        let rest = badMembers when not (goodEntries (listIn c)) ∷ [] in
+        other (firstOf rest) (telling-decides c s ∙ append-none rest (leadRules c) (lead-numbered c) l) (first-plain rest refl)
+    go true e true f (some x) g =
+        let s = eqb-true (firstOf (sourceRules c)) accepted e in
+        let h = eqb-true (firstOf (headRules c)) accepted f in
+        let l : firstOf (leadRules c) ≡ x .number = modes-decide c h ∙ mode-number c ∙ ap numberOf g in
+        let ne : firstOf (leadRules c) ≡ accepted → ⊥ = λ z. mode-some (x .number) (fault-numbered (modesIn c) (argumentsIn c) x g) (sym l ∙ z) in
+        record { count = source-counts c s; fault = x; given = g; number = lead-decides c s ne ∙ l }

@@ -1,22 +1,26 @@
 -- Laws of mode letters: a byte of the modes seen so far tells whether a letter comes again, and their bits united are the modes' byte. Assumes nothing.
 use Prim.Native.Nat.{ℕ, _+_, _≤_, _<_}
 use mathlib.Core.Path.{_≡_, refl, sym, ap, _∙_}
-use mathlib.Core.Bool.{Bool, true, false, not, _&&_, and-false, and-true, and-assoc, and-comm}
+use mathlib.Core.Bool.{Bool, true, false, not, cond, or-comm}
 use mathlib.Core.List.{List, [], _∷_}
+use mathlib.Core.Option.{Option, some, none}
 use native.Mathlib.Omega.{arith}
 use lib.Bits.{bitOr, or-zero-l, or-zero-r}
 use lib.ListN.{length, drop, getD, drop-of-length-le}
 use lib.Dec.{eqb}
 use borrow.Author.Tests.{eq-eqb, eqb-true, lt-ltb, le-ltb, ltb-true}
+use Rattle.refusal.specs.Numbers.{unknownMode, modeTwice}
+use Rattle.refusal.specs.Faults.{Fault, fault, firstFault}
 use Rattle.laws.specs.Lists.{all, startsWith}
 use Rattle.laws.specs.Joins.{total}
-use Rattle.laws.proofs.Bools.{both-ways, and-swap, not-or}
+use Rattle.laws.proofs.Bools.{both-ways, or-not, eqb-swap}
 use Rattle.laws.proofs.Lists.{drop-step}
 use Rattle.laws.proofs.Joins.{joining-bits}
 use Rattle.channel.specs.Modes.{letters, modeCount, hasMode, withMode, modePlace, plus}
 use Rattle.channel.proofs.Letters.{has-no-mode, has-with, with-union, place-found}
-use Rattle.sjoin.specs.Modes.{isMode, lacks, once, goodLetters, modesByte}
-use Rattle.sjoin.specs.Private.Scanning.{fresh}
+use Rattle.sjoin.specs.Modes.{isMode, lacks, modesByte}
+use Rattle.sjoin.specs.Faults.{Site, Letter, letterChecks, ownChecks}
+use Rattle.sjoin.specs.Private.Scanning.{seenChecks}
 
 -- ---- a letter's place
 -- a mode's place is no other letter's
@@ -29,70 +33,65 @@ same-place x y m =
     eq-eqb y x (sym (place-found letters y (omega arith)) ∙ ap (λ (k : ℕ). getD letters k 0) p ∙ place-found letters x h))
     (λ e. eq-eqb (modePlace y) (modePlace x) (ap modePlace (eqb-true y x e)))
 
--- ---- letters that the byte doesn't have
-abbrev unseen : ℕ → List ℕ → Bool
-unseen seen s = all (λ x. not (hasMode seen (modePlace x))) s
+-- ---- letters that a byte has
+-- of the modes the byte has those of some letters, and no other
+abbrev Sees : ℕ → List ℕ → Type 0
+Sees seen before = (y : ℕ) → isMode y ≡ true → hasMode seen (modePlace y) ≡ not (lacks y before)
 
-unseen-with : (seen x : ℕ) → isMode x ≡ true → (s : List ℕ) → unseen (withMode seen (modePlace x)) s ≡ unseen seen s && lacks x s
+sees-none : Sees 0 []
 unfolding all
-unseen-with seen x m [] = refl
-unseen-with seen x m (y ∷ s) =
-    rw (unseen-with seen x m s, has-with seen (modePlace x) (modePlace y) (ltb-true (modePlace x) modeCount m), same-place x y m, not-or (hasMode seen (modePlace y)) (eqb y x))
-    (and-swap (not (hasMode seen (modePlace y))) (not (eqb y x)) (unseen seen s) (lacks x s))
+sees-none y m = has-no-mode (modePlace y)
 
-none-seen : (s : List ℕ) → unseen 0 s ≡ true
+sees-more : (seen : ℕ) (before : List ℕ) (x : ℕ) → isMode x ≡ true → Sees seen before → Sees (withMode seen (modePlace x)) (x ∷ before)
 unfolding all
-none-seen [] = refl
-none-seen (x ∷ s) = rw (has-no-mode (modePlace x), none-seen s)
+sees-more seen before x m h y n =
+    has-with seen (modePlace x) (modePlace y) (ltb-true (modePlace x) modeCount m)
+    ∙ rw (h y n, same-place x y m, eqb-swap y x) (or-comm (not (lacks y before)) (eqb x y) ∙ or-not (eqb x y) (lacks y before))
 
-shuffle : (n a o u k : Bool) → n && (a && (o && (u && k))) ≡ a && ((k && o) && (n && u))
-shuffle true a o u k = ap (λ (t : Bool). a && t) (sym (and-assoc o u k) ∙ and-comm (o && u) k ∙ sym (and-assoc k o u))
-shuffle false a o u k = sym (rw (and-false (k && o), and-false a))
-
-fresh-is : (s : List ℕ) (seen : ℕ) → fresh seen s ≡ all isMode s && (once s && unseen seen s)
-unfolding fresh all once
-fresh-is [] seen = refl
-fresh-is (x ∷ s) seen = go (isMode x) refl (fresh-is s (withMode seen (modePlace x)))
+-- so it tells which letter stands there before
+seen-letters : (s : List ℕ) (seen i : ℕ) (before : List ℕ) → Sees seen before → firstFault (seenChecks seen i s) ≡ firstFault (letterChecks before i s)
+unfolding seenChecks letterChecks firstFault
+seen-letters [] seen i before h = refl
+seen-letters (x ∷ s) seen i before h = go (isMode x) refl (λ m. seen-letters s (withMode seen (modePlace x)) (i + 1) (x ∷ before) (sees-more seen before x m h))
   where
-    go : (t : Bool) → isMode x ≡ t → fresh (withMode seen (modePlace x)) s ≡ all isMode s && (once s && unseen (withMode seen (modePlace x)) s) → fresh seen (x ∷ s) ≡ all isMode (x ∷ s) && (once (x ∷ s) && unseen seen (x ∷ s))
-    go true e ih =
-        rw e
-        (ap (λ (t : Bool). not (hasMode seen (modePlace x)) && t) (ih ∙ ap (λ (t : Bool). all isMode s && (once s && t)) (unseen-with seen x e s))
-        ∙ shuffle (not (hasMode seen (modePlace x))) (all isMode s) (once s) (unseen seen s) (lacks x s))
+    go : (t : Bool) → isMode x ≡ t
+        → (isMode x ≡ true → firstFault (seenChecks (withMode seen (modePlace x)) (i + 1) s) ≡ firstFault (letterChecks (x ∷ before) (i + 1) s))
+        → firstFault (seenChecks seen i (x ∷ s)) ≡ firstFault (letterChecks before i (x ∷ s))
+    go true e ih = rw (e, h x e) (ap (λ (o : Option (Fault Site)). cond (not (lacks x before)) (some (fault modeTwice (Letter i))) o) (ih e))
     go false e ih = rw e
 
--- the letters after '+' are good exactly if each is a mode not seen before it
-pub good-fresh : (s : List ℕ) → startsWith plus s ≡ true → goodLetters s ≡ fresh 0 (drop 1 s)
-unfolding goodLetters
-good-fresh s e = rw (e, fresh-is (drop 1 s) 0, none-seen (drop 1 s), and-true (once (drop 1 s)))
+-- ---- the first letter at fault
+-- without '+' in front it is the first byte
+pub sign-missing : (s : List ℕ) → startsWith plus s ≡ false → firstFault (ownChecks s) ≡ some (fault unknownMode (Letter 0))
+unfolding ownChecks firstFault
+sign-missing s e = rw e
 
--- without '+' in front the letters are bad
-pub good-none : (s : List ℕ) → startsWith plus s ≡ false → goodLetters s ≡ false
-unfolding goodLetters
-good-none s e = rw e
+-- behind '+' it is the first that is no mode, or a mode that was seen
+pub sign-seen : (s : List ℕ) → startsWith plus s ≡ true → firstFault (ownChecks s) ≡ firstFault (seenChecks 0 1 (drop 1 s))
+unfolding ownChecks firstFault
+sign-seen s e = rw e (sym (seen-letters (drop 1 s) 0 1 [] sees-none))
 
--- ---- letters at a place
 module _ (s : List ℕ) (i seen : ℕ) where
-  -- past the end no letter is left that could be bad
-  pub fresh-past : length s ≤ i → fresh seen (drop i s) ≡ true
-  unfolding fresh
-  fresh-past h = rw (drop-of-length-le s h)
+  -- past the end no letter is left that could be at fault
+  pub seen-past : length s ≤ i → firstFault (seenChecks seen i (drop i s)) ≡ none
+  unfolding seenChecks firstFault
+  seen-past h = rw (drop-of-length-le s h)
 
-  module _ (place : ℕ) (h : i < length s) (is : place ≡ modePlace (getD s i 0)) where
-    -- a byte that is no mode decides
-    pub fresh-other : modeCount ≤ place → fresh seen (drop i s) ≡ false
-    unfolding fresh
-    fresh-other k = rw (drop-step s i 0 h, ← is, le-ltb place modeCount k)
+  module _ (mode : ℕ) (h : i < length s) (is : mode ≡ modePlace (getD s i 0)) where
+    -- a byte that is no mode is unknown
+    pub seen-other : modeCount ≤ mode → firstFault (seenChecks seen i (drop i s)) ≡ some (fault unknownMode (Letter i))
+    unfolding seenChecks firstFault
+    seen-other k = rw (drop-step s i 0 h, ← is, le-ltb mode modeCount k)
 
-    -- a mode that was seen decides
-    pub fresh-twice : place < modeCount → hasMode seen place ≡ true → fresh seen (drop i s) ≡ false
-    unfolding fresh
-    fresh-twice k e = rw (drop-step s i 0 h, ← is, lt-ltb place modeCount k, e)
+    -- a mode that was seen stands there twice
+    pub seen-twice : mode < modeCount → hasMode seen mode ≡ true → firstFault (seenChecks seen i (drop i s)) ≡ some (fault modeTwice (Letter i))
+    unfolding seenChecks firstFault
+    seen-twice k e = rw (drop-step s i 0 h, ← is, lt-ltb mode modeCount k, e)
 
     -- behind a mode that wasn't seen the others decide, with that one seen
-    pub fresh-go : place < modeCount → hasMode seen place ≡ false → fresh seen (drop i s) ≡ fresh (withMode seen place) (drop (i + 1) s)
-    unfolding fresh
-    fresh-go k e = rw (drop-step s i 0 h, ← is, lt-ltb place modeCount k, e)
+    pub seen-go : mode < modeCount → hasMode seen mode ≡ false → firstFault (seenChecks seen i (drop i s)) ≡ firstFault (seenChecks (withMode seen mode) (i + 1) (drop (i + 1) s))
+    unfolding seenChecks firstFault
+    seen-go k e = rw (drop-step s i 0 h, ← is, lt-ltb mode modeCount k, e)
 
 -- ---- the modes' byte
 -- the bits of letters, united

@@ -1,19 +1,28 @@
 -- Laws of the parameters of k and l: the letters that have one and the parameters up to the list, each at a place. Assumes nothing.
 use Prim.Native.Nat.{ℕ, suc, _+_, _-_, _≤_, _<_}
-use mathlib.Core.Path.{_≡_, refl, sym, ap, _∙_}
-use mathlib.Core.Bool.{Bool, true, false, _&&_}
+use mathlib.Core.Path.{_≡_, sym, ap, _∙_}
+use mathlib.Core.Bool.{true, false}
 use mathlib.Core.List.{List, [], _∷_}
+use mathlib.Core.Option.{Option, some, none}
 use native.Mathlib.Omega.{arith}
-use lib.ListN.{length, take, drop, getD, drop-of-length-le, length-take, List·getD-eq-default}
+use lib.ListN.{length, take, drop, getD, drop-of-length-le, length-take, length-drop, List·getD-eq-default}
 use lib.Seq.{getD-take, getD-drop}
-use lib.Dec.{eqb}
-use borrow.Author.Tests.{eq-eqb, ne-eqb, eqb-true, eqb-false}
+use borrow.Author.Tests.{eq-eqb, ne-eqb, lt-ltb, le-ltb}
+use Rattle.refusal.specs.Numbers.{wrongModeParams}
+use Rattle.refusal.specs.Faults.{Fault, fault, Check, firstFault}
 use Rattle.laws.proofs.Lists.{drop-step}
 use Rattle.channel.specs.Modes.{placeAmong}
+use Rattle.message.specs.declared.Span.{Span}
+use Rattle.message.specs.declared.Message.{Message}
+use Rattle.message.specs.Grammar.{paramLimit}
 use Rattle.message.specs.Content.{Content}
-use Rattle.sjoin.specs.Modes.{lettersOf, hasParameter, parametered, goodArgument, goodArguments, argumentOf}
+use Rattle.message.specs.Parts.{contentBy}
+use Rattle.message.proofs.SpanContents.{params-count, param-span-some}
+use Rattle.sjoin.specs.declared.Verdict.{Verdict}
+use Rattle.sjoin.specs.Modes.{lettersOf, hasParameter, parametered, goodArgument, argumentOf}
+use Rattle.sjoin.specs.Faults.{Site, Param, End, argumentsAt, argumentNumber, argumentChecks, countChecks}
 use Rattle.sjoin.specs.Join.{modesIn, argumentsIn}
-use Rattle.sjoin.specs.Private.Scanning.{upTo}
+use Rattle.sjoin.specs.Private.Scanning.{faultVerdict, upTo}
 
 -- ---- letters that have a parameter, at a place
 module _ (s : List ℕ) (i : ℕ) where
@@ -35,11 +44,6 @@ module _ (s : List ℕ) (i : ℕ) where
 
 -- ---- parameters up to the last
 module _ (params : List (List ℕ)) (last at : ℕ) where
-  -- at the last there are none
-  pub up-none : at ≡ last → upTo last at params ≡ []
-  unfolding upTo
-  up-none e = let z : last - at ≡ 0 = omega arith in rw z
-
   -- before the last there is the one at the place, and then those behind it
   pub up-one : at < last → last < length params → upTo last at params ≡ getD params at [] ∷ upTo last (at + 1) params
   unfolding upTo
@@ -50,36 +54,68 @@ pub arguments-are : (c : Content) (last : ℕ) → length (c .params) ≡ last +
 unfolding argumentsIn upTo
 arguments-are c last e = let n : length (c .params) - 4 ≡ last - 3 = omega arith in rw n
 
--- ---- their goodness, at the letter in place i and the parameter in place `at`
+-- and how many they are
+pub arguments-count : (c : Content) (last : ℕ) → length (c .params) ≡ last + 1 → length (argumentsIn c) ≡ last - 3
+unfolding argumentsIn
+arguments-count c last e = omega (arith, length-take (length (c .params) - 4) (drop 3 (c .params)), length-drop 3 (c .params), e)
+
+-- ---- how many they are, by the letters that have one
+module _ (letters : List ℕ) (args : List (List ℕ)) where
+  -- too many: the first surplus one is at fault
+  pub count-many : length letters < length args → firstFault (countChecks letters args) ≡ some (fault wrongModeParams (Param (argumentsAt + length letters)))
+  unfolding countChecks firstFault
+  count-many h = rw (lt-ltb (length letters) (length args) h)
+
+  -- too few: the line's end is at fault
+  pub count-few : length args < length letters → firstFault (countChecks letters args) ≡ some (fault wrongModeParams End)
+  unfolding countChecks firstFault
+  count-few h = rw (le-ltb (length letters) (length args) (omega (arith, h)), lt-ltb (length args) (length letters) h)
+
+  -- as many: each is judged
+  pub count-right : length letters ≡ length args → firstFault (countChecks letters args) ≡ firstFault (argumentChecks argumentsAt letters args)
+  unfolding countChecks firstFault
+  count-right h =
+      rw (le-ltb (length letters) (length args) (omega (arith, h)), le-ltb (length args) (length letters) (omega (arith, h)), eq-eqb (length letters) (length args) h)
+
+-- ---- each of them, at the letter in place i and the parameter in place `at`
 module _ (s : List ℕ) (params : List (List ℕ)) (last at i : ℕ) where
-  -- the parameters from place k on are good for the letters from place j on
-  abbrev pub Good : ℕ → ℕ → Bool
-  Good j k = goodArguments (parametered (drop j s)) (upTo last k params)
+  -- the checks of the parameters from place k on, by the letters from place j on
+  abbrev pub Left : ℕ → ℕ → List (Check Site)
+  Left j k = argumentChecks k (parametered (drop j s)) (upTo last k params)
 
   -- no letter is left
-  pub good-end : at ≤ last → last < length params → length s ≤ i → Good i at ≡ eqb at last
-  unfolding goodArguments
-  good-end h k e = go (eqb at last) refl
-    where
-      go : (t : Bool) → eqb at last ≡ t → Good i at ≡ eqb at last
-      go true f = rw (parametered-past s i e, up-none params last at (eqb-true at last f), f)
-      go false f = rw (parametered-past s i e, up-one params last at (omega (arith, eqb-false at last f)) k, f)
+  pub left-none : length s ≤ i → firstFault (Left i at) ≡ none
+  unfolding argumentChecks firstFault
+  left-none h = rw (parametered-past s i h)
 
   module _ (h : i < length s) where
     -- a letter without a parameter changes nothing
-    pub good-skip : hasParameter (getD s i 0) ≡ false → Good (i + 1) at ≡ Good i at
-    good-skip e = rw (parametered-skip s i h e)
+    pub left-skip : hasParameter (getD s i 0) ≡ false → firstFault (Left (i + 1) at) ≡ firstFault (Left i at)
+    left-skip e = rw (parametered-skip s i h e)
 
-    module _ (e : hasParameter (getD s i 0) ≡ true) where
-      -- no parameter is left
-      pub good-missing : at ≡ last → Good i at ≡ false
-      unfolding goodArguments
-      good-missing f = rw (parametered-one s i h e, up-none params last at f)
+    -- a letter with a parameter takes the one at `at`
+    module _ (e : hasParameter (getD s i 0) ≡ true) (f : at < last) (k : last < length params) where
+      -- which is bad
+      pub left-bad : goodArgument (getD s i 0) (getD params at []) ≡ false → firstFault (Left i at) ≡ some (fault (argumentNumber (getD s i 0)) (Param at))
+      unfolding argumentChecks firstFault
+      left-bad g = rw (parametered-one s i h e, up-one params last at f k, g)
 
-      -- a letter with a parameter takes the one at `at`, which must be good for it, and the others take those behind it
-      pub good-one : at ≤ last → (at ≡ last → ⊥) → last < length params → Good i at ≡ goodArgument (getD s i 0) (getD params at []) && Good (i + 1) (at + 1)
-      unfolding goodArguments
-      good-one f g k = rw (parametered-one s i h e, up-one params last at (omega arith) k)
+      -- or good, and the others take those behind it
+      pub left-good : goodArgument (getD s i 0) (getD params at []) ≡ true → firstFault (Left i at) ≡ firstFault (Left (i + 1) (at + 1))
+      unfolding argumentChecks firstFault
+      left-good g = rw (parametered-one s i h e, up-one params last at f k, g)
+
+-- ---- how many letters have a parameter
+module _ (s : List ℕ) (i : ℕ) where
+  pub wanted-past : length s ≤ i → length (parametered (drop i s)) ≡ 0
+  wanted-past h = ap (λ (l : List ℕ). length l) (parametered-past s i h)
+
+  module _ (h : i < length s) where
+    pub wanted-skip : hasParameter (getD s i 0) ≡ false → length (parametered (drop i s)) ≡ length (parametered (drop (i + 1) s))
+    wanted-skip e = ap (λ (l : List ℕ). length l) (parametered-skip s i h e)
+
+    pub wanted-one : hasParameter (getD s i 0) ≡ true → length (parametered (drop i s)) ≡ suc (length (parametered (drop (i + 1) s)))
+    wanted-one e = ap (λ (l : List ℕ). length l) (parametered-one s i h e)
 
 -- ---- a letter's place among those that have a parameter
 module _ (s : List ℕ) (letter i : ℕ) where
@@ -133,3 +169,12 @@ module _ (c : Content) (last letter place : ℕ) (modes : List ℕ) (count : len
   pub argument-none : last - 3 ≤ place → [] ≡ argumentOf letter (modesIn c) (argumentsIn c)
   unfolding argumentOf
   argument-none h = sym (rw (arguments-are c last count, ← stands-in) (up-past (c .params) last 3 place h))
+
+-- ---- the verdict on a parameter
+-- it has the place where the parameter's span begins
+pub verdict-param : (text : List ℕ) (m : Message) (number k : ℕ) (d : Span) (o : Option (Fault Site)) → length (m .params) ≡ paramLimit → k < length (contentBy text m .params)
+    → some (fault number (Param k)) ≡ o → _≡_ {A = Verdict} (record { number = number; place = getD (m .params) k d .start }) (faultVerdict (length text) m o)
+verdict-param text m number k d o full h e =
+    let n = params-count text m full in
+    ap (λ (s : Span). record { number = number; place = s .start }) (param-span-some text m k d (omega (arith, h, n)) (omega (arith, h, n, full)))
+    ∙ ap (faultVerdict (length text) m) e

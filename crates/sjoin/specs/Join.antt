@@ -1,11 +1,14 @@
--- What an SJOIN line says: `:sid SJOIN time name modes [key] [limit] list`. The numbers 12 to 18 of document 01, and the channel that it tells of.
+-- What an SJOIN line says: `:sid SJOIN time name modes [key] [limit] list`. The numbers 12 to 18 of document 01, with 32 to 36 in the place of 17 (document 02, §6), and the
+-- channel that it tells of.
 use Prim.Native.Nat.{ℕ, _-_}
 use mathlib.Core.Bool.{Bool, not, cond, _&&_}
-use mathlib.Core.List.{List, [], _∷_, _++_}
+use mathlib.Core.List.{List, [], _∷_, _++_, map}
+use mathlib.Core.Option.{Option}
 use lib.ListN.{length, take, drop, getD}
 use lib.Dec.{eqb, leb, ltb}
-use Rattle.refusal.specs.Numbers.{accepted, lineTooLong, wrongParamCount, badSource, badTime, zeroTime, badName, badModes, badMembers}
+use Rattle.refusal.specs.Numbers.{accepted, lineTooLong, wrongParamCount, badSource, badTime, zeroTime, badName, badMembers, modeNumbers, isModeNumber}
 use Rattle.refusal.specs.Rules.{Rule, _when_, firstOf}
+use Rattle.refusal.specs.Faults.{Fault, numberOf}
 use Rattle.laws.specs.Lists.{same}
 use Rattle.octets.specs.Decimals.{zeroDigit, isDecimal, valueOf}
 use Rattle.names.specs.Names.{isChannel, isServerId}
@@ -17,9 +20,10 @@ use Rattle.message.specs.declared.Message.{Message}
 use Rattle.message.specs.Grammar.{lineLimit}
 use Rattle.message.specs.Content.{Content, prefixIs}
 use Rattle.message.specs.Parts.{contentBy}
-use Rattle.message.specs.Reading.{lineRules, contentOf}
+use Rattle.message.specs.Reading.{lineRules, contentOf, messageOf}
 use Rattle.sjoin.specs.declared.Told.{Told}
-use Rattle.sjoin.specs.Modes.{keyLetter, limitLetter, isModes, modesByte, argumentOf}
+use Rattle.sjoin.specs.Modes.{keyLetter, limitLetter, modesByte, argumentOf}
+use Rattle.sjoin.specs.Faults.{Site, modesAt, argumentsAt, modesFault, faultAt}
 use Rattle.sjoin.specs.Entries.{goodEntries, named}
 
 -- ---- the parameters
@@ -30,23 +34,24 @@ abbrev pub nameIn : Content → List ℕ
 nameIn c = getD (c .params) 1 []
 
 abbrev pub modesIn : Content → List ℕ
-modesIn c = getD (c .params) 2 []
+modesIn c = getD (c .params) modesAt []
 
 -- the list is the last parameter
 abbrev pub listIn : Content → List ℕ
 listIn c = getD (c .params) (length (c .params) - 1) []
 
--- and the parameters of k and l stand between
-unfoldable pub argumentsIn : Content → List (List ℕ)
-argumentsIn c = take (length (c .params) - 4) (drop 3 (c .params))
-
--- ---- the rules
 -- the fewest and the most parameters
 abbrev pub fewest : ℕ
 fewest = 4
 
 abbrev pub most : ℕ
 most = 6
+
+-- those of k and l stand between modes and list
+unfoldable pub argumentsIn : Content → List (List ℕ)
+argumentsIn c = take (length (c .params) - fewest) (drop argumentsAt (c .params))
+
+-- ---- the rules
 
 unfoldable pub goodCount : Content → Bool
 goodCount c = leb fewest (length (c .params)) && leb (length (c .params)) most
@@ -74,11 +79,19 @@ headRules c =
     ∷ badName when not (isChannel (nameIn c))
     ∷ []
 
--- of what leads the list, which is time, name and modes with their parameters: 14 to 17
-abbrev pub leadRules : Content → List Rule
-leadRules c = headRules c ++ (badModes when not (isModes (modesIn c) (argumentsIn c)) ∷ [])
+-- the fault of its modes and their parameters, if there is one
+abbrev pub faultIn : Content → Option (Fault Site)
+faultIn c = modesFault (modesIn c) (argumentsIn c)
 
--- of all that is told: 14 to 18
+-- of these: 32 to 36. Of their faults the earliest decides, so that one of the numbers applies at most.
+unfoldable pub modeRules : Content → List Rule
+modeRules c = map (λ n. n when eqb n (numberOf (faultIn c))) modeNumbers
+
+-- of what leads the list, which is time, name and modes with their parameters: 14 to 16 and 32 to 36
+abbrev pub leadRules : Content → List Rule
+leadRules c = headRules c ++ modeRules c
+
+-- of all that is told, 18 behind these
 abbrev pub tellingRules : Content → List Rule
 tellingRules c = leadRules c ++ (badMembers when not (goodEntries (listIn c)) ∷ [])
 
@@ -98,11 +111,21 @@ channelIn c = record {
   members = ordered (named (listIn c));
 }
 
+-- ---- the place that goes with a number
+-- "Give the place in the line": where the fault of the modes is, with one of their numbers; 0 with any other, and with none
+unfoldable pub spanPlace : ℕ → List ℕ → Message → ℕ
+spanPlace number text m = cond (isModeNumber number) (faultAt (length text) m (faultIn (contentBy text m))) 0
+
+-- of a line
+abbrev pub linePlace : ℕ → List ℕ → ℕ
+linePlace number line = spanPlace number line (messageOf line)
+
 -- ---- the answer
--- a number, and the record of the channel, or the empty one
-abbrev pub told : ℕ → Content → Told
-told k c = record {
+-- a number, its place, and the record of the channel, or the empty one
+abbrev pub told : ℕ → ℕ → Content → Told
+told k place c = record {
   number = k;
+  place = place;
   «record» = cond (eqb k accepted) (encode (channelIn c)) emptyRecord;
 }
 
@@ -111,11 +134,11 @@ unfoldable pub spanRules : List ℕ → Message → List Rule
 spanRules text m = lineTooLong when ltb lineLimit (length text) ∷ joinRules (contentBy text m)
 
 unfoldable pub toldIn : List ℕ → Message → Told
-toldIn text m = told (firstOf (spanRules text m)) (contentBy text m)
+toldIn text m = let number : ℕ = firstOf (spanRules text m) in told number (spanPlace number text m) (contentBy text m)
 
 -- Of a line: the reader's own rules come first.
 unfoldable pub lineJoinRules : List ℕ → List Rule
 lineJoinRules line = lineRules line ++ joinRules (contentOf line)
 
 unfoldable pub toldBy : List ℕ → Told
-toldBy line = told (firstOf (lineJoinRules line)) (contentOf line)
+toldBy line = let number : ℕ = firstOf (lineJoinRules line) in told number (linePlace number line) (contentOf line)

@@ -1,8 +1,11 @@
 // The modes of an SJOIN line: their letters, and which of them have a parameter.
 ghost use mathlib.Core.Path.{_≡_};
+ghost use Rattle.refusal.specs.Faults.{firstFault};
 ghost use Rattle.laws.specs.Lists.{startsWith};
-ghost use Rattle.sjoin.specs.Modes.{hasParameter, goodLetters, modesByte, goodArgument};
-ghost use Rattle.sjoin.specs.Private.Scanning.{limitIn};
+ghost use Rattle.sjoin.specs.Modes.{hasParameter, modesByte, goodArgument};
+ghost use Rattle.sjoin.specs.Faults.{ownChecks, argumentNumber};
+ghost use Rattle.sjoin.specs.Private.Scanning.{limitIn, letterVerdict};
+use crate::Verdict;
 use channel::Record;
 use channel::key::is_key;
 use channel::modes::MODES;
@@ -11,6 +14,11 @@ use channel::modes::mode_place;
 use channel::modes::with_mode;
 use octets::Decimal;
 use octets::decimals::decimal;
+use refusal::ACCEPTED;
+use refusal::BAD_KEY;
+use refusal::BAD_LIMIT;
+use refusal::MODE_TWICE;
+use refusal::UNKNOWN_MODE;
 
 // Whether the first byte is the mark.
 pub(crate) fn starts_with(s: &[u8], mark: u8) -> bool
@@ -22,27 +30,39 @@ pub(crate) fn starts_with(s: &[u8], mark: u8) -> bool
     s[0] == mark
 }
 
-// '+', and letters of the eight, each at most once.
-pub(crate) fn good_letters(modes: &[u8]) -> bool
-    ensures { λ r. ⌜ r ≡ goodLetters (now (modes .entry)) ⌝ }
+// The first letter at fault, by its place in the modes: '+' stands first, then letters of the eight, each at most once.
+pub(crate) fn letter_fault(modes: &[u8]) -> Verdict
+    ensures { λ r. ⌜ r ≡ letterVerdict (firstFault (ownChecks (now (modes .entry)))) ⌝ }
 {
     if !starts_with(modes, b'+') {
-        return false;
+        return Verdict {
+            number: UNKNOWN_MODE,
+            place: 0,
+        };
     }
     let mut seen = 0u8;
     let mut i = 1;
     while i < modes.len() {
-        let place = mode_place(modes[i]);
-        if MODES <= place {
-            return false;
+        let mode = mode_place(modes[i]);
+        if MODES <= mode {
+            return Verdict {
+                number: UNKNOWN_MODE,
+                place: i,
+            };
         }
-        if has_mode(seen, place) {
-            return false;
+        if has_mode(seen, mode) {
+            return Verdict {
+                number: MODE_TWICE,
+                place: i,
+            };
         }
-        seen = with_mode(seen, place);
+        seen = with_mode(seen, mode);
         i += 1;
     }
-    true
+    Verdict {
+        number: ACCEPTED,
+        place: 0,
+    }
 }
 
 // The bits of all letters.
@@ -86,4 +106,14 @@ pub(crate) fn good_argument(letter: u8, s: &[u8]) -> bool
         return is_key(s);
     }
     limit_in(s) != 0
+}
+
+// The number of a parameter that is bad for its letter.
+pub(crate) fn argument_number(letter: u8) -> u8
+    ensures { λ r. ⌜ r ≡ argumentNumber letter ⌝ }
+{
+    if letter == b'k' {
+        return BAD_KEY;
+    }
+    BAD_LIMIT
 }

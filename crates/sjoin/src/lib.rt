@@ -1,5 +1,5 @@
-// What an SJOIN line says (document 01, 'SJOIN'): its time, name, modes with key and limit, and members, judged by the numbers 12 to 18 and put into a
-// record of their own.
+// What an SJOIN line says (document 01, 'SJOIN'; document 02, §6): its time, name, modes with key and limit, and members, judged by the numbers 12 to 18, with 32 to 36 in
+// the place of 17, and put into a record of their own.
 mod arguments;
 mod entries;
 mod letters;
@@ -13,16 +13,16 @@ ghost use Rattle.names.specs.Names.{nameLimit};
 ghost use Rattle.channel.specs.Limits.{keyLimit};
 ghost use Rattle.channel.specs.Record.{encode};
 ghost use Rattle.message.specs.Parts.{contentBy};
-ghost use Rattle.sjoin.specs.Join.{timeIn, timeOf, sourceRules, headRules, leadRules, channelIn, toldIn, toldBy};
-ghost use Rattle.sjoin.specs.Private.Scanning.{Parted, Tells, refusedBy};
+ghost use Rattle.sjoin.specs.Join.{timeIn, timeOf, sourceRules, headRules, faultIn, leadRules, channelIn, toldIn, toldBy};
+ghost use Rattle.sjoin.specs.Private.Scanning.{faultVerdict, numberVerdict, Parted, Tells, refusedBy};
 use arguments::MODES_AT;
 use arguments::argument;
-use arguments::good_arguments;
+use arguments::argument_fault;
 use channel::Record;
 use channel::Roster;
 use channel::members::ordered;
 use entries::entries_of;
-use letters::good_letters;
+use letters::letter_fault;
 use letters::limit_in;
 use letters::modes_byte;
 use message::LINE_LIMIT;
@@ -38,7 +38,6 @@ use octets::decimals::decimal;
 use octets::put;
 use refusal::ACCEPTED;
 use refusal::BAD_MEMBERS;
-use refusal::BAD_MODES;
 use refusal::BAD_NAME;
 use refusal::BAD_SOURCE;
 use refusal::BAD_TIME;
@@ -58,10 +57,18 @@ const TIME_AT: usize = 0;
 // The place of the name among the parameters.
 const NAME_AT: usize = 1;
 
-// The number of a refusal, or ACCEPTED, and the record that the line tells of, or the empty one.
+// The number of a refusal, or ACCEPTED; the place in the line of what is wrong with its modes, 0 with any other number; and the record that the line tells of, or the
+// empty one.
 pub struct Told {
     pub number: u8,
+    pub place: usize,
     pub record: Record,
+}
+
+// The number of a refusal, or ACCEPTED, and its place, or 0.
+struct Verdict {
+    number: u8,
+    place: usize,
 }
 
 // Number 12 or 13, whichever applies first, or ACCEPTED.
@@ -96,23 +103,36 @@ pub fn head_number(text: &[u8], m: Message) -> u8
     ACCEPTED
 }
 
-// The first of the numbers 14 to 17 that applies, or ACCEPTED. The list is at `last`.
-fn lead_number(text: &[u8], m: Message, last: usize) -> u8
-    requires { ⌜ Parted (contentBy (now text) m) last ⌝ }
-    ensures { λ r. ⌜ r ≡ firstOf (leadRules (contentBy (now (text .entry)) m)) ⌝ }
+// The first fault of the modes and their parameters, with its place in the text. The list is at `last`.
+fn mode_fault(text: &[u8], m: Message, last: usize) -> Verdict
+    requires { ⌜ Parted (contentBy (now text) m) last × (2 ≤ length (now text)) ⌝ }
+    ensures { λ r. ⌜ r ≡ faultVerdict (length (now (text .entry))) m (faultIn (contentBy (now (text .entry)) m)) ⌝ }
+{
+    let modes = param_in(text, m, MODES_AT);
+    let letters = letter_fault(modes);
+    if letters.number != ACCEPTED {
+        let span = m.params[MODES_AT];
+        return Verdict {
+            number: letters.number,
+            place: span.start + letters.place,
+        };
+    }
+    argument_fault(text, m, modes, last)
+}
+
+// The first of the numbers 14 to 16 and 32 to 36 that applies, or ACCEPTED, with its place in the text. The list is at `last`.
+fn lead_verdict(text: &[u8], m: Message, last: usize) -> Verdict
+    requires { ⌜ Parted (contentBy (now text) m) last × (2 ≤ length (now text)) ⌝ }
+    ensures { λ r. ⌜ r ≡ numberVerdict (firstOf (leadRules (contentBy (now (text .entry)) m))) (now (text .entry)) m ⌝ }
 {
     let head = head_number(text, m);
     if head != ACCEPTED {
-        return head;
+        return Verdict {
+            number: head,
+            place: 0,
+        };
     }
-    let modes = param_in(text, m, MODES_AT);
-    if !good_letters(modes) {
-        return BAD_MODES;
-    }
-    if !good_arguments(text, m, modes, last) {
-        return BAD_MODES;
-    }
-    ACCEPTED
+    mode_fault(text, m, last)
 }
 
 // A name in its room, the rest of it zero.
@@ -174,49 +194,55 @@ fn record_of(text: &[u8], m: Message, last: usize, entries: Roster) -> Record
 }
 
 // Nothing is told.
-fn refused(number: u8) -> Told
-    ensures { λ r. ⌜ r ≡ refusedBy number ⌝ }
+fn refused(number: u8, place: usize) -> Told
+    ensures { λ r. ⌜ r ≡ refusedBy number place ⌝ }
 {
     let record = Record::empty();
-    Told { number, record }
-}
-
-// What a message says whose parts are spans of the text: number 4 of a text that is longer than a line, or the first of the numbers 12 to 18 that applies, or
-// the record of the channel that it tells of.
-pub fn read_message(text: &[u8], m: Message) -> Told
-    ensures { λ r. ⌜ r ≡ toldIn (now (text .entry)) m ⌝ }
-{
-    if LINE_LIMIT < text.len() {
-        return refused(LINE_TOO_LONG);
-    }
-    let source = source_number(text, m);
-    if source != ACCEPTED {
-        return refused(source);
-    }
-    let last = m.count - 1;
-    let lead = lead_number(text, m, last);
-    if lead != ACCEPTED {
-        return refused(lead);
-    }
-    let list = entries_of(param_in(text, m, last));
-    if !list.good {
-        return refused(BAD_MEMBERS);
-    }
-    let record = record_of(text, m, last, list.members);
     Told {
-        number: ACCEPTED,
+        number,
+        place,
         record,
     }
 }
 
-// What the line says: the reader's own number, or the first of the numbers 12 to 18 that applies, or the record of the channel that it tells of.
+// What a message says whose parts are spans of the text: number 4 of a text that is longer than a line, or the first of the numbers 12 to 16, 32 to 36 and 18 that
+// applies, with its place in the text, or the record of the channel that it tells of.
+pub fn read_message(text: &[u8], m: Message) -> Told
+    ensures { λ r. ⌜ r ≡ toldIn (now (text .entry)) m ⌝ }
+{
+    if LINE_LIMIT < text.len() {
+        return refused(LINE_TOO_LONG, 0);
+    }
+    let source = source_number(text, m);
+    if source != ACCEPTED {
+        return refused(source, 0);
+    }
+    let last = m.count - 1;
+    let lead = lead_verdict(text, m, last);
+    if lead.number != ACCEPTED {
+        return refused(lead.number, lead.place);
+    }
+    let list = entries_of(param_in(text, m, last));
+    if !list.good {
+        return refused(BAD_MEMBERS, 0);
+    }
+    let record = record_of(text, m, last, list.members);
+    Told {
+        number: ACCEPTED,
+        place: 0,
+        record,
+    }
+}
+
+// What the line says: the reader's own number, or the first of the numbers 12 to 16, 32 to 36 and 18 that applies, with its place in the line, or the record of the
+// channel that it tells of.
 pub fn read_join(line: &[u8]) -> Told
     ensures { λ r. ⌜ r ≡ toldBy (now (line .entry)) ⌝ }
 {
     let parsed = parse(line);
     let reading = parsed.reading;
     let Reading::Line(_) = reading else {
-        return refused(reading.number());
+        return refused(reading.number(), 0);
     };
     read_message(line, parsed.message)
 }

@@ -111,6 +111,7 @@ fn show_sent(out: &[u8], len: usize) {
 
 fn show_taken(answer: Taken, out: &[u8], bans: &[u8; BanList::BANS]) -> Head {
     print_outcome(answer.number);
+    print_number(b"at ", answer.place);
     show_links(b"to", answer.set);
     print_number(b"count ", answer.count as usize);
     show_sent(out, answer.len);

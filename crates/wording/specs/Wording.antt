@@ -24,7 +24,11 @@ use Rattle.refusal.specs.Numbers.{
   badTime,
   zeroTime,
   badName,
-  badModes,
+  unknownMode,
+  modeTwice,
+  wrongModeParams,
+  badKey,
+  badLimit,
   badMembers,
   badMasks,
   noSuchChannel,
@@ -74,7 +78,11 @@ table =
     ∷ badTime says "time malformed or too large"
     ∷ zeroTime says "time is 0"
     ∷ badName says "bad channel name, or names differ"
-    ∷ badModes says "bad modes, key, limit, or their number"
+    ∷ unknownMode says "mode letter unknown, or '+' missing"
+    ∷ modeTwice says "mode letter twice"
+    ∷ wrongModeParams says "mode parameter missing, or too many"
+    ∷ badKey says "bad key: 1 to 23 bytes of 33 to 126, no comma"
+    ∷ badLimit says "bad limit: not 1 to 65535"
     ∷ badMembers says "bad member list"
     ∷ badMasks says "bad type or mask list"
     ∷ noSuchChannel says "channel not in the table"

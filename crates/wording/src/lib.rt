@@ -6,12 +6,13 @@ ghost use lib.ListN.{length};
 ghost use Rattle.wording.specs.Wording.{textLimit, holding, textOf};
 use octets::put;
 use refusal::BAD_COMMAND;
+use refusal::BAD_KEY;
+use refusal::BAD_LIMIT;
 use refusal::BAD_LINK;
 use refusal::BAD_LOG_LENGTH;
 use refusal::BAD_LOG_LINK;
 use refusal::BAD_MASKS;
 use refusal::BAD_MEMBERS;
-use refusal::BAD_MODES;
 use refusal::BAD_NAME;
 use refusal::BAD_SOURCE;
 use refusal::BAD_TIME;
@@ -20,6 +21,7 @@ use refusal::EMPTY_PREFIX;
 use refusal::FORBIDDEN_BYTE;
 use refusal::LINE_TOO_LONG;
 use refusal::LOG_CUT;
+use refusal::MODE_TWICE;
 use refusal::NO_FREE_SLOT;
 use refusal::NO_LINE_END;
 use refusal::NO_MARK;
@@ -33,7 +35,9 @@ use refusal::TOO_MANY_MASKS;
 use refusal::TOO_MANY_MEMBERS;
 use refusal::TOO_MANY_PARAMS;
 use refusal::UNKNOWN_COMMAND;
+use refusal::UNKNOWN_MODE;
 use refusal::UNWRITABLE;
+use refusal::WRONG_MODE_PARAMS;
 use refusal::WRONG_PARAM_COUNT;
 use refusal::ZERO_TIME;
 
@@ -80,7 +84,11 @@ pub fn words(number: u8) -> Text
         BAD_TIME => held(b"time malformed or too large"),
         ZERO_TIME => held(b"time is 0"),
         BAD_NAME => held(b"bad channel name, or names differ"),
-        BAD_MODES => held(b"bad modes, key, limit, or their number"),
+        UNKNOWN_MODE => held(b"mode letter unknown, or '+' missing"),
+        MODE_TWICE => held(b"mode letter twice"),
+        WRONG_MODE_PARAMS => held(b"mode parameter missing, or too many"),
+        BAD_KEY => held(b"bad key: 1 to 23 bytes of 33 to 126, no comma"),
+        BAD_LIMIT => held(b"bad limit: not 1 to 65535"),
         BAD_MEMBERS => held(b"bad member list"),
         BAD_MASKS => held(b"bad type or mask list"),
         NO_SUCH_CHANNEL => held(b"channel not in the table"),

@@ -2,7 +2,7 @@
 
 use crate::line::LINE;
 use crate::table::LINKS;
-use crate::Refusal;
+use crate::{Fault, Refusal};
 
 /// What stands before the line: the mark, the link and the length.
 pub const HEAD: usize = 5;
@@ -36,15 +36,6 @@ pub struct LogRecord<'a> {
     pub link: u32,
     /// The line as received.
     pub line: &'a [u8],
-}
-
-/// A refusal, and the place in the log that it has.
-#[derive(Clone, Copy, Debug, PartialEq, Eq)]
-pub struct Fault {
-    /// The refusal.
-    pub refusal: Refusal,
-    /// Its place, from 0.
-    pub place: usize,
 }
 
 /// Reads the record at a place of a log; there is none at the log's end and beyond.

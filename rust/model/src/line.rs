@@ -145,6 +145,11 @@ pub struct Parts {
     pub params: [Span; PARAMS],
 }
 
+/// The place where a part of some bytes begins in them.
+pub fn place_in(bytes: &[u8], part: &[u8]) -> usize {
+    part.as_ptr() as usize - bytes.as_ptr() as usize
+}
+
 /// The parts of a line by their places. One that is missing, and each of a line that isn't read, is
 /// the empty one at the end of the lent bytes.
 pub fn parts(line: &[u8]) -> Parts {
@@ -152,7 +157,7 @@ pub fn parts(line: &[u8]) -> Parts {
     let mut parts = Parts { prefix: end, command: end, params: [end; PARAMS], ..Parts::default() };
     if let Ok(message) = read(line) {
         let place = |part: &[u8]| {
-            let start = part.as_ptr() as usize - line.as_ptr() as usize;
+            let start = place_in(line, part);
             Span { start, end: start + part.len() }
         };
         parts.has_prefix = message.prefix.is_some();

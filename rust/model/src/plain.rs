@@ -50,7 +50,7 @@ mod tests {
     fn three_lines() {
         let said = |text: &str| {
             let line = format!(":1AB SJOIN {text}\r\n");
-            read_join(&line::read(line.as_bytes()).unwrap()).unwrap()
+            read_join(line.as_bytes(), &line::read(line.as_bytes()).unwrap()).unwrap()
         };
         let lines = [
             said("1000 #Race +ik zzz :@1ABAAAAAC 1ABAAAAAB"),

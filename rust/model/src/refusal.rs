@@ -36,8 +36,6 @@ pub enum Refusal {
     ZeroTime = 15,
     /// bad channel name; two records' names differ
     BadName = 16,
-    /// bad modes, key, limit, or their number
-    BadModes = 17,
     /// bad member list
     BadList = 18,
     /// channel not in the table (PART, BMASK, a text that may be banned)
@@ -67,6 +65,16 @@ pub enum Refusal {
     BadLogLength = 30,
     /// the log ends inside a record, and no byte present is at fault
     LogCut = 31,
+    /// unknown mode letter, or no '+' first (SJOIN); with 33 to 36 after 16, before 18
+    UnknownMode = 32,
+    /// mode letter twice (SJOIN)
+    ModeTwice = 33,
+    /// mode parameter missing or too many (SJOIN)
+    ModeParams = 34,
+    /// bad key (SJOIN)
+    BadKey = 35,
+    /// bad limit (SJOIN)
+    BadLimit = 36,
 }
 
 impl Refusal {
@@ -76,10 +84,34 @@ impl Refusal {
     }
 }
 
+/// A refusal, and the place of what is at fault.
+#[derive(Clone, Copy, Debug, PartialEq, Eq)]
+pub struct Fault {
+    /// The refusal.
+    pub refusal: Refusal,
+    /// Its place, from 0: in the log for one of a day log, in the line for 32 to 36; else 0.
+    pub place: usize,
+}
+
+impl From<Refusal> for Fault {
+    /// A refusal that has no place.
+    fn from(refusal: Refusal) -> Fault {
+        Fault { refusal, place: 0 }
+    }
+}
+
 /// The number of an answer: 0 where it was not refused.
-pub fn number_of<T>(answer: &Result<T, Refusal>) -> u8 {
+pub fn number_of<T, E: Copy + Into<Fault>>(answer: &Result<T, E>) -> u8 {
+    number_and_place(answer).0
+}
+
+/// The number of an answer and its place: 0 and 0 where it was not refused.
+pub fn number_and_place<T, E: Copy + Into<Fault>>(answer: &Result<T, E>) -> (u8, usize) {
     match answer {
-        Ok(_) => 0,
-        Err(refusal) => refusal.number(),
+        Ok(_) => (0, 0),
+        Err(error) => {
+            let Fault { refusal, place } = (*error).into();
+            (refusal.number(), place)
+        }
     }
 }

@@ -6,7 +6,7 @@ use crate::channel::{merge_well_formed, K, L, LETTERS, OPERATOR, VOICE};
 use crate::line::{self, Message};
 use crate::names;
 use crate::sjoin;
-use crate::{BanList, Record, Refusal, Table};
+use crate::{BanList, Fault, Record, Refusal, Table};
 
 /// The answer to an accepted line; all zero where it goes nowhere.
 #[derive(Clone, Copy, Debug, Default, PartialEq, Eq)]
@@ -20,24 +20,24 @@ pub struct Relayed {
 }
 
 /// Takes a line from a link: folds it into the table and puts the line to relay at the front of
-/// the lent output. A refusal leaves both as they are.
-pub fn take(table: &mut Table, link: u32, line: &[u8], out: &mut [u8]) -> Result<Relayed, Refusal> {
+/// the lent output. A refusal leaves both as they are, and 32 to 36 have their place in the line.
+pub fn take(table: &mut Table, link: u32, line: &[u8], out: &mut [u8]) -> Result<Relayed, Fault> {
     if !table.is_well_formed() {
-        return Err(Refusal::IllFormed);
+        return Err(Refusal::IllFormed.into());
     }
     if out.len() < line::LINE {
-        return Err(Refusal::ShortOutput);
+        return Err(Refusal::ShortOutput.into());
     }
     if !table.has_link(link) {
-        return Err(Refusal::BadLink);
+        return Err(Refusal::BadLink.into());
     }
     let message = line::read(line)?;
     let relayed = match message.command.to_ascii_uppercase().as_slice() {
-        b"SJOIN" => Some(take_sjoin(table, &message)?),
+        b"SJOIN" => Some(take_sjoin(table, line, &message)?),
         b"PART" => Some(take_part(table, &message)?),
         b"QUIT" => Some(take_quit(table, &message)?),
         b"BMASK" => take_bmask(table, &message)?,
-        _ => return Err(Refusal::UnknownCommand),
+        _ => return Err(Refusal::UnknownCommand.into()),
     };
     let Some(relayed) = relayed else {
         return Ok(Relayed::default());
@@ -49,8 +49,8 @@ pub fn take(table: &mut Table, link: u32, line: &[u8], out: &mut [u8]) -> Result
 
 /// Folds a join into the slot of its name, or the lowest free one, and answers the line to relay. An
 /// earlier time empties the list.
-fn take_sjoin(table: &mut Table, message: &Message) -> Result<Vec<u8>, Refusal> {
-    let incoming = sjoin::read_join(message)?;
+fn take_sjoin(table: &mut Table, line: &[u8], message: &Message) -> Result<Vec<u8>, Fault> {
+    let incoming = sjoin::read_join(line, message)?;
     let (slot, result) = match table.slot_of(incoming.name()) {
         Some(slot) => (slot, merge_well_formed(&table.slots[slot], &incoming)?),
         None => (table.free_slot().ok_or(Refusal::NoSlot)?, incoming),
@@ -189,10 +189,10 @@ mod tests {
                 assert!(len <= line.len() && out[len..].iter().all(|&b| b == 7));
                 Ok(String::from_utf8(out[..len - 2].to_vec()).unwrap())
             }
-            Err(refusal) => {
+            Err(fault) => {
                 assert_eq!(*table, before);
                 assert_eq!(out, [7; 600]);
-                Err(refusal.number())
+                Err(fault.refusal.number())
             }
         }
     }

@@ -1,10 +1,10 @@
 //! A day log replayed, and what a program prints of it (document 02, §5).
 
 use crate::channel::{K, L};
-use crate::journal::{read_record, Fault, HEAD};
+use crate::journal::{read_record, HEAD};
 use crate::line::LINE;
 use crate::relay::{list_text, modes_text, take};
-use crate::{Record, Table};
+use crate::{Fault, Record, Table};
 
 /// What a replay begins with: an empty table with all 32 links registered.
 pub const START: Table = Table { links: u32::MAX, ..Table::EMPTY };
@@ -20,8 +20,8 @@ pub fn replay(log: &[u8]) -> (Table, Option<Fault>) {
             Ok(record) => record,
             Err(fault) => return (table, Some(fault)),
         };
-        if let Err(refusal) = take(&mut table, record.link, record.line, &mut [0; LINE]) {
-            return (table, Some(Fault { refusal, place: record.place }));
+        if let Err(fault) = take(&mut table, record.link, record.line, &mut [0; LINE]) {
+            return (table, Some(Fault { place: record.place, ..fault }));
         }
         at += HEAD + record.line.len();
     }
@@ -104,6 +104,10 @@ mod tests {
         assert_eq!(fault, Some(Fault { refusal: Refusal::NoChannel, place: first.len() }));
         assert_eq!((table, None), replay(&first));
         assert_eq!(told(&first), "5 #a + @1ABAAAAAA\nA x\n");
+        // Also where the relay gives a place in the line.
+        let twice = log_of(7, &[":1AB SJOIN 5 #a +nn 1ABAAAAAB"]);
+        let fault = Fault { refusal: Refusal::ModeTwice, place: first.len() };
+        assert_eq!(replay(&[first, twice].concat()), (table, Some(fault)));
     }
 
     #[test]

@@ -1,20 +1,21 @@
 //! What an SJOIN line says: `:sid SJOIN time name modes [key] [limit] list`.
 
-use crate::channel::{self, Member, K, L, LETTERS, OPERATOR, VOICE};
+use crate::channel::{self, Member, OPERATOR, VOICE};
 use crate::line::Message;
+use crate::modes;
 use crate::names;
-use crate::{Record, Refusal};
+use crate::{Fault, Record, Refusal};
 
-/// Reads the message of an SJOIN as a record of its own.
-pub fn read_join(message: &Message) -> Result<Record, Refusal> {
+/// Reads the message of an SJOIN, which stands in that line, as a record of its own.
+pub fn read_join(line: &[u8], message: &Message) -> Result<Record, Fault> {
     if !(4..=6).contains(&message.params.len()) {
-        return Err(Refusal::ParamCount);
+        return Err(Refusal::ParamCount.into());
     }
     let (time, name) = read_head(message)?;
-    let [_, _, ref modes @ .., list] = message.params[..] else { unreachable!() };
+    let [_, _, letters, ref words @ .., list] = message.params[..] else { unreachable!() };
     let mut record = Record { time, ..Record::EMPTY };
     record.set_name(name);
-    read_modes(&mut record, modes).ok_or(Refusal::BadModes)?;
+    modes::read_modes(&mut record, line, letters, words)?;
     let members = read_list(list).ok_or(Refusal::BadList)?;
     record.set_members(&members);
     Ok(record)
@@ -38,7 +39,7 @@ pub fn read_head<'a>(message: &Message<'a>) -> Result<(u32, &'a [u8]), Refusal> 
 }
 
 /// A number in decimal without leading zeros, at most `most`.
-fn decimal(text: &[u8], most: u32) -> Option<u32> {
+pub fn decimal(text: &[u8], most: u32) -> Option<u32> {
     if text.is_empty() || (text[0] == b'0' && text.len() > 1) {
         return None;
     }
@@ -53,29 +54,6 @@ fn decimal(text: &[u8], most: u32) -> Option<u32> {
         }
     }
     u32::try_from(number).ok()
-}
-
-/// '+' and letters of the eight, each at most once, then the parameters of k and l in the order
-/// of the letters, and no more of them.
-fn read_modes(record: &mut Record, words: &[&[u8]]) -> Option<()> {
-    let (letters, mut words) = words.split_first()?;
-    for letter in letters.strip_prefix(b"+")? {
-        let bit = 1 << LETTERS.iter().position(|l| l == letter)?;
-        if record.modes & bit != 0 {
-            return None;
-        }
-        record.modes |= bit;
-        if bit == K || bit == L {
-            let word;
-            (word, words) = words.split_first()?;
-            if bit == K {
-                record.set_key(channel::is_key(word).then_some(word)?);
-            } else {
-                record.limit = decimal(word, 65_535).filter(|&n| n != 0)? as u16;
-            }
-        }
-    }
-    words.is_empty().then_some(())
 }
 
 /// Entries parted by one or more SPACEs, at least one, SPACEs at either end passed over. The
@@ -105,12 +83,22 @@ fn split_status(entry: &[u8]) -> (u8, &[u8]) {
 #[cfg(test)]
 mod tests {
     use super::*;
+    use crate::channel::{K, L};
     use crate::line;
+    use crate::refusal::number_and_place;
 
     /// Reads the parameters after `:1AB SJOIN`.
-    fn join(params: &str) -> Result<Record, u8> {
+    fn join(params: &str) -> Result<Record, Fault> {
         let line = format!(":1AB SJOIN {params}\r\n");
-        read_join(&line::read(line.as_bytes()).unwrap()).map_err(Refusal::number)
+        read_join(line.as_bytes(), &line::read(line.as_bytes()).unwrap())
+    }
+
+    /// The number of parameters, in which a '|' marks the place of the fault; without one it is 0.
+    fn refused(params: &str) -> u8 {
+        let expected = params.find('|').map_or(0, |place| ":1AB SJOIN ".len() + place);
+        let (number, place) = number_and_place(&join(&params.replace('|', "")));
+        assert_eq!(place, expected, "{params}");
+        number
     }
 
     #[test]
@@ -127,7 +115,8 @@ mod tests {
         let record = join("1 #a +lk 5 key 1ABAAAAAA").unwrap();
         assert_eq!((record.limit, record.key(), record.modes), (5, b"key".as_slice(), K | L));
         assert_eq!(join("1 #a +kl key 5 1ABAAAAAA"), Ok(record));
-        assert_eq!(join("1 #a +kl 5 key 1ABAAAAAA"), Err(17));
+        assert_eq!(refused("1 #a +kl 5 |key 1ABAAAAAA"), 36);
+        assert_eq!(refused("1 #a +lk |key 5 1ABAAAAAA"), 36);
     }
 
     #[test]
@@ -143,16 +132,16 @@ mod tests {
             ("0 a + x", 15),
             ("1 a + x", 16),
             ("1 &a nt x", 16),
-            ("1 #a nt x", 17),
-            ("1 #a -n x", 17),
-            ("1 #a +N x", 17),
-            ("1 #a +nn x", 17),
-            ("1 #a +k key", 17),
-            ("1 #a + 1ABAAAAAA 1ABAAAAAB", 17),
-            ("1 #a +l 0 x", 17),
-            ("1 #a +l 05 x", 17),
-            ("1 #a +l 65536 x", 17),
-            ("1 #a +k a,b x", 17),
+            ("1 #a |nt x", 32),
+            ("1 #a |-n x", 32),
+            ("1 #a +|N x", 32),
+            ("1 #a +n|n x", 33),
+            ("1 #a +k key|", 34),
+            ("1 #a + |1ABAAAAAA 1ABAAAAAB", 34),
+            ("1 #a +l |0 x", 36),
+            ("1 #a +l |05 x", 36),
+            ("1 #a +l |65536 x", 36),
+            ("1 #a +k |a,b x", 35),
             ("1 #a + x", 18),
             ("1 #a + :", 18),
             ("1 #a + :  ", 18),
@@ -160,7 +149,7 @@ mod tests {
             ("1 #a + ::1ABAAAAAA", 18),
             ("1 #a + 1ABAAAAAA1ABAAAAAB", 18),
         ] {
-            assert_eq!(join(params), Err(number), "{params}");
+            assert_eq!(refused(params), number, "{params}");
         }
     }
 
@@ -169,7 +158,7 @@ mod tests {
         assert_eq!(join("4294967295 #a +l 65535 :  1ABAAAAAA ").unwrap().limit, 65_535);
         let name = format!("#{}", "n".repeat(49));
         assert_eq!(join(&format!("1 {name} + 1ABAAAAAA")).unwrap().name(), name.as_bytes());
-        assert_eq!(join(&format!("1 {name}n + 1ABAAAAAA")), Err(16));
+        assert_eq!(refused(&format!("1 {name}n + 1ABAAAAAA")), 16);
     }
 
     #[test]
@@ -177,7 +166,7 @@ mod tests {
         for line in ["SJOIN 1 #a + 1ABAAAAAA", ":1ABAAAAAA SJOIN 0 #a + 1ABAAAAAA"] {
             let line = format!("{line}\r\n");
             let message = line::read(line.as_bytes()).unwrap();
-            assert_eq!(read_join(&message), Err(Refusal::BadSource));
+            assert_eq!(read_join(line.as_bytes(), &message), Err(Refusal::BadSource.into()));
         }
     }
 }

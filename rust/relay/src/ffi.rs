@@ -84,9 +84,10 @@ macro_rules! log_functions {
     };
 }
 
-/// Declares the functions that take ban lists. The lists are lent as a plain pointer.
+/// Declares the functions that take ban lists. The lists are lent as a plain pointer. A library may
+/// have another answer to a line.
 macro_rules! list_functions {
-    ($prefix:expr) => {
+    ($prefix:expr, $taken:ty) => {
         extern "C" {
             #[link_name = concat!($prefix, "relay_merge")]
             fn relay_merge(first: WholeRecord, second: WholeRecord) -> Merged;
@@ -105,7 +106,7 @@ macro_rules! list_functions {
                 line: Bytes,
                 out: Room,
                 link: u32,
-            ) -> Taken;
+            ) -> $taken;
         }
     };
 }
@@ -120,7 +121,7 @@ macro_rules! listless_functions {
             #[link_name = concat!($prefix, "relay_register")]
             fn relay_register(head: Head, link: u32) -> Registered;
             #[link_name = concat!($prefix, "relay_process")]
-            fn relay_process(head: Head, link: u32, line: Bytes, out: Room) -> Taken;
+            fn relay_process(head: Head, link: u32, line: Bytes, out: Room) -> PlacelessTaken;
         }
     };
 }

@@ -32,9 +32,10 @@ mod current {
     functions!("");
     feeder_functions!("");
     log_functions!("");
-    list_functions!("");
+    list_functions!("", Taken);
     include!("calls.rs");
     include!("list_calls.rs");
+    include!("taking.rs");
 }
 
 pub use current::{
@@ -47,6 +48,10 @@ pub use current::{
 /// RELAY_EARLIER_LIB names when this is built. Without it, and where it lacks the feeder, the question
 /// of bans or the reader of day logs, they are those of the library itself.
 pub mod earlier {
+    // Without an earlier library, the functions are declared here as they are above, but for the answer
+    // to a line, which is of either kind.
+    #![allow(clashing_extern_declarations)]
+
     /// Whether there is an earlier library.
     pub const IS_GIVEN: bool = !env!("RELAY_EARLIER_PREFIX").is_empty();
 
@@ -65,9 +70,11 @@ pub mod earlier {
     include!("calls.rs");
 
     #[cfg(not(earlier_without_lists))]
-    list_functions!(env!("RELAY_EARLIER_PREFIX"));
+    list_functions!(env!("RELAY_EARLIER_PREFIX"), AnyTaken);
     #[cfg(not(earlier_without_lists))]
     include!("list_calls.rs");
+    #[cfg(not(earlier_without_lists))]
+    include!("earlier_taking.rs");
 
     #[cfg(earlier_without_lists)]
     listless_functions!(env!("RELAY_EARLIER_PREFIX"));

@@ -1,7 +1,7 @@
 // The functions that take ban lists, called safely: included once for each library that has them,
 // after `list_functions!` and calls.rs.
 
-use crate::types::{Answer, Banned, Bans, Merged, Registered, Table, Taken, WholeRecord};
+use crate::types::{Banned, Bans, Merged, Registered, WholeRecord};
 
 /// Two records of one channel merged.
 pub fn merge(first: &WholeRecord, second: &WholeRecord) -> Merged {
@@ -31,20 +31,4 @@ pub fn unregister(head: &Head, bans: &Bans, link: u32) -> Registered {
 pub fn is_banned(head: &Head, bans: &Bans, name: &[u8], text: &[u8]) -> Banned {
     // SAFETY: lists, name and text are lent for the call.
     unsafe { relay_is_banned(*head, bans, Bytes::of(name), Bytes::of(text)) }
-}
-
-/// Takes a line that came in by a link: the head after comes back, the lists are changed where they
-/// are.
-pub fn process(head: &Head, bans: &mut Bans, link: u32, line: &[u8], out: &mut [u8]) -> Taken {
-    // SAFETY: lists, line and output are lent for the call; the borrows say that they don't overlap.
-    unsafe { relay_process(*head, bans, Bytes::of(line), Room::of(out), link) }
-}
-
-/// Takes a line that came in by a link, and keeps the table after it.
-pub fn take(table: &mut Table, link: u32, line: &[u8], out: &mut [u8]) -> Answer {
-    let taken = process(&table.head, &mut table.bans, link, line, out);
-    if taken.number == crate::ACCEPTED {
-        table.head = taken.head;
-    }
-    Answer { number: taken.number, set: taken.set, count: taken.count, len: taken.len }
 }

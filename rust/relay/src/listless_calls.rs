@@ -1,7 +1,7 @@
 // What the benchmark asks of a library that has no ban lists, called as if it had them: it is asked
 // only where they are empty. Included after `listless_functions!` and calls.rs.
 
-use crate::types::{Answer, Bans, MergedRecord, Registered, Table, Taken, WholeRecord};
+use crate::types::{Answer, Bans, MergedRecord, PlacelessTaken, Registered, Table, WholeRecord};
 
 pub use crate::current::is_banned;
 
@@ -20,10 +20,10 @@ pub fn register(head: &Head, _: &Bans, link: u32) -> Registered {
 /// Takes a line that came in by a link, and keeps the head after it.
 pub fn take(table: &mut Table, link: u32, line: &[u8], out: &mut [u8]) -> Answer {
     // SAFETY: line and output are lent for the call; the borrows say that they don't overlap.
-    let taken: Taken =
+    let taken: PlacelessTaken =
         unsafe { relay_process(table.head, link, Bytes::of(line), Room::of(out)) };
     if taken.number == crate::ACCEPTED {
         table.head = taken.head;
     }
-    Answer { number: taken.number, set: taken.set, count: taken.count, len: taken.len }
+    taken.answer()
 }

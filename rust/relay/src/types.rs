@@ -220,6 +220,24 @@ pub struct Taken {
     pub head: Head,
     /// The length of the line at the front of the output.
     pub len: usize,
+    /// The place in the line where what is at fault begins, with the numbers 32 to 36; else 0.
+    pub place: usize,
+    /// The links that the line goes to.
+    pub set: u32,
+    /// The number of those links.
+    pub count: u32,
+    /// The number of a refusal, or 0.
+    pub number: u8,
+}
+
+/// The same from a library that tells no places.
+#[repr(C)]
+#[derive(Clone, Copy, Debug, PartialEq, Eq)]
+pub struct PlacelessTaken {
+    /// The head after, or as given.
+    pub head: Head,
+    /// The length of the line at the front of the output.
+    pub len: usize,
     /// The links that the line goes to.
     pub set: u32,
     /// The number of those links.
@@ -243,6 +261,8 @@ pub struct Banned {
 pub struct Answer {
     /// The number of a refusal, or 0.
     pub number: u8,
+    /// The place in the line where what is at fault begins, with the numbers 32 to 36; else 0.
+    pub place: usize,
     /// The links that the line goes to.
     pub set: u32,
     /// The number of those links.
@@ -327,6 +347,22 @@ pub struct Text {
     pub bytes: [u8; 48],
     /// The length of the words.
     pub len: usize,
+}
+
+impl Taken {
+    /// All but the head.
+    pub fn answer(&self) -> Answer {
+        let Taken { len, place, set, count, number, .. } = *self;
+        Answer { number, place, set, count, len }
+    }
+}
+
+impl PlacelessTaken {
+    /// All but the head, and no place.
+    pub fn answer(&self) -> Answer {
+        let PlacelessTaken { len, set, count, number, .. } = *self;
+        Answer { number, place: 0, set, count, len }
+    }
 }
 
 impl Fed {

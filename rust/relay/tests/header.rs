@@ -119,7 +119,7 @@ fn differing(header: &str, expected: &Constants) -> Vec<String> {
 fn constants_are_the_sources() {
     let expected = expected();
     assert_eq!(differing(&text("include/relay.h"), &expected), [""; 0]);
-    assert_eq!(expected.len(), 58, "0 and 31 numbers, sixteen limits, eight modes, two statuses");
+    assert_eq!(expected.len(), 63, "0 and 36 numbers, sixteen limits, eight modes, two statuses");
 }
 
 /// Wrong headers are noticed: each number made greater by one, each constant renamed, and one more.
@@ -136,8 +136,8 @@ fn other_constants_are_noticed() {
         let renamed = format!("RELAY_X_{name} = {number}");
         assert_eq!(changed(&old, &renamed).len(), 2, "{name}");
     }
-    let more = "RELAY_LOG_CUT = 31,\n    RELAY_MORE = 32 ";
-    assert_eq!(changed("RELAY_LOG_CUT = 31 ", more), ["MORE"]);
+    let more = "RELAY_BAD_LIMIT = 36,\n    RELAY_MORE = 37 ";
+    assert_eq!(changed("RELAY_BAD_LIMIT = 36 ", more), ["MORE"]);
 }
 
 /// The sizes and numbers of this crate's own are those of the header.
@@ -168,7 +168,8 @@ fn version_is_the_files() {
     assert_eq!(env!("CARGO_PKG_VERSION"), version.trim_end());
 }
 
-/// The words of each number are those of the table in the source, and there are no others.
+/// The words of each number are those of the table in the source, and there are no others. 0 is no
+/// refusal, and 17 is given no longer: they have none.
 #[test]
 fn words_are_the_sources() {
     let source = text("crates/wording/src/lib.rt");
@@ -178,10 +179,11 @@ fn words_are_the_sources() {
     };
     let arms: BTreeMap<String, String> = source.lines().filter_map(arm).collect();
     let numbers = of_source(&text("crates/refusal/src/lib.rt"));
-    assert_eq!(arms.len(), numbers.len(), "a text for each number, and none for any other");
+    assert_eq!(arms.len(), numbers.len() - 1, "a text for each number but 17, and the empty one");
+    assert_eq!(arms["_"], "");
     for number in 0..=u8::MAX {
         let name = numbers.iter().find(|(_, &value)| value == u64::from(number));
-        let name = name.map_or("_", |(name, _)| if number == 0 { "_" } else { name });
+        let name = name.map_or("_", |(name, _)| if [0, 17].contains(&number) { "_" } else { name });
         assert_eq!(relay::refusal_text(number).as_bytes(), arms[name].as_bytes(), "{number}");
     }
 }

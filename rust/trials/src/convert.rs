@@ -1,10 +1,10 @@
 //! The same value in the core's types and in the model's.
 
 use model::feeder;
-use model::journal::{Fault, LogRecord, HEAD};
+use model::journal::{LogRecord, HEAD};
 use model::line;
 use model::refusal::number_of;
-use model::Refusal;
+use model::{Fault, Refusal};
 
 /// A record of the model in the core's type.
 pub fn core_record(r: &model::Record) -> relay::Record {

@@ -3,7 +3,7 @@
 use model::line;
 use model::names;
 use model::plain::plain_record;
-use model::refusal::number_of;
+use model::refusal::number_and_place;
 use model::sjoin::read_join;
 use model::{BanList, Record, Table, WholeRecord};
 
@@ -95,7 +95,7 @@ fn refused_joins(rng: &mut Rng, premises: &Premises, start: &Table) -> Vec<Join>
                 join.room = output_length(rng);
             }
         }
-        if number_at(&join, start) != relay::ACCEPTED && reads_as_join(&join.line) {
+        if !is_good(&join, start) && reads_as_join(&join.line) {
             joins.push(join);
         }
     }
@@ -109,7 +109,7 @@ fn reads_as_join(line: &[u8]) -> bool {
 
 /// The same good lines in any order, some of them more than once, and other refused ones.
 fn in_another_order(rng: &mut Rng, premises: &Premises, list: &[Join], start: &Table) -> Vec<Join> {
-    let good = list.iter().filter(|join| number_at(join, start) == relay::ACCEPTED);
+    let good = list.iter().filter(|join| is_good(join, start));
     let mut again: Vec<Join> = good.cloned().collect();
     for _ in 0..again.len() {
         if rng.one_in(3) {
@@ -121,18 +121,23 @@ fn in_another_order(rng: &mut Rng, premises: &Premises, list: &[Join], start: &T
     again
 }
 
-/// The number that the rules give a join at the start: the model's, so that a core that refuses
-/// what is good is found out.
-fn number_at(join: &Join, start: &Table) -> u8 {
+/// The number that the rules give a join at the start, and its place: the model's, so that a core that
+/// refuses what is good is found out.
+fn number_at(join: &Join, start: &Table) -> (u8, usize) {
     let mut out = vec![0; join.room];
     let mut table = *start;
-    number_of(&model::relay::take(&mut table, join.link, &join.line, &mut out))
+    number_and_place(&model::relay::take(&mut table, join.link, &join.line, &mut out))
+}
+
+/// Whether the rules give a join no number at the start.
+fn is_good(join: &Join, start: &Table) -> bool {
+    number_at(join, start).0 == relay::ACCEPTED
 }
 
 /// What the lines of the good joins say, in their order.
 fn good_lines(list: &[Join], start: &Table) -> Vec<Record> {
-    let good = list.iter().filter(|join| number_at(join, start) == relay::ACCEPTED);
-    good.map(|join| read_join(&line::read(&join.line).unwrap()).unwrap()).collect()
+    let good = list.iter().filter(|join| is_good(join, start));
+    good.map(|join| read_join(&join.line, &line::read(&join.line).unwrap()).unwrap()).collect()
 }
 
 /// Takes the list with the core, from the start, and holds each answer and the table after it to
@@ -142,7 +147,8 @@ fn fold(list: &[Join], start: &Table, tally: &mut Tally) -> relay::Table {
     for join in list {
         let mut out = vec![0; join.room];
         let taken = relay::process(&table.head, &mut table.bans, join.link, &join.line, &mut out);
-        assert_eq!(taken.number, number_at(join, start), "{join:?} of {list:?}");
+        let given = (taken.number, taken.place);
+        assert_eq!(given, number_at(join, start), "{join:?} of {list:?}");
         tally.count(taken.number);
         table.head = taken.head;
     }

@@ -7,5 +7,5 @@ use relay::{Answer, Table};
 pub fn take(table: &mut Table, link: u32, line: &[u8], out: &mut [u8]) -> Answer {
     let taken = relay::process(&table.head, &mut table.bans, link, line, out);
     table.head = taken.head;
-    Answer { number: taken.number, set: taken.set, count: taken.count, len: taken.len }
+    taken.answer()
 }

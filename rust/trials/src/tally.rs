@@ -3,14 +3,20 @@
 use std::fmt::{Display, Formatter, Result};
 
 /// One more than the highest number of a refusal.
-const NUMBERS: usize = 32;
+const NUMBERS: usize = 37;
 
 /// A count for each number, 0 for no refusal, and for each way to decide a question.
-#[derive(Clone, Debug, Default)]
+#[derive(Clone, Debug)]
 pub struct Tally {
     numbers: [u64; NUMBERS],
     yes: u64,
     no: u64,
+}
+
+impl Default for Tally {
+    fn default() -> Tally {
+        Tally { numbers: [0; NUMBERS], yes: 0, no: 0 }
+    }
 }
 
 impl Tally {

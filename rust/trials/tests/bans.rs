@@ -30,7 +30,9 @@ fn say(table: &mut Table, text: &str) -> Result<String, u8> {
 fn say_bytes(table: &mut Table, text: &[u8]) -> Result<Vec<u8>, u8> {
     let before = *table;
     let mut out = [7; 600];
-    let Answer { number, set, count, len } = take(table, 3, &[text, b"\r\n"].concat(), &mut out);
+    let Answer { number, place, set, count, len } =
+        take(table, 3, &[text, b"\r\n"].concat(), &mut out);
+    assert_eq!(place != 0, (32..=36).contains(&number));
     if number != 0 || len == 0 {
         assert_eq!((set, count, len), (0, 0, 0));
         assert!(*table == before && out == [7; 600], "{}", text.escape_ascii());
@@ -245,7 +247,7 @@ fn joins_and_the_list() {
     let mut table = race_with("x y");
     say(&mut table, ":1AB SJOIN 999 #other + 1ABAAAAAA").unwrap();
     assert_eq!((table.masks(0).count(), table.masks(1).count()), (2, 0));
-    assert_eq!(say(&mut table, ":1AB SJOIN 1 #race +x 1ABAAAAAA"), Err(17));
+    assert_eq!(say(&mut table, ":1AB SJOIN 1 #race +x 1ABAAAAAA"), Err(32));
     assert_eq!(texts(&table), ["x", "y"], "a refused join leaves the list");
 }
 

@@ -236,7 +236,7 @@ fn the_relays_number_and_the_records_place() {
         (b":1AB SJOIN 5 #a\r\n", 12),
         (b":1ABAAAAAA SJOIN 5 #a + 1ABAAAAAA\r\n", 13),
         (b":1AB SJOIN 0 #a + 1ABAAAAAA\r\n", 15),
-        (b":1AB SJOIN 5 #a +k a,b 1ABAAAAAA\r\n", 17),
+        (b":1AB SJOIN 5 #a +k a,b 1ABAAAAAA\r\n", 35),
         (b":1ABAAAAAA PART #b\r\n", 19),
         (b":1ABAAAAAC PART #a\r\n", 20),
         (b":1AB BMASK 5 #a e x\r\n", 26),

@@ -1,9 +1,11 @@
 //! Every short input there is over the bytes that mean something.
 
-use model::{line, mask, names};
+use model::{line, mask, names, Table};
 use trials::compare::feeding::compare_feed;
+use trials::compare::taking::compare_take;
 use trials::convert::core_message;
 use trials::inputs::feeders;
+use trials::lent::Lent;
 use trials::tally::Tally;
 
 /// Calls `f` with each text of that many of the given bytes.
@@ -48,6 +50,26 @@ fn each_byte_in_each_place_of_a_line() {
             compare_read(&changed);
         }
     }
+}
+
+/// The modes of an SJOIN, with good and bad parameters, as many as there can be.
+#[test]
+fn modes() {
+    let start = Table { links: u32::MAX, ..Table::EMPTY };
+    let words: [&[u8]; 8] =
+        [b"", b" key", b" 5", b" ,", b" key 5", b" 5 key", b" , 0", b" 0   ,  "];
+    let mut tally = Tally::default();
+    for length in 1..6 {
+        each_text(b"+nklx", length, &mut |modes| {
+            for words in words {
+                let end = b" 1ABAAAAAA\r\n";
+                let line = [b":1AB SJOIN 1 #a ", modes, words, end].concat();
+                compare_take(&mut { start }, 0, &line, Lent::holding(&[0; 512]), &mut tally);
+            }
+        });
+    }
+    let numbers = [0, 32, 33, 34, 35, 36];
+    assert_eq!((tally.missing(&numbers), tally.unexpected(&numbers)), (vec![], vec![]));
 }
 
 /// Few bytes, fed from the states where they matter.

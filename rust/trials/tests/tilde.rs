@@ -77,10 +77,10 @@ fn numbers(table: &Table) -> Vec<u8> {
             let mut after = *table;
             let mut out = vec![7; room];
             let line = format!("{line}\r\n");
-            let Answer { number, set, count, len } =
+            let Answer { number, place, set, count, len } =
                 take(&mut after, link, line.as_bytes(), &mut out);
             if number != 0 {
-                assert_eq!((set, count, len), (0, 0, 0));
+                assert_eq!((place, set, count, len), (0, 0, 0, 0));
                 assert!(after == *table && out == vec![7; room], "{line}");
             }
             numbers.push(number);

@@ -21,8 +21,9 @@ fn start() -> Table {
 fn say(table: &mut Table, text: &str) -> Result<String, u8> {
     let before = *table;
     let mut out = [7; 600];
-    let Answer { number, set, count, len } =
+    let Answer { number, place, set, count, len } =
         take(table, 3, format!("{text}\r\n").as_bytes(), &mut out);
+    assert_eq!(place != 0, (32..=36).contains(&number), "{text}");
     if number != 0 {
         assert_eq!((set, count, len), (0, 0, 0));
         assert!(*table == before && out == [7; 600]);
@@ -143,12 +144,12 @@ fn words_at_their_limits() {
         (&format!("1 #{} +", "x".repeat(49)), 0),
         (&format!("1 #{} +", "x".repeat(50)), 16),
         (&format!("1 #a +k {}", "x".repeat(23)), 0),
-        (&format!("1 #a +k {}", "x".repeat(24)), 17),
+        (&format!("1 #a +k {}", "x".repeat(24)), 35),
         ("1 #a +l 65535", 0),
-        ("1 #a +l 65536", 17),
-        ("1 #a +l 01", 17),
+        ("1 #a +l 65536", 36),
+        ("1 #a +l 01", 36),
         ("1 #a +lk 5 key", 0),
-        ("1 #a +kl 5 key", 17),
+        ("1 #a +kl 5 key", 36),
     ] {
         assert_eq!(join(words), number, "{words}");
     }

@@ -7,7 +7,7 @@ use Rattle.relay.specs.Arrival.{arrival}
 use Rattle.relay.proofs.Taking.{answer-number}
 use Rattle.relay.proofs.Answering.{accepted-line}
 use Rattle.console.proofs.Answering.{front-few}
-use Rattle.console.proofs.Grouping.{record-fits, answer-fits, takes-refused, takes-accepted}
+use Rattle.console.proofs.Grouping.{record-fits, answer-fits, place-inside, takes-refused, takes-accepted}
 use borrow.Author.Needs.{needs}
 use Rattle.console.proofs.take.Statement.{statement}
 use Rattle.console.proofs.take.Tie as tie
@@ -19,7 +19,10 @@ process-requires : tie.Need-process-requires
 process-requires c κs = search needs
 
 put-refused-requires : tie.Need-put-refused-requires
-put-refused-requires c κs = search needs
+put-refused-requires c κs =
+    let judged = c .before .before .before .before in
+    let a = judged .before .before .before .before .before .before .args in
+    place-inside (a .s) (a .bans .now) (a .link) (a .line .now) _ _ (judged .process .ensures .0) (judged .process .ensures .1 .0)
 
 same-length : tie.Need-same-length
 same-length c = search needs

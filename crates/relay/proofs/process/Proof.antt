@@ -1,12 +1,13 @@
 -- `process` meets its contract: a number refuses the line, or the change that it is judged to be is made. Assumes nothing.
 use mathlib.Core.Path.{_≡_, refl, sym, ap, ap₂, _∙_}
-use mathlib.Core.Bool.{Bool, true}
+use mathlib.Core.Bool.{Bool, true, false}
 use mathlib.Core.List.{List}
 use Prim.Native.Nat.{ℕ}
 use lib.ListN.{length}
 use borrow.Author.Needs.{needs}
-use Rattle.refusal.specs.Numbers.{accepted}
+use Rattle.refusal.specs.Numbers.{accepted, isModeNumber}
 use Rattle.refusal.specs.Rules.{firstOf}
+use Rattle.refusal.proofs.Rules.{first-plain}
 use Rattle.octets.specs.Room.{front}
 use Rattle.laws.proofs.Lists.{unmapped}
 use Rattle.message.specs.declared.Message.{Message}
@@ -19,6 +20,8 @@ use Rattle.channel.specs.Limits.{slotCount}
 use Rattle.table.specs.declared.Found.{Found}
 use Rattle.table.specs.Network.{Table, Network, networkOf, tableWith}
 use Rattle.table.specs.Table.{goodTable}
+use Rattle.sjoin.specs.Join.{linePlace}
+use Rattle.sjoin.proofs.Answers.{place-none}
 use Rattle.relay.specs.declared.Asked.{Asked}
 use Rattle.relay.specs.declared.Change.{Change}
 use Rattle.relay.specs.declared.Taken.{Taken}
@@ -102,6 +105,13 @@ read-as c = ap (λ (x : Parsed). x .message) (asked c .before .parse .ensures .0
 said-so : (c : Settled) → contentBy (came (entered c) .line) (asked c .before .parse .result .message) ≡ said (came (entered c))
 said-so c = ap (contentBy (came (entered c) .line)) (read-as c) ∙ message-holds (came (entered c) .line)
 
+-- none of its own rules applies
+own-passes : (c : Settled) → firstOf (workOf (commandIn (came (entered c) .line)) .own (said (came (entered c)))) ≡ accepted
+own-passes c =
+    let e = entered c in
+    let r = asked c .requested in
+    request-passes (came e) (law e) (r .result) (r .ensures) (c .before .before .before .before .if2 .left) .1
+
 -- what a request is settled to, with its slot and its message
 abbrev settles : Network → Asked → Found → Content → Change
 settles n x f y = workOf (x .request .command) .settles x f y (n .bans)
@@ -124,12 +134,16 @@ abbrev accepts : tie.After-send → tie.Else3
 accepts c = c .before .before
 
 -- ---- a refusal
-refuses : (c : Entered) (k : ℕ) → number c ≡ k → (k ≡ accepted → ⊥) → (r : Taken) → r ≡ refusing (start c .args .t) k
+-- a number that isn't one of modes has no place
+unplaced : (c : Entered) (k : ℕ) → isModeNumber k ≡ false → 0 ≡ linePlace k (came c .line)
+unplaced c k p = sym (place-none k (came c .line) (messageOf (came c .line)) p)
+
+refuses : (c : Entered) (k place : ℕ) → number c ≡ k → (k ≡ accepted → ⊥) → place ≡ linePlace k (came c .line) → (r : Taken) → r ≡ refusing (start c .args .t) k place
     → (r ≡ takenOf (processAnswer (table c) (came c) (length (lent c))))
     × ((table c .bans ≡ processAnswer (table c) (came c) (length (lent c)) .table .bans) × (lent c ≡ front (sent (table c) (came c) (length (lent c))) (lent c)))
-refuses c k e ne r f =
+refuses c k place e ne p r f =
     let answer = answer-refused (table c) (came c) (length (lent c)) k e ne in
-    (f ∙ ap takenOf answer, (ap (λ (o : Outcome). o .table .bans) answer, rw (sent-nothing (table c) (came c) (length (lent c)) k e ne)))
+    (f ∙ ap (refusing (start c .args .t) k) p ∙ ap takenOf answer, (ap (λ (o : Outcome). o .table .bans) answer, rw (sent-nothing (table c) (came c) (length (lent c)) k e ne)))
 
 -- ---- the needs
 is-well-formed-requires : tie.Need-is-well-formed-requires
@@ -145,7 +159,8 @@ returns : tie.Need-returns
 returns c =
     let e = c .before .before in
     let ne = c .before .if1 .taken in
-    refuses e _ (entry-refuses (table e) (came e) (length (lent e)) (λ z. ne (sym (entry-is e) ∙ z)) ∙ entry-is e) ne (c .refused .result) (c .refused .ensures)
+    let is = entry-refuses (table e) (came e) (length (lent e)) (λ z. ne (sym (entry-is e) ∙ z)) ∙ entry-is e in
+    refuses e _ 0 is ne (unplaced e _ (sym (ap isModeNumber (entry-is e)) ∙ first-plain (enteringRules (table e) (came e) (length (lent e))) refl)) (c .refused .result) (c .refused .ensures)
 
 parse-requires : tie.Need-parse-requires
 parse-requires c κs = search needs
@@ -162,8 +177,8 @@ returns-2 c =
     let p = r .before .before in
     let e = p .before in
     let ne = c .before .if2 .taken in
-    let is = enters (table e) (came e) (length (lent e)) (passes p) ∙ request-refuses (came e) (law e) (r .requested .result) (r .requested .ensures) ne (networkOf (table e)) in
-    refuses e _ is ne (c .refused2 .result) (c .refused2 .ensures)
+    let asks = request-refuses (came e) (law e) (r .requested .result) (r .requested .ensures) ne in
+    refuses e _ _ (enters (table e) (came e) (length (lent e)) (passes p) ∙ asks .0 (networkOf (table e))) ne (asks .1) (c .refused2 .result) (c .refused2 .ensures)
 
 slot-of-requires : tie.Need-slot-of-requires
 slot-of-requires c κs = search needs
@@ -175,7 +190,11 @@ refused-requires-3 : tie.Need-refused-requires-3
 refused-requires-3 c κs = search needs
 
 returns-3 : tie.Need-returns-3
-returns-3 c = let j = c .before .before in refuses (entered j) _ (judged j .0) (c .before .if3 .taken) (c .refused3 .result) (c .refused3 .ensures)
+returns-3 c =
+    let j = c .before .before in
+    let e = entered j in
+    let plain = law e .plain (networkOf (table e)) (came e) (ap isModeNumber (own-passes j)) in
+    refuses e _ 0 (judged j .0) (c .before .if3 .taken) (unplaced e _ (ap isModeNumber (judged j .1 .number) ∙ plain)) (c .refused3 .result) (c .refused3 .ensures)
 
 send-requires : tie.Need-send-requires
 send-requires c κs = search needs

@@ -38,6 +38,6 @@ masksFound Full held time list bans = unchanged noSuchChannel
 abbrev pub work : Work
 work = record {
   own = bmaskRules;
-  asks = λ m c. asking (getD (m .params) 1 nowhere) noUser (valueOf (timeIn c)) Bmask accepted emptyRecord;
+  asks = λ m c. asking (getD (m .params) 1 nowhere) noUser (valueOf (timeIn c)) Bmask emptyRecord;
   settles = λ q f c bans. masksFound (f .slot) (f .«record») (q .request .time) (maskListIn c) bans;
 }

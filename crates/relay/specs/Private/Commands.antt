@@ -7,8 +7,7 @@ use Rattle.refusal.specs.Numbers.{accepted, unknownCommand}
 use Rattle.refusal.specs.Rules.{_when_, firstOf}
 use Rattle.message.specs.declared.Message.{Message}
 use Rattle.message.specs.declared.Span.{Span}
-use Rattle.message.specs.Content.{Content}
-use Rattle.message.specs.Parts.{bytesAt}
+use Rattle.message.specs.Parts.{bytesAt, contentBy}
 use Rattle.message.specs.Reading.{numberFor, isRead, contentOf, messageOf}
 use Rattle.channel.specs.declared.Record.{Record}
 use Rattle.channel.specs.Record.{emptyRecord}
@@ -16,6 +15,7 @@ use Rattle.table.specs.declared.Found.{Found}
 use Rattle.table.specs.Network.{Network}
 use Rattle.table.specs.declared.Slot.the-variants.{Full}
 use Rattle.table.specs.Slots.{foundFor}
+use Rattle.sjoin.specs.Join.{spanPlace}
 use Rattle.relay.specs.declared.Command.{Command}
 use Rattle.relay.specs.declared.Command.the-variants.{Sjoin, Part, Quit, Bmask, Unknown}
 use Rattle.relay.specs.declared.Asked.{Asked}
@@ -29,7 +29,7 @@ use Rattle.relay.specs.Private.Bmask as masking
 
 -- an unknown command's own rule applies, so that it asks for nothing
 abbrev pub idle : Work
-idle = record { own = λ c. unknownCommand when true ∷ []; asks = λ m c. nothing accepted; settles = λ q f c bans. unchanged unknownCommand }
+idle = record { own = λ c. unknownCommand when true ∷ []; asks = λ m c. nothing accepted 0; settles = λ q f c bans. unchanged unknownCommand }
 
 -- what the code makes of each
 abbrev pub workOf : Command → Work
@@ -39,13 +39,15 @@ workOf Quit = quitting.work
 workOf Bmask = masking.work
 workOf Unknown = idle
 
--- ---- what a message asks for, or the number of its first own rule that applies
-unfoldable pub askedBy : Command → Message → Content → Asked
-askedBy k m c = let number : ℕ = firstOf (workOf k .own c) in cond (eqb number accepted) (workOf k .asks m c) (nothing number)
+-- ---- what the message of a line asks for, or the number of its first own rule that applies, with its place
+unfoldable pub askedBy : Command → List ℕ → Message → Asked
+askedBy k line m =
+    let number : ℕ = firstOf (workOf k .own (contentBy line m)) in
+    cond (eqb number accepted) (workOf k .asks m (contentBy line m)) (nothing number (spanPlace number line m))
 
 -- and a line, or the reader's number
 unfoldable pub askedOf : List ℕ → Asked
-askedOf line = cond (isRead line) (askedBy (commandIn line) (messageOf line) (contentOf line)) (nothing (numberFor line))
+askedOf line = cond (isRead line) (askedBy (commandIn line) line (messageOf line)) (nothing (numberFor line) 0)
 
 -- ---- the slot that its name uses; where it names no channel, none is looked for
 unfoldable pub lookedUp : List Record → List ℕ → Span → Found

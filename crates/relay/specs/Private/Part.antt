@@ -3,7 +3,7 @@ use Prim.Native.Nat.{ℕ}
 use mathlib.Core.Bool.{cond}
 use mathlib.Core.List.{List}
 use lib.ListN.{getD}
-use Rattle.refusal.specs.Numbers.{accepted, noSuchChannel, notOnChannel}
+use Rattle.refusal.specs.Numbers.{noSuchChannel, notOnChannel}
 use Rattle.channel.specs.declared.Record.{Record}
 use Rattle.channel.specs.Record.{decode, emptyRecord}
 use Rattle.channel.specs.Members.{hasMember, without}
@@ -35,6 +35,6 @@ partsFound Full held user = unchanged noSuchChannel
 abbrev pub work : Work
 work = record {
   own = partRules;
-  asks = λ m c. asking (getD (m .params) 0 nowhere) (sourceIn c) 0 Part accepted emptyRecord;
+  asks = λ m c. asking (getD (m .params) 0 nowhere) (sourceIn c) 0 Part emptyRecord;
   settles = λ q f c bans. partsFound (f .slot) (f .«record») (q .request .user);
 }

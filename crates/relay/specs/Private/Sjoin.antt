@@ -54,6 +54,6 @@ joinsFound Full held incoming = unchanged noFreeSlot
 abbrev pub work : Work
 work = record {
   own = joinRules;
-  asks = λ m c. asking (getD (m .params) 1 nowhere) noUser 0 Sjoin accepted (encode (channelIn c));
+  asks = λ m c. asking (getD (m .params) 1 nowhere) noUser 0 Sjoin (encode (channelIn c));
   settles = λ q f c bans. joinsFound (f .slot) (f .«record») (q .incoming);
 }

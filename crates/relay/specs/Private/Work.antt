@@ -41,11 +41,12 @@ abbrev pub nowhere : Span
 nowhere = span 0 0
 
 -- ---- what is asked for
-abbrev pub asking : Span → List ℕ → ℕ → Command → ℕ → Record → Asked
-asking name user time command number incoming = record { request = record { name = name; user = user; time = time; command = command; number = number }; incoming = incoming }
+abbrev pub asking : Span → List ℕ → ℕ → Command → Record → Asked
+asking name user time command incoming = record { request = record { name = name; user = user; time = time; command = command; number = accepted; place = 0 }; incoming = incoming }
 
-abbrev pub nothing : ℕ → Asked
-nothing number = asking nowhere noUser 0 Unknown number emptyRecord
+-- nothing, for a number, with its place in the line
+abbrev pub nothing : ℕ → ℕ → Asked
+nothing number place = record { request = record { name = nowhere; user = noUser; time = 0; command = Unknown; number = number; place = place }; incoming = emptyRecord }
 
 -- ---- what it comes to
 -- nothing is done, and nothing goes out
@@ -64,6 +65,6 @@ drops user sending = record { number = accepted; deed = Drop; sending = sending;
 abbrev pub adds : ℕ → Sending → Change
 adds k sending = record { number = accepted; deed = Add; sending = sending; slot = k; emptied = false; «record» = emptyRecord; told = emptyRecord; user = noUser }
 
--- ---- an answer that refuses: the head as given, and zeros
-abbrev pub refusing : Head → ℕ → Taken
-refusing h number = record { number = number; head = h; set = 0; count = 0; len = 0 }
+-- ---- an answer that refuses: the number and its place, the head as given, and zeros
+abbrev pub refusing : Head → ℕ → ℕ → Taken
+refusing h number place = record { number = number; place = place; head = h; set = 0; count = 0; len = 0 }

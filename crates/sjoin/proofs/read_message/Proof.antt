@@ -1,5 +1,5 @@
 -- `read_message` meets its contract: the text is too long, or a rule applies, or the record is told. Assumes nothing.
-use mathlib.Core.Path.{_≡_, sym, ap, _∙_}
+use mathlib.Core.Path.{_≡_, refl, sym, ap, _∙_}
 use mathlib.Core.Bool.{Bool, true, false}
 use mathlib.Core.List.{List}
 use Prim.Native.Nat.{ℕ, _+_, _-_, _≤_}
@@ -7,20 +7,22 @@ use native.Mathlib.Omega.{arith}
 use lib.ListN.{length}
 use borrow.Author.Needs.{needs}
 use borrow.Author.Tests.{not-true, not-false}
-use Rattle.refusal.specs.Numbers.{accepted}
+use Rattle.refusal.specs.Numbers.{accepted, isModeNumber}
 use Rattle.refusal.specs.Rules.{firstOf}
+use Rattle.refusal.proofs.Rules.{first-plain}
 use Rattle.laws.proofs.Lists.{unmapped}
 use Rattle.channel.specs.Members.{roster}
 use Rattle.message.specs.Grammar.{lineLimit}
 use Rattle.message.specs.Content.{Content}
 use Rattle.message.specs.Parts.{contentBy}
 use Rattle.message.proofs.SpanContents.{params-count}
+use Rattle.sjoin.specs.declared.Verdict.{Verdict}
 use Rattle.sjoin.specs.Entries.{goodEntries, named}
 use Rattle.sjoin.specs.Join.{listIn, goodCount, sourceRules, leadRules, joinRules, spanRules}
-use Rattle.sjoin.specs.Private.Scanning.{Parted}
+use Rattle.sjoin.specs.Private.Scanning.{Parted, refusedBy}
 use Rattle.sjoin.proofs.Judged.{source-counts, source-decides, lead-decides, unlisted, listed, span-long, span-rules}
 use Rattle.sjoin.proofs.Listed.{list-room}
-use Rattle.sjoin.proofs.Answers.{bounds, list-at, parted, list-small, in-refused, in-record}
+use Rattle.sjoin.proofs.Answers.{bounds, list-at, parted, list-small, source-long, in-refused, in-plain, in-record}
 use Rattle.sjoin.proofs.read_message.Statement.{statement}
 use Rattle.sjoin.proofs.read_message.Tie as tie
 
@@ -35,7 +37,7 @@ abbrev sourced : tie.Else2 → Content
 sourced c = content (begin c)
 
 abbrev led : tie.After-param-in → Content
-led c = sourced (c .before .before .before .before)
+led c = sourced (c .before .before .before .before .before)
 
 abbrev judged : tie.After-entries-of → Content
 judged c = led (c .before)
@@ -50,7 +52,7 @@ refused-requires c κs = search needs
 returns : tie.Need-returns
 returns c =
     let a = c .before .before .before .args in
-    c .refused .ensures ∙ in-refused (a .text .now) (a .m) _ (span-long (a .text .now) (a .m) (c .before .if1 .taken)) (λ e. omega arith)
+    c .refused .ensures ∙ in-plain (a .text .now) (a .m) _ (span-long (a .text .now) (a .m) (c .before .if1 .taken)) (λ e. omega arith) refl
 
 source-number-requires : tie.Need-source-number-requires
 source-number-requires c κs = search needs
@@ -68,7 +70,7 @@ returns-2 c =
     let short = test .before .before in
     let s = short .before .before in
     let e = test .before .source-number .ensures in
-    c .refused2 .ensures ∙ in-refused (s .args .text .now) (s .args .m) _ (e ∙ sym (rules short ∙ source-decides (content s) (λ z. test .if2 .taken (e ∙ z)))) (test .if2 .taken)
+    c .refused2 .ensures ∙ in-plain (s .args .text .now) (s .args .m) _ (e ∙ sym (rules short ∙ source-decides (content s) (λ z. test .if2 .taken (e ∙ z)))) (test .if2 .taken) (ap isModeNumber e ∙ first-plain (sourceRules (content s)) refl)
 
 -- ---- count and source are good
 source : (c : tie.Else2) → firstOf (sourceRules (sourced c)) ≡ accepted
@@ -86,11 +88,15 @@ count c =
 behind : (c : tie.Else2) → Parted (sourced c) (begin c .args .m .count - 1)
 behind c = parted (sourced c) _ (good c) (count c .1)
 
+-- a server id has three bytes
+long : (c : tie.Else2) → 2 ≤ length (begin c .args .text .now)
+long c = source-long (begin c .args .text .now) (begin c .args .m) (source c)
+
 sub-last : tie.Need-sub-last
 sub-last c = count (c .before) .0
 
-lead-number-requires : tie.Need-lead-number-requires
-lead-number-requires c κs = behind (c .before)
+lead-verdict-requires : tie.Need-lead-verdict-requires
+lead-verdict-requires c κs = (behind (c .before), long (c .before))
 
 refused-requires-3 : tie.Need-refused-requires-3
 refused-requires-3 c κs = search needs
@@ -98,22 +104,23 @@ refused-requires-3 c κs = search needs
 returns-3 : tie.Need-returns-3
 returns-3 c =
     let test = c .before in
-    let two = test .before .before .before in
+    let two = test .before .before .before .before in
     let short = two .before .before in
     let a = short .before .before .args in
-    let e = test .before .lead-number .ensures in
-    c .refused3 .ensures ∙ in-refused (a .text .now) (a .m) _ (e ∙ sym (rules short ∙ lead-decides (sourced two) (source two) (λ z. test .if3 .taken (e ∙ z)))) (test .if3 .taken)
+    let e = test .before .before .lead-verdict .ensures in
+    let ne : firstOf (leadRules (sourced two)) ≡ accepted → ⊥ = λ z. test .if3 .taken (ap (λ (v : Verdict). v .number) e ∙ z) in
+    c .refused3 .ensures ∙ ap (λ (v : Verdict). refusedBy (v .number) (v .place)) e ∙ in-refused (a .text .now) (a .m) _ (sym (rules short ∙ lead-decides (sourced two) (source two) ne)) ne
 
 -- ---- time, name and modes are good
 param-in-requires : tie.Need-param-in-requires
 param-in-requires c κs = search needs
 
 list : (c : tie.After-param-in) → c .param-in .result .now ≡ listIn (led c)
-list c = c .param-in .ensures .0 ∙ list-at (led c) _ (behind (c .before .before .before .before))
+list c = c .param-in .ensures .0 ∙ list-at (led c) _ (behind (c .before .before .before .before .before))
 
 small : (c : tie.After-param-in) → length (listIn (led c)) ≤ lineLimit
 small c =
-    let short = c .before .before .before .before .before .before in
+    let short = c .before .before .before .before .before .before .before in
     let a = short .before .before .args in
     omega (arith, list-small (a .text .now) (a .m), short .if1 .left)
 
@@ -124,7 +131,7 @@ refused-requires-4 : tie.Need-refused-requires-4
 refused-requires-4 c κs = search needs
 
 lead : (c : tie.After-param-in) → firstOf (leadRules (led c)) ≡ accepted
-lead c = sym (c .before .before .lead-number .ensures) ∙ c .before .if3 .left
+lead c = sym (ap (λ (v : Verdict). v .number) (c .before .before .before .lead-verdict .ensures)) ∙ c .before .if3 .left
 
 entries : (c : tie.After-entries-of) (t : Bool) → c .entries-of .result .good ≡ t → goodEntries (listIn (judged c)) ≡ t
 entries c t e = sym (ap goodEntries (list (c .before))) ∙ sym (c .entries-of .ensures .0) ∙ e
@@ -133,11 +140,11 @@ returns-4 : tie.Need-returns-4
 returns-4 c =
     let read = c .before .before .before in
     let three = read .before in
-    let two = three .before .before .before .before in
+    let two = three .before .before .before .before .before in
     let short = two .before .before in
     let a = short .before .before .args in
     c .refused4 .ensures
-    ∙ in-refused (a .text .now) (a .m) _ (sym (rules short ∙ unlisted (judged read) (source two) (lead three) (entries read false (not-true _ (c .before .if4 .taken))))) (λ e. omega arith)
+    ∙ in-plain (a .text .now) (a .m) _ (sym (rules short ∙ unlisted (judged read) (source two) (lead three) (entries read false (not-true _ (c .before .if4 .taken))))) (λ e. omega arith) refl
 
 -- ---- and so is the list
 good-list : (c : tie.Else4) → goodEntries (listIn (taken c)) ≡ true
@@ -146,13 +153,13 @@ good-list c = entries (c .before .before) true (not-false _ (c .if4 .left))
 none : (c : tie.Else4) → firstOf (joinRules (taken c)) ≡ accepted
 none c =
     let three = c .before .before .before in
-    listed (taken c) (source (three .before .before .before .before)) (lead three) (good-list c)
+    listed (taken c) (source (three .before .before .before .before .before)) (lead three) (good-list c)
 
 record-of-requires : tie.Need-record-of-requires
 record-of-requires c κs =
     let three = c .before .before .before in
     record {
-      parted = behind (three .before .before .before .before);
+      parted = behind (three .before .before .before .before .before);
       passes = none c;
       few = list-room (listIn (taken c)) (good-list c) (small three);
       named = c .before .before .entries-of .ensures .1 (ap goodEntries (list three) ∙ good-list c) ∙ ap (λ (s : List ℕ). roster (named s)) (list three);
@@ -161,7 +168,7 @@ record-of-requires c κs =
 returns-5 : tie.Need-returns-5
 returns-5 c =
     let four = c .before in
-    let short = four .before .before .before .before .before .before .before .before .before in
+    let short = four .before .before .before .before .before .before .before .before .before .before in
     let a = short .before .before .args in
     in-record (a .text .now) (a .m) (c .record-of .result) (rules short ∙ none four) (c .record-of .ensures)
 
@@ -175,7 +182,7 @@ read-message-spec =
     refused-requires-2
     returns-2
     sub-last
-    lead-number-requires
+    lead-verdict-requires
     refused-requires-3
     returns-3
     param-in-requires

@@ -198,6 +198,30 @@ slice-aggregate-held-32 c = search needs
 held-requires-32 : tie.Need-held-requires-32
 held-requires-32 c κs = search needs
 
+slice-aggregate-held-33 : tie.Need-slice-aggregate-held-33
+slice-aggregate-held-33 c = search needs
+
+held-requires-33 : tie.Need-held-requires-33
+held-requires-33 c κs = search needs
+
+slice-aggregate-held-34 : tie.Need-slice-aggregate-held-34
+slice-aggregate-held-34 c = search needs
+
+held-requires-34 : tie.Need-held-requires-34
+held-requires-34 c κs = search needs
+
+slice-aggregate-held-35 : tie.Need-slice-aggregate-held-35
+slice-aggregate-held-35 c = search needs
+
+held-requires-35 : tie.Need-held-requires-35
+held-requires-35 c κs = search needs
+
+slice-aggregate-held-36 : tie.Need-slice-aggregate-held-36
+slice-aggregate-held-36 c = search needs
+
+held-requires-36 : tie.Need-held-requires-36
+held-requires-36 c κs = search needs
+
 returns : tie.Need-returns
 unfolding bytesOf table wordsIn
 returns c = c .held .ensures ∙ sym (ap textOf (c .before .before .match .keys1))
@@ -324,27 +348,47 @@ returns-31 c = c .held31 .ensures ∙ sym (ap textOf (c .before .before .match .
 
 returns-32 : tie.Need-returns-32
 unfolding bytesOf table wordsIn
-returns-32 c =
+returns-32 c = c .held32 .ensures ∙ sym (ap textOf (c .before .before .match .keys32))
+
+returns-33 : tie.Need-returns-33
+unfolding bytesOf table wordsIn
+returns-33 c = c .held33 .ensures ∙ sym (ap textOf (c .before .before .match .keys33))
+
+returns-34 : tie.Need-returns-34
+unfolding bytesOf table wordsIn
+returns-34 c = c .held34 .ensures ∙ sym (ap textOf (c .before .before .match .keys34))
+
+returns-35 : tie.Need-returns-35
+unfolding bytesOf table wordsIn
+returns-35 c = c .held35 .ensures ∙ sym (ap textOf (c .before .before .match .keys35))
+
+returns-36 : tie.Need-returns-36
+unfolding bytesOf table wordsIn
+returns-36 c =
     let n = c .before .before .before .args .number in
     let other = c .before .before .match .rest in
-    c .held32 .ensures ∙ simp (
-      ne-eqb 1 n (λ e. other .0 .0 .0 .0 .0 .0 .0 .0 .0 .0 .0 .0 .0 .0 .0 .0 .0 .0 .0 .0 .0 .0 .0 .0 .0 .0 .0 .0 .0 .0 .1 (sym e)),
-      ne-eqb 2 n (λ e. other .0 .0 .0 .0 .0 .0 .0 .0 .0 .0 .0 .0 .0 .0 .0 .0 .0 .0 .0 .0 .0 .0 .0 .0 .0 .0 .0 .0 .0 .1 (sym e)),
-      ne-eqb 3 n (λ e. other .0 .0 .0 .0 .0 .0 .0 .0 .0 .0 .0 .0 .0 .0 .0 .0 .0 .0 .0 .0 .0 .0 .0 .0 .0 .0 .0 .0 .1 (sym e)),
-      ne-eqb 4 n (λ e. other .0 .0 .0 .0 .0 .0 .0 .0 .0 .0 .0 .0 .0 .0 .0 .0 .0 .0 .0 .0 .0 .0 .0 .0 .0 .0 .0 .1 (sym e)),
-      ne-eqb 5 n (λ e. other .0 .0 .0 .0 .0 .0 .0 .0 .0 .0 .0 .0 .0 .0 .0 .0 .0 .0 .0 .0 .0 .0 .0 .0 .0 .0 .1 (sym e)),
-      ne-eqb 6 n (λ e. other .0 .0 .0 .0 .0 .0 .0 .0 .0 .0 .0 .0 .0 .0 .0 .0 .0 .0 .0 .0 .0 .0 .0 .0 .0 .1 (sym e)),
-      ne-eqb 7 n (λ e. other .0 .0 .0 .0 .0 .0 .0 .0 .0 .0 .0 .0 .0 .0 .0 .0 .0 .0 .0 .0 .0 .0 .0 .0 .1 (sym e)),
-      ne-eqb 8 n (λ e. other .0 .0 .0 .0 .0 .0 .0 .0 .0 .0 .0 .0 .0 .0 .0 .0 .0 .0 .0 .0 .0 .0 .0 .1 (sym e)),
-      ne-eqb 9 n (λ e. other .0 .0 .0 .0 .0 .0 .0 .0 .0 .0 .0 .0 .0 .0 .0 .0 .0 .0 .0 .0 .0 .0 .1 (sym e)),
-      ne-eqb 10 n (λ e. other .0 .0 .0 .0 .0 .0 .0 .0 .0 .0 .0 .0 .0 .0 .0 .0 .0 .0 .0 .0 .0 .1 (sym e)),
-      ne-eqb 11 n (λ e. other .0 .0 .0 .0 .0 .0 .0 .0 .0 .0 .0 .0 .0 .0 .0 .0 .0 .0 .0 .0 .1 (sym e)),
-      ne-eqb 12 n (λ e. other .0 .0 .0 .0 .0 .0 .0 .0 .0 .0 .0 .0 .0 .0 .0 .0 .0 .0 .0 .1 (sym e)),
-      ne-eqb 13 n (λ e. other .0 .0 .0 .0 .0 .0 .0 .0 .0 .0 .0 .0 .0 .0 .0 .0 .0 .0 .1 (sym e)),
-      ne-eqb 14 n (λ e. other .0 .0 .0 .0 .0 .0 .0 .0 .0 .0 .0 .0 .0 .0 .0 .0 .0 .1 (sym e)),
-      ne-eqb 15 n (λ e. other .0 .0 .0 .0 .0 .0 .0 .0 .0 .0 .0 .0 .0 .0 .0 .0 .1 (sym e)),
-      ne-eqb 16 n (λ e. other .0 .0 .0 .0 .0 .0 .0 .0 .0 .0 .0 .0 .0 .0 .0 .1 (sym e)),
-      ne-eqb 17 n (λ e. other .0 .0 .0 .0 .0 .0 .0 .0 .0 .0 .0 .0 .0 .0 .1 (sym e)),
+    c .held36 .ensures ∙ simp (
+      ne-eqb 1 n (λ e. other .0 .0 .0 .0 .0 .0 .0 .0 .0 .0 .0 .0 .0 .0 .0 .0 .0 .0 .0 .0 .0 .0 .0 .0 .0 .0 .0 .0 .0 .0 .0 .0 .0 .0 .1 (sym e)),
+      ne-eqb 2 n (λ e. other .0 .0 .0 .0 .0 .0 .0 .0 .0 .0 .0 .0 .0 .0 .0 .0 .0 .0 .0 .0 .0 .0 .0 .0 .0 .0 .0 .0 .0 .0 .0 .0 .0 .1 (sym e)),
+      ne-eqb 3 n (λ e. other .0 .0 .0 .0 .0 .0 .0 .0 .0 .0 .0 .0 .0 .0 .0 .0 .0 .0 .0 .0 .0 .0 .0 .0 .0 .0 .0 .0 .0 .0 .0 .0 .1 (sym e)),
+      ne-eqb 4 n (λ e. other .0 .0 .0 .0 .0 .0 .0 .0 .0 .0 .0 .0 .0 .0 .0 .0 .0 .0 .0 .0 .0 .0 .0 .0 .0 .0 .0 .0 .0 .0 .0 .1 (sym e)),
+      ne-eqb 5 n (λ e. other .0 .0 .0 .0 .0 .0 .0 .0 .0 .0 .0 .0 .0 .0 .0 .0 .0 .0 .0 .0 .0 .0 .0 .0 .0 .0 .0 .0 .0 .0 .1 (sym e)),
+      ne-eqb 6 n (λ e. other .0 .0 .0 .0 .0 .0 .0 .0 .0 .0 .0 .0 .0 .0 .0 .0 .0 .0 .0 .0 .0 .0 .0 .0 .0 .0 .0 .0 .0 .1 (sym e)),
+      ne-eqb 7 n (λ e. other .0 .0 .0 .0 .0 .0 .0 .0 .0 .0 .0 .0 .0 .0 .0 .0 .0 .0 .0 .0 .0 .0 .0 .0 .0 .0 .0 .0 .1 (sym e)),
+      ne-eqb 8 n (λ e. other .0 .0 .0 .0 .0 .0 .0 .0 .0 .0 .0 .0 .0 .0 .0 .0 .0 .0 .0 .0 .0 .0 .0 .0 .0 .0 .0 .1 (sym e)),
+      ne-eqb 9 n (λ e. other .0 .0 .0 .0 .0 .0 .0 .0 .0 .0 .0 .0 .0 .0 .0 .0 .0 .0 .0 .0 .0 .0 .0 .0 .0 .0 .1 (sym e)),
+      ne-eqb 10 n (λ e. other .0 .0 .0 .0 .0 .0 .0 .0 .0 .0 .0 .0 .0 .0 .0 .0 .0 .0 .0 .0 .0 .0 .0 .0 .0 .1 (sym e)),
+      ne-eqb 11 n (λ e. other .0 .0 .0 .0 .0 .0 .0 .0 .0 .0 .0 .0 .0 .0 .0 .0 .0 .0 .0 .0 .0 .0 .0 .0 .1 (sym e)),
+      ne-eqb 12 n (λ e. other .0 .0 .0 .0 .0 .0 .0 .0 .0 .0 .0 .0 .0 .0 .0 .0 .0 .0 .0 .0 .0 .0 .0 .1 (sym e)),
+      ne-eqb 13 n (λ e. other .0 .0 .0 .0 .0 .0 .0 .0 .0 .0 .0 .0 .0 .0 .0 .0 .0 .0 .0 .0 .0 .0 .1 (sym e)),
+      ne-eqb 14 n (λ e. other .0 .0 .0 .0 .0 .0 .0 .0 .0 .0 .0 .0 .0 .0 .0 .0 .0 .0 .0 .0 .0 .1 (sym e)),
+      ne-eqb 15 n (λ e. other .0 .0 .0 .0 .0 .0 .0 .0 .0 .0 .0 .0 .0 .0 .0 .0 .0 .0 .0 .0 .1 (sym e)),
+      ne-eqb 16 n (λ e. other .0 .0 .0 .0 .0 .0 .0 .0 .0 .0 .0 .0 .0 .0 .0 .0 .0 .0 .0 .1 (sym e)),
+      ne-eqb 32 n (λ e. other .0 .0 .0 .0 .0 .0 .0 .0 .0 .0 .0 .0 .0 .0 .0 .0 .0 .0 .1 (sym e)),
+      ne-eqb 33 n (λ e. other .0 .0 .0 .0 .0 .0 .0 .0 .0 .0 .0 .0 .0 .0 .0 .0 .0 .1 (sym e)),
+      ne-eqb 34 n (λ e. other .0 .0 .0 .0 .0 .0 .0 .0 .0 .0 .0 .0 .0 .0 .0 .0 .1 (sym e)),
+      ne-eqb 35 n (λ e. other .0 .0 .0 .0 .0 .0 .0 .0 .0 .0 .0 .0 .0 .0 .0 .1 (sym e)),
+      ne-eqb 36 n (λ e. other .0 .0 .0 .0 .0 .0 .0 .0 .0 .0 .0 .0 .0 .0 .1 (sym e)),
       ne-eqb 18 n (λ e. other .0 .0 .0 .0 .0 .0 .0 .0 .0 .0 .0 .0 .0 .1 (sym e)),
       ne-eqb 26 n (λ e. other .0 .0 .0 .0 .0 .0 .0 .0 .0 .0 .0 .0 .1 (sym e)),
       ne-eqb 19 n (λ e. other .0 .0 .0 .0 .0 .0 .0 .0 .0 .0 .0 .1 (sym e)),
@@ -429,6 +473,14 @@ words-spec =
     held-requires-31
     slice-aggregate-held-32
     held-requires-32
+    slice-aggregate-held-33
+    held-requires-33
+    slice-aggregate-held-34
+    held-requires-34
+    slice-aggregate-held-35
+    held-requires-35
+    slice-aggregate-held-36
+    held-requires-36
     returns
     returns-2
     returns-3
@@ -460,4 +512,8 @@ words-spec =
     returns-29
     returns-30
     returns-31
-    returns-32)
+    returns-32
+    returns-33
+    returns-34
+    returns-35
+    returns-36)

@@ -1,7 +1,6 @@
 //! Day logs replayed.
 
-use model::journal::Fault;
-use model::replay;
+use model::{replay, Fault};
 use relay::{Replayed, Table};
 
 use crate::convert::core_table;

@@ -1,6 +1,6 @@
 //! Taking a line.
 
-use model::refusal::number_of;
+use model::refusal::number_and_place;
 use model::relay::{take as model_take, Relayed};
 use model::Table;
 
@@ -50,7 +50,8 @@ pub fn compare_take(table: &mut Table, link: u32, line: &[u8], out: Lent, tally:
     let mut model_out = out.clone();
     let expected = model_take(table, link, line, model_out.room());
 
-    assert_eq!(answer.number, number_of(&expected), "{}\n{before:?}", told());
+    let number_and_place = number_and_place(&expected);
+    assert_eq!((answer.number, answer.place), number_and_place, "{}\n{before:?}", told());
     let relayed = expected.unwrap_or_default();
     let answered = Relayed { set: answer.set, count: answer.count, len: answer.len };
     assert_eq!(answered, relayed, "{}\n{before:?}", told());

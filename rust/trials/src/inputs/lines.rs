@@ -49,7 +49,7 @@ struct Join {
 }
 
 /// An SJOIN, perhaps with one thing wrong.
-fn sjoin(rng: &mut Rng) -> Vec<u8> {
+pub fn sjoin(rng: &mut Rng) -> Vec<u8> {
     let time = words::time(rng).to_string().into_bytes();
     let entries = if rng.one_in(4) { rng.between(1, 44) } else { rng.between(1, 5) };
     let (letters, words) = modes(rng);
@@ -119,17 +119,22 @@ fn modes(rng: &mut Rng) -> (Vec<u8>, Vec<Vec<u8>>) {
     (letters, words)
 }
 
+/// Letters with a thing or more wrong with them, at any place: one is unknown or stands twice, or
+/// there is no '+' first.
 fn bad_letters(rng: &mut Rng, letters: &[u8]) -> Vec<u8> {
     let mut bad = letters.to_vec();
-    match rng.below(5) {
-        0 => bad[0] = b'-',
-        1 => bad.push(rng.pick(b"aAIo+- \x80")),
-        2 => bad.extend(letters),
-        3 => bad.push(rng.pick(LETTERS)),
-        _ => drop(bad.remove(0)),
-    }
-    if bad.is_empty() {
-        bad.push(b'n');
+    for _ in 0..rng.pick(&[1, 1, 2, 3]) {
+        let place = rng.between(1, bad.len());
+        match rng.below(12) {
+            0 => bad[0] = rng.pick(b"-nxk"),
+            1 if bad.len() > 1 => drop(bad.remove(0)),
+            2..=4 => bad.insert(place, rng.pick(b"aAIo+- \x80")),
+            5..=6 => bad.insert(place, rng.pick(LETTERS)),
+            _ => {
+                let again = bad.get(rng.between(1, bad.len())).copied().unwrap_or(b'n');
+                bad.insert(place, again);
+            }
+        }
     }
     bad
 }
@@ -143,11 +148,21 @@ fn spoil_words(rng: &mut Rng, words: &mut Vec<Vec<u8>>) {
     }
 }
 
+/// Makes the key or the limit bad, or both of them in either order.
 fn spoil_key_or_limit(rng: &mut Rng, join: &mut Join) {
-    let (letters, word): (&[u8], _) =
-        if rng.one_in(2) { (b"+k", words::bad_key(rng)) } else { (b"+l", words::bad_limit(rng)) };
+    let letters: &[u8] = rng.pick(&[b"+k".as_slice(), b"+nk", b"+l", b"+lt", b"+kl", b"+lk"]);
+    let mut words = Vec::new();
+    for letter in letters {
+        match (letter, rng.one_in(4)) {
+            (b'k', true) => words.push(words::key(rng)),
+            (b'k', false) => words.push(words::bad_key(rng)),
+            (b'l', true) => words.push(words::limit(rng).to_string().into_bytes()),
+            (b'l', false) => words.push(words::bad_limit(rng)),
+            _ => {}
+        }
+    }
     join.letters = letters.to_vec();
-    join.words = vec![word];
+    join.words = words;
 }
 
 /// A list of that many entries, ids in any order and sometimes twice.
@@ -293,8 +308,8 @@ fn other(rng: &mut Rng) -> Vec<u8> {
     message(rng, prefix, command, &params)
 }
 
-/// A message as a line: the letters of its command in any case, perhaps more SPACEs than it needs,
-/// perhaps a ':' before the last parameter that it doesn't need.
+/// A message as a line: the letters of its command in any case, perhaps more SPACEs than it needs, at
+/// its end too, perhaps a ':' before the last parameter that it doesn't need.
 fn message(rng: &mut Rng, prefix: Option<&[u8]>, command: &[u8], params: &[Vec<u8>]) -> Vec<u8> {
     let mut line = Vec::new();
     if let Some(prefix) = prefix.filter(|_| !rng.one_in(30)) {
@@ -310,6 +325,9 @@ fn message(rng: &mut Rng, prefix: Option<&[u8]>, command: &[u8], params: &[Vec<u
             line.push(b':');
         }
         line.extend(param);
+    }
+    if rng.one_in(16) {
+        gap(rng, &mut line);
     }
     line.extend(b"\r\n");
     line

@@ -4,10 +4,10 @@ use model::journal::{self, HEAD};
 use model::line::LINE;
 use model::refusal::number_of;
 use model::replay::START;
-use model::Refusal;
 
 use super::lines;
 use crate::rng::Rng;
+use crate::TAKING;
 
 /// The record of a line of at most 512 bytes on a link up to 31.
 pub fn record(link: u32, line: &[u8]) -> Vec<u8> {
@@ -42,7 +42,7 @@ fn bytes(rng: &mut Rng, length: usize) -> Vec<u8> {
 pub fn day(rng: &mut Rng, lines: usize) -> Vec<u8> {
     let mut table = START;
     let mut log = Vec::new();
-    let wanted = rng.between(0, usize::from(Refusal::ManyMasks.number())) as u8;
+    let wanted = rng.pick(TAKING);
     for _ in 0..lines {
         let line = lines::line(rng, &table);
         let link = rng.below(32) as u32;

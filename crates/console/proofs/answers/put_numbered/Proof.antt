@@ -1,4 +1,4 @@
--- `put_numbered` meets its contract: mark, SPACE, digits and LF are added one after the other. Assumes nothing.
+-- `put_numbered` meets its contract: mark, number, place, words and LF are added one after the other. Assumes nothing.
 use mathlib.Core.List.{[], _∷_}
 use borrow.Author.Needs.{needs}
 use Rattle.octets.specs.Bytes.{lf, space}
@@ -15,6 +15,9 @@ put-requires c κs = search needs
 
 put-decimal-requires : tie.Need-put-decimal-requires
 put-decimal-requires c κs = search needs
+
+put-place-requires : tie.Need-put-place-requires
+put-place-requires c κs = search needs
 
 put-words-requires : tie.Need-put-words-requires
 put-words-requires c κs = search needs
@@ -33,12 +36,15 @@ unfolding numberedText
 returns c =
     let ended = c .before .before in
     let words = ended .before .before .before .before .before in
-    let digits = words .before .before .before .before in
+    let placed = words .before .before .before .before in
+    let digits = placed .before .before .before .before in
     let opened = digits .before .before .before .before in
     let a = opened .before .before .before .before .args in
     adds-then _ _ _ _ _ _ _ (lf ∷ [])
     (adds-then _ _ _ _ _ _ _ _
+    (adds-then _ _ _ _ _ _ _ _
     (adds-then _ _ _ _ _ _ (a .mark ∷ space ∷ []) _ (added _ _ _ _ _ (opened .put .ensures .0) (opened .put .ensures .1)) (added _ _ _ _ _ (digits .put-decimal .ensures .0) (digits .put-decimal .ensures .1)))
+    (placed .put-place .ensures))
     (words .put-words .ensures))
     (added _ _ _ _ _ (ended .put2 .ensures .0) (ended .put2 .ensures .1))
 
@@ -49,6 +55,7 @@ put-numbered-spec =
     slice-aggregate-put
     put-requires
     put-decimal-requires
+    put-place-requires
     put-words-requires
     slice-aggregate-put-2
     put-requires-2

@@ -1,12 +1,12 @@
 -- `part_request` meets its contract: each return is the first rule that applies, after those that passed. Assumes nothing.
-use mathlib.Core.Path.{_≡_, sym, ap, _∙_}
+use mathlib.Core.Path.{_≡_, refl, sym, ap, _∙_}
 use mathlib.Core.Bool.{Bool, true, false}
 use Prim.Native.Nat.{ℕ, _≤_, min}
 use native.Mathlib.Omega.{arith}
 use lib.ListN.{length}
 use borrow.Author.Tests.{not-true, not-false}
 use borrow.Author.Needs.{needs}
-use Rattle.refusal.specs.Numbers.{accepted}
+use Rattle.refusal.specs.Numbers.{accepted, isModeNumber}
 use Rattle.refusal.specs.Rules.{firstOf}
 use Rattle.laws.proofs.Lists.{unmapped}
 use Rattle.names.specs.Names.{isChannel, isUserId}
@@ -20,7 +20,7 @@ use Rattle.relay.specs.Part.{partedIn, partRules}
 use Rattle.relay.specs.Private.Work.{nothing}
 use Rattle.relay.specs.Private.Commands.{askedBy}
 use Rattle.relay.proofs.Users.{user-told, user-held}
-use Rattle.relay.proofs.Asking.{asked-refused, asked-passes}
+use Rattle.relay.proofs.Asking.{asked-plain, asked-passes}
 use Rattle.relay.proofs.Part.{part-few, part-many, part-unsourced, part-unnamed, part-passes}
 use Rattle.relay.proofs.parting.part_request.Statement.{statement}
 use Rattle.relay.proofs.parting.part_request.Tie as tie
@@ -64,8 +64,8 @@ channel : (c : tie.After-is-channel) (t : Bool) → c .is-channel .result ≡ t 
 channel c t e = ap isChannel (sym (c .before .param-in .ensures .0)) ∙ sym (c .is-channel .ensures) ∙ e
 
 -- ---- a refusal
-refuses : (c : tie.Start) (k : ℕ) (q : Asked) → q ≡ nothing k → (k ≡ accepted → ⊥) → firstOf (partRules (content c)) ≡ k → q ≡ askedBy Part (c .args .t2) (content c)
-refuses c k q e ne f = e ∙ asked-refused Part (c .args .t2) (content c) k f ne
+refuses : (c : tie.Start) (k : ℕ) (q : Asked) → q ≡ nothing k 0 → (k ≡ accepted → ⊥) → isModeNumber k ≡ false → firstOf (partRules (content c)) ≡ k → q ≡ askedBy Part (c .args .line .now) (c .args .t2)
+refuses c k q e ne p f = e ∙ asked-plain Part (c .args .line .now) (c .args .t2) k f ne p
 
 -- ---- the needs
 
@@ -75,7 +75,7 @@ nothing-requires c κs = search needs
 returns : tie.Need-returns
 returns c =
     let s = c .before .before .before in
-    refuses s _ (c .nothing .result) (c .nothing .ensures) (λ z. omega (arith, z)) (part-few (content s) (omega (arith, c .before .if1 .taken, count s)))
+    refuses s _ (c .nothing .result) (c .nothing .ensures) (λ z. omega (arith, z)) refl (part-few (content s) (omega (arith, c .before .if1 .taken, count s)))
 
 nothing-requires-2 : tie.Need-nothing-requires-2
 nothing-requires-2 c κs = search needs
@@ -84,7 +84,7 @@ returns-2 : tie.Need-returns-2
 returns-2 c =
     let one = c .before .before in
     let s = first one in
-    refuses s _ (c .nothing2 .result) (c .nothing2 .ensures) (λ z. omega (arith, z)) (part-many (content s) (some one) (omega (arith, c .before .if2 .taken, count s)))
+    refuses s _ (c .nothing2 .result) (c .nothing2 .ensures) (λ z. omega (arith, z)) refl (part-many (content s) (some one) (omega (arith, c .before .if2 .taken, count s)))
 
 prefix-in-requires : tie.Need-prefix-in-requires
 prefix-in-requires c κs = search needs
@@ -100,7 +100,7 @@ returns-3 c =
     let source = c .before .before in
     let two = second source in
     let s = counted two in
-    refuses s _ (c .nothing3 .result) (c .nothing3 .ensures) (λ z. omega (arith, z))
+    refuses s _ (c .nothing3 .result) (c .nothing3 .ensures) (λ z. omega (arith, z)) refl
     (part-unsourced (content s) (some (two .before)) (few two) (sourced source false (not-true _ (c .before .if3 .taken))))
 
 param-in-requires : tie.Need-param-in-requires
@@ -118,7 +118,7 @@ returns-4 c =
     let three = third name in
     let two = second (three .before) in
     let s = counted two in
-    refuses s _ (c .nothing4 .result) (c .nothing4 .ensures) (λ z. omega (arith, z))
+    refuses s _ (c .nothing4 .result) (c .nothing4 .ensures) (λ z. omega (arith, z)) refl
     (part-unnamed (content s) (some (two .before)) (few two) (user three) (channel name false (not-true _ (c .before .if4 .taken))))
 
 element-copy-out-name : tie.Need-element-copy-out-name
@@ -138,7 +138,7 @@ returns-5 c =
     let s = counted two in
     let source = three .before .before .prefix-in in
     rw (c .empty .ensures .0, user-held (content s) (source .result .now) (source .ensures .0) (user three) _ (c .before .user-id .ensures))
-    (asked-passes Part (s .args .t2) (content s) (part-passes (content s) (some (two .before)) (few two) (user three) (channel (four .before) true (not-false _ (four .if4 .left)))))
+    (asked-passes Part (s .args .line .now) (s .args .t2) (part-passes (content s) (some (two .before)) (few two) (user three) (channel (four .before) true (not-false _ (four .if4 .left)))))
 
 pub part-request-spec : {M : Type 1} → statement M
 part-request-spec =

@@ -1,12 +1,12 @@
 -- `quit_request` meets its contract: each return is the first rule that applies, after those that passed. Assumes nothing.
-use mathlib.Core.Path.{_≡_, _∙_}
-use mathlib.Core.Bool.{Bool, true}
+use mathlib.Core.Path.{_≡_, refl, _∙_}
+use mathlib.Core.Bool.{Bool, true, false}
 use Prim.Native.Nat.{ℕ, _≤_, min}
 use native.Mathlib.Omega.{arith}
 use lib.ListN.{length}
 use borrow.Author.Tests.{not-true, not-false}
 use borrow.Author.Needs.{needs}
-use Rattle.refusal.specs.Numbers.{accepted}
+use Rattle.refusal.specs.Numbers.{accepted, isModeNumber}
 use Rattle.refusal.specs.Rules.{firstOf}
 use Rattle.laws.proofs.Lists.{unmapped}
 use Rattle.names.specs.Names.{isUserId}
@@ -20,7 +20,7 @@ use Rattle.relay.specs.Quit.{quitRules}
 use Rattle.relay.specs.Private.Work.{nothing}
 use Rattle.relay.specs.Private.Commands.{askedBy}
 use Rattle.relay.proofs.Users.{user-told, user-held}
-use Rattle.relay.proofs.Asking.{asked-refused, asked-passes}
+use Rattle.relay.proofs.Asking.{asked-plain, asked-passes}
 use Rattle.relay.proofs.Quit.{quit-many, quit-unsourced, quit-passes}
 use Rattle.relay.proofs.quitting.quit_request.Statement.{statement}
 use Rattle.relay.proofs.quitting.quit_request.Tie as tie
@@ -46,8 +46,8 @@ sourced : (c : tie.After-is-user-id) (t : Bool) → c .is-user-id .result ≡ t 
 sourced c t e = user-told (content (judged c)) (c .before .prefix-in .result .now) (c .before .prefix-in .ensures .0) _ t (c .is-user-id .ensures) e
 
 -- ---- a refusal
-refuses : (c : tie.Start) (k : ℕ) (q : Asked) → q ≡ nothing k → (k ≡ accepted → ⊥) → firstOf (quitRules (content c)) ≡ k → q ≡ askedBy Quit (c .args .m) (content c)
-refuses c k q e ne f = e ∙ asked-refused Quit (c .args .m) (content c) k f ne
+refuses : (c : tie.Start) (k : ℕ) (q : Asked) → q ≡ nothing k 0 → (k ≡ accepted → ⊥) → isModeNumber k ≡ false → firstOf (quitRules (content c)) ≡ k → q ≡ askedBy Quit (c .args .line .now) (c .args .m)
+refuses c k q e ne p f = e ∙ asked-plain Quit (c .args .line .now) (c .args .m) k f ne p
 
 -- ---- the needs
 
@@ -57,7 +57,7 @@ nothing-requires c κs = search needs
 returns : tie.Need-returns
 returns c =
     let s = c .before .before .before in
-    refuses s _ (c .nothing .result) (c .nothing .ensures) (λ z. omega (arith, z)) (quit-many _ (omega (arith, c .before .if1 .taken, count s)))
+    refuses s _ (c .nothing .result) (c .nothing .ensures) (λ z. omega (arith, z)) refl (quit-many _ (omega (arith, c .before .if1 .taken, count s)))
 
 prefix-in-requires : tie.Need-prefix-in-requires
 prefix-in-requires c κs = search needs
@@ -71,7 +71,7 @@ nothing-requires-2 c κs = search needs
 returns-2 : tie.Need-returns-2
 returns-2 c =
     let u = c .before .before in
-    refuses (judged u) _ (c .nothing2 .result) (c .nothing2 .ensures) (λ z. omega (arith, z)) (quit-unsourced _ (few (u .before .before)) (sourced u _ (not-true _ (c .before .if2 .taken))))
+    refuses (judged u) _ (c .nothing2 .result) (c .nothing2 .ensures) (λ z. omega (arith, z)) refl (quit-unsourced _ (few (u .before .before)) (sourced u _ (not-true _ (c .before .if2 .taken))))
 
 user-id-requires : tie.Need-user-id-requires
 user-id-requires c κs = search needs
@@ -85,7 +85,7 @@ returns-3 c =
     let s = judged u in
     let source = u .before .prefix-in in
     let user : prefixIs isUserId (content s .prefix) ≡ true = sourced u _ (not-false _ (c .before .before .if2 .left)) in
-    rw (c .empty .ensures .0, user-held (content s) (source .result .now) (source .ensures .0) user _ (c .before .user-id .ensures)) (asked-passes Quit (s .args .m) (content s) (quit-passes _ (few (u .before .before)) user))
+    rw (c .empty .ensures .0, user-held (content s) (source .result .now) (source .ensures .0) user _ (c .before .user-id .ensures)) (asked-passes Quit (s .args .line .now) (s .args .m) (quit-passes _ (few (u .before .before)) user))
 
 pub quit-request-spec : {M : Type 1} → statement M
 quit-request-spec =

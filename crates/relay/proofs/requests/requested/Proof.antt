@@ -10,8 +10,6 @@ use Rattle.refusal.proofs.Rules.{stop}
 use Rattle.octets.specs.Bytes.{capital}
 use Rattle.message.specs.declared.Message.{Message}
 use Rattle.message.specs.declared.Parsed.{Parsed}
-use Rattle.message.specs.Content.{Content}
-use Rattle.message.specs.Parts.{contentBy}
 use Rattle.message.specs.Reading.{readingOf, isRead}
 use Rattle.message.proofs.Readings.{reading-line, reading-refused, read-small, answers}
 use Rattle.relay.specs.declared.Command.{Command}
@@ -21,7 +19,7 @@ use Rattle.relay.specs.Commands.{meaningOf, commandAmong, commandOf}
 use Rattle.relay.specs.Private.Work.{nothing}
 use Rattle.relay.specs.Private.Commands.{askedBy, askedOf}
 use Rattle.relay.proofs.Words.{isWord, among-here, among-next, among-none}
-use Rattle.relay.proofs.Asking.{asked-refused, asked-unread, asked-parts}
+use Rattle.relay.proofs.Asking.{asked-plain, asked-unread, asked-parts}
 use Rattle.relay.proofs.requests.requested.Statement.{statement}
 use Rattle.relay.proofs.requests.requested.Tie as tie
 
@@ -45,14 +43,11 @@ start c = c .before .before .before .before .before
 abbrev message : Worded → Message
 message c = start c .args .parsed .message
 
-abbrev content : Worded → Content
-content c = contentBy (line (start c)) (message c)
-
 abbrev word : Worded → List ℕ
 word c = c .command-in .result .now
 
 -- what the command of the word asks for
-asks : (c : Worded) (k : Command) → commandOf (word c) ≡ k → (q : Asked) → q ≡ askedBy k (message c) (content c) → q ≡ askedOf (line (start c))
+asks : (c : Worded) (k : Command) → commandOf (word c) ≡ k → (q : Asked) → q ≡ askedBy k (line (start c)) (message c) → q ≡ askedOf (line (start c))
 asks c k e q f =
     let s = start c in
     asked-parts (line s) (read (c .before .before)) (message c) (ap (λ (x : Parsed). x .message) (s .pre)) k (ap commandOf (sym (c .command-in .ensures .0)) ∙ e) q f
@@ -107,7 +102,7 @@ returns c =
     let s = c .before .before .before .before .before in
     let unread : isRead (line s) ≡ false = reading-refused (line s) _ (sym (reading s) ∙ c .before .before .enum-told2 .given .1) in
     let number = c .before .number .ensures ∙ answers (line s) (s .args .parsed) (s .pre) .1 .0 in
-    c .nothing .ensures ∙ ap nothing number ∙ asked-unread (line s) unread
+    c .nothing .ensures ∙ ap (λ (k : ℕ). nothing k 0) number ∙ asked-unread (line s) unread
 
 command-in-requires : tie.Need-command-in-requires
 command-in-requires c κs = search needs
@@ -180,7 +175,7 @@ returns-6 c =
     let e = q .before .before in
     let w = after3 e in
     let unknown = not-quit e ∙ among-next Bmask _ (word w) (is-mask q ∙ c .before .if4 .left) ∙ among-none (word w) in
-    asks w Unknown unknown (c .nothing2 .result) (c .nothing2 .ensures ∙ asked-refused Unknown _ (content w) _ (stop _ _ refl) (λ z. omega (arith, z)))
+    asks w Unknown unknown (c .nothing2 .result) (c .nothing2 .ensures ∙ asked-plain Unknown (line (start w)) (message w) _ (stop _ _ refl) (λ z. omega (arith, z)) refl)
 
 pub requested-spec : {M : Type 1} → statement M
 requested-spec =

@@ -190,6 +190,7 @@ fn lines() -> Vec<(String, Vec<u8>)> {
         ("QUIT".to_string(), quit()),
         ("refused by 11".to_string(), unknown()),
         ("refused by 18, at the last of 47 members".to_string(), bad_join()),
+        ("refused by 36, before 47 members".to_string(), bad_limit()),
     ]);
     lines
 }
@@ -220,6 +221,12 @@ fn bad_join() -> Vec<u8> {
     let last = line.len() - 3;
     line[last] = b'x';
     line
+}
+
+fn bad_limit() -> Vec<u8> {
+    let line = join("#race", TIME, 47, false);
+    let letters = line.windows(3).position(|part| part == b"+nt").expect("the modes");
+    [&line[..letters], b"+l 0", &line[letters + 3..]].concat()
 }
 
 fn new_channels(table: &Table) -> impl Iterator<Item = Case> + '_ {

@@ -66,7 +66,7 @@ fn by_model(case: &Case) -> impl FnMut() -> u8 + '_ {
         if let Some(slot) = changed {
             table.0.bans[slot] = start.bans[slot];
         }
-        number_of(&model::relay::take(&mut table.0, LINK, &case.line, &mut out.0))
+        number_before(number_of(&model::relay::take(&mut table.0, LINK, &case.line, &mut out.0)))
     }
 }
 
@@ -82,7 +82,16 @@ fn by_library<'a>(
         let start = black_box(&start.0);
         table.0.head.clone_from(&start.head);
         table.0.bans[changed.clone()].copy_from_slice(&start.bans[changed.clone()]);
-        take(&mut table.0, LINK, &case.line, &mut out.0).number
+        number_before(take(&mut table.0, LINK, &case.line, &mut out.0).number)
+    }
+}
+
+/// The number of a line as every library gives it: an earlier one may have 17 in the place of 32 to 36.
+fn number_before(number: u8) -> u8 {
+    if matches!(number, 32..=36) {
+        17
+    } else {
+        number
     }
 }
 
