@@ -251,20 +251,36 @@ static void emptied(relay_table *table)
     print_channels(table);
 }
 
-/* The parts of a line, and the line written again in the one fixed form. */
+/* Writes a line again in the one fixed form. */
+static void print_again(relay_bytes line, relay_message message)
+{
+    uint8_t out[RELAY_LINE];
+    relay_written written = relay_write(line, message, relay_room_of(out, sizeof out));
+    print(relay_bytes_of(out, written.len));
+}
+
+/* The parts of a line, and the line written again. */
 static void parts(void)
 {
     relay_bytes line = text(":a  X b :\r\n");
     relay_message message = relay_parts(line);
-    uint8_t out[RELAY_LINE];
-    relay_written written = relay_write(line, message, relay_room_of(out, sizeof out));
     printf("prefix \"");
     print(relay_part(line, message.prefix));
     printf("\" command \"");
     print(relay_command(line));
     printf("\" parameters %zu, the second of %zu bytes: ", message.count, relay_param(line, 1).len);
-    print(relay_bytes_of(out, written.len));
+    print_again(line, message);
     printf("not a line: %d, an empty one: %d\n", relay_read(text("X")).number, relay_read(text("\r\n")).number);
+}
+
+/* Behind fourteen parameters comes free text, with ':' or without. It is the fifteenth, and is written without where it can be. */
+static void free_text(relay_bytes line)
+{
+    relay_message message = relay_parts(line);
+    printf("parameters %zu, the last \"", message.count);
+    print(relay_param(line, RELAY_PARAMS - 1));
+    printf("\": ");
+    print_again(line, message);
 }
 
 /* Whether of two equal keys the first is handed back: its very bytes, not those of the other. */
@@ -396,6 +412,9 @@ int main(void)
     merge(&table);
     emptied(&table);
     parts();
+    free_text(text("X a b c d e f g h i j k l m n wind west, 12 knots\r\n"));
+    free_text(text("X a b c d e f g h i j k l m n  :wind west, 12 knots\r\n"));
+    free_text(text("X a b c d e f g h i j k l m n : \r\n"));
     names_masks_keys();
     day_log();
     read_back();

@@ -84,6 +84,17 @@ printf '= 0\n= 0\n! 32 18\n! 32 18\n! 33 18\n! 33 18\n! 34 28\n! 34 28\n! 35 19\
 same "places at fault" "$room/out" "$room/expected"
 same "a line refused at a place isn't kept" "$room/none" /dev/null
 
+# ---- lines of more than fourteen words: what stands behind the fourteenth is the fifteenth parameter, and the command decides
+{
+    printf '+1\n'
+    for words in 'a b c d e f g h i j k l m n o p' 'a b c d e f g h i j k l m n :o p' 'a b c d e f g h i j k l m n o p q r s t  '; do
+        printf '1 X %s\r\n1 :1CB SJOIN %s\r\n1 QUIT %s\r\n' "$words" "$words" "$words"
+    done
+} | $console "$room/words" >"$room/out"
+printf '= 0\n! 11\n! 12\n! 12\n! 11\n! 12\n! 12\n! 11\n! 12\n! 12\n' >"$room/expected"
+same "lines of many words" "$room/out" "$room/expected"
+same "a line of many words isn't kept" "$room/words" /dev/null
+
 # ---- the journal: the accepted lines of the day, and those alone
 {
     record 1 ':1CB SJOIN 70030 #penalty +n :@1CBAAAAAA'

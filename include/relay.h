@@ -62,7 +62,7 @@ extern "C" {
 #endif
 
 /* The version of the whole project, as the file VERSION has it. */
-#define RELAY_VERSION "0.9.0"
+#define RELAY_VERSION "0.10.0"
 
 /* The bytes of stack that are enough for a call. */
 #define RELAY_STACK 131072
@@ -91,10 +91,10 @@ enum {
 /* ---- the numbers of refusals ---- */
 
 /*
- * Where several apply, the first in this order is given: 1 to 16, 32 to 36, 18, 26, 19 to 22, 27, 23 to 25. So what a line says by itself
- * is judged before its channel is looked for, and what would result after that. Of 32 to 36, which are of an SJOIN's modes, the earliest
- * place in the line decides, not their order; `relay_taken` has the place. 28 to 31 stand apart: they are a day log's, and of these the
- * first byte at fault decides.
+ * Where several apply, the first in this order is given: 1 to 9, 11 to 16, 32 to 36, 18, 26, 19 to 22, 27, 23 to 25. So what a line says
+ * by itself is judged before its channel is looked for, and what would result after that. Of 32 to 36, which are of an SJOIN's modes, the
+ * earliest place in the line decides, not their order; `relay_taken` has the place. 28 to 31 stand apart: they are a day log's, and of
+ * these the first byte at fault decides.
  */
 enum {
     RELAY_ACCEPTED = 0,
@@ -107,7 +107,7 @@ enum {
     RELAY_EMPTY_LINE = 7,          /* only CR LF */
     RELAY_EMPTY_PREFIX = 8,        /* prefix empty */
     RELAY_BAD_COMMAND = 9,         /* command malformed or missing */
-    RELAY_TOO_MANY_PARAMS = 10,    /* a sixteenth parameter */
+    RELAY_TOO_MANY_PARAMS = 10,    /* no longer given since 0.10.0; what follows fourteen parameters is the fifteenth, however many words */
     RELAY_UNKNOWN_COMMAND = 11,    /* command not SJOIN, PART, QUIT or BMASK */
     RELAY_WRONG_PARAM_COUNT = 12,  /* parameters not 4 to 6 (SJOIN), 1 to 2 (PART), 0 to 1 (QUIT), 4 (BMASK) */
     RELAY_BAD_SOURCE = 13,         /* prefix missing or not a server id (SJOIN, BMASK), user id (PART, QUIT) */
@@ -142,7 +142,7 @@ typedef struct relay_text {
     size_t len;
 } relay_text;
 
-/* The words of a number of the list above, as "user not in it" of 20; no words of 0, of 17 and of any other number. */
+/* The words of a number of the list above, as "user not in it" of 20; no words of 0, of 10, of 17 and of any other number. */
 relay_text relay_refusal_text(uint8_t number);
 
 /* ---- lent bytes ---- */
@@ -197,7 +197,11 @@ typedef struct relay_matched {
     bool yes;
 } relay_matched;
 
-/* Reads a line by RFC 1459's grammar. Numbers 4 to 10. */
+/*
+ * Reads a line by RFC 1459's grammar, and the fifteenth parameter by RFC 2812's: after fourteen parameters, none with ':' before it, and
+ * the SPACEs that follow, all that remains is the fifteenth, SPACEs at its end too, less one ':' if it begins with one. Where nothing
+ * remains there are fourteen. Numbers 4 to 9.
+ */
 relay_line_read relay_read(relay_bytes line);
 
 /* The parts of a line, by their places. Of a line that isn't read each is the empty span at its end, and the count is 0. */
@@ -205,7 +209,8 @@ relay_message relay_parts(relay_bytes line);
 
 /*
  * Writes the message whose parts are spans of `text`: one SPACE between parts, ':' before the last parameter exactly if it is empty,
- * starts with ':' or holds a SPACE, CR LF at the end. The command is written as it is spelled. Numbers 2, 24, 25.
+ * starts with ':' or holds a SPACE, before a fifteenth exactly if it is empty or starts with ':' or SPACE, CR LF at the end. The command
+ * is written as it is spelled. Numbers 2, 24, 25.
  */
 relay_written relay_write(relay_bytes text, relay_message message, relay_room out);
 
@@ -422,7 +427,7 @@ relay_banned relay_is_banned(relay_head head, const uint8_t *bans, relay_bytes n
  *     :sid BMASK time name b list                       the masks are added to the channel's ban list
  * and writes the line to send on to the front of `out`. It goes to every registered link but the one it came by. A channel whose last
  * user leaves is gone, and its list with it. A BMASK that is later than its channel is accepted and goes nowhere: nothing is changed or
- * written, and set, count and len are 0. Numbers 1 to 16, 18 to 22, 26, 27, 32 to 36.
+ * written, and set, count and len are 0. Numbers 1 to 9, 11 to 16, 18 to 22, 26, 27, 32 to 36.
  *
  * With 32 to 36 the place is where in the line, counted from 0 at its first byte, what is at fault begins: an unknown letter, or the first
  * byte of modes that don't begin with '+' (32); the second of a letter that stands twice (33); the first of the parameters that are too

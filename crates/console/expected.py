@@ -120,6 +120,26 @@ CASES += [
     (b"999999999 QUIT\r\n", refused(3)),
 ]
 
+# ---- sixteen words behind a command: what follows the fourteenth is one parameter, so that the line is read and refused by its command
+SIXTEEN = b" ".join(b"%d" % n for n in range(1, 17))
+CASES += [
+    (b"1 PING " + SIXTEEN + b"\r\n", refused(11)),
+    (b"1 :1CBAAAAAA NOTICE " + SIXTEEN + b" and free text :without the colon\r\n", refused(11)),
+    (b"1 :1CB SJOIN " + SIXTEEN + b"\r\n", refused(12)),
+    (b"1 :1CB BMASK " + SIXTEEN + b"\r\n", refused(12)),
+    (b"31 :1CBAAAAAA PART " + SIXTEEN + b"\r\n", refused(12)),
+    (b"31 QUIT " + SIXTEEN + b"\r\n", refused(12)),
+    # what is judged before the command comes first
+    (b"4 QUIT " + SIXTEEN + b"\r\n", refused(3)),
+    (b"1 QUIT " + SIXTEEN + b" " * 512 + b"\r\n", refused(4)),
+    (b"1 QUIT " + SIXTEEN + b"\n", refused(5)),
+    (b"1 QUIT " + SIXTEEN + b"\0\r\n", refused(6)),
+    (b"1 : QUIT " + SIXTEEN + b"\r\n", refused(8)),
+    (b"1 12 " + SIXTEEN + b"\r\n", refused(9)),
+    # behind ':' they are a reason, here of a user who is in no channel
+    (b"31 :1CBAAAAAZ QUIT :" + SIXTEEN + b"\r\n", b"0,1,2,3 :1CBAAAAAZ QUIT :" + SIXTEEN + b"\r\n"),
+]
+
 # ---- modes that are refused, and where: the place counts from 0 in the link's line, where the modes stand at 16
 CASES += [
     # no '+' first; a '+' later; a letter that is none; of two faults the first

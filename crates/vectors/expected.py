@@ -76,9 +76,9 @@ An empty line follows each record's.
 
 What is below is made from the text of document 01 ("Reading one line",
 "Names and ids", "SJOIN", "What goes out", "The numbers a caller may get") and
-of document 02, sections 2, 4 and 6, alone. It shares nothing with the program
-that it judges. A mask is followed through all places of the text at once, so
-that many stars (02, section 3) take no longer than few.
+of document 02, sections 2, 4, 6 and 7, alone. It shares nothing with the
+program that it judges. A mask is followed through all places of the text at
+once, so that many stars (02, section 3) take no longer than few.
 """
 
 import argparse
@@ -133,13 +133,16 @@ def unescape(text: bytes) -> bytes:
 
 
 def filled(size: bytes, byte: bytes, text: bytes, end: bytes) -> bytes:
-    """Expand the '...' of a text to give it `size` bytes, its end counted."""
+    """Expand the '...' of a text to give it `size` bytes, its end counted.
+
+    Several bytes are repeated in turn, the last time perhaps in part.
+    """
     before, after = text.split(b"...")
     head, tail = unescape(before), unescape(after) + end
     missing = int(size) - len(head) - len(tail)
     if missing < 1:
         raise ValueError(f"no room to fill: {text!r}")
-    return head + missing * unescape(byte) + tail
+    return head + (missing * unescape(byte))[:missing] + tail
 
 
 def filled_pair(arguments: bytes) -> bytes:
@@ -214,6 +217,7 @@ def example_records(source: bytes) -> List[Record]:
 
 LONGEST_LINE = 512
 MOST_PARAMETERS = 15
+MOST_MIDDLES = 14
 COMMAND = re.compile(rb"[A-Za-z]+|[0-9]{3}")
 WORD = re.compile(rb"[^ ]+")
 
@@ -266,15 +270,18 @@ def split_prefix(text: bytes) -> Tuple[Optional[bytes], bytes]:
 
 
 def split_parameters(rest: bytes) -> List[bytes]:
-    """Return all parameters in the text after the command, however many."""
+    """Return all parameters in the text after the command.
+
+    What remains after fourteen middles is one, less a ':' at its start.
+    """
     parameters = []
     rest = rest.lstrip(SPACE)
-    while rest and not rest.startswith(COLON):
+    while rest and not rest.startswith(COLON) and len(parameters) < MOST_MIDDLES:
         middle, _, rest = rest.partition(SPACE)
         parameters.append(middle)
         rest = rest.lstrip(SPACE)
-    if rest.startswith(COLON):
-        parameters.append(rest[1:])
+    if rest:
+        parameters.append(rest[1:] if rest.startswith(COLON) else rest)
     return parameters
 
 
@@ -282,7 +289,7 @@ def parameter_places(text: bytes) -> Tuple[int, ...]:
     """Return where each parameter of a text begins, and then its length."""
     words = list(WORD.finditer(text))[2 if text.startswith(COLON) else 1 :]
     places = []
-    for word in words:
+    for word in words[:MOST_PARAMETERS]:
         trailing = word.group().startswith(COLON)
         places.append(word.start() + trailing)
         if trailing:
@@ -298,19 +305,20 @@ def read(line: bytes) -> Message:
     command, _, rest = after_prefix.partition(SPACE)
     if not COMMAND.fullmatch(command):
         raise Refused(9)
-    parameters = split_parameters(rest)
-    if len(parameters) > MOST_PARAMETERS:
-        raise Refused(10)
     places = parameter_places(line[: -len(CR_LF)])
-    return Message(prefix, command, parameters, places)
+    return Message(prefix, command, split_parameters(rest), places)
 
 
 # --- Writing one line -------------------------------------------------------
 
 
-def last_parameter(parameter: bytes) -> bytes:
-    """Put ':' before the last parameter where the fixed form asks for it."""
-    if parameter == b"" or parameter.startswith(COLON) or SPACE in parameter:
+def last_parameter(parameter: bytes, count: int) -> bytes:
+    """Put ':' before the last parameter where the fixed form asks for it.
+
+    Of a fifteenth parameter only the first byte counts.
+    """
+    judged = parameter[:1] if count == MOST_PARAMETERS else parameter
+    if judged == b"" or judged.startswith(COLON) or SPACE in judged:
         return COLON + parameter
     return parameter
 
@@ -323,7 +331,8 @@ def write(message: Message) -> bytes:
     parts.append(message.command)
     if message.parameters:
         parts.extend(message.parameters[:-1])
-        parts.append(last_parameter(message.parameters[-1]))
+        last = last_parameter(message.parameters[-1], len(message.parameters))
+        parts.append(last)
     return SPACE.join(parts)
 
 

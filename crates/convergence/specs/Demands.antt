@@ -1,5 +1,5 @@
--- The customer's three demands (document 00; document 01, 'Many joins, for demand 3' and 'How the promises are judged'; document 02, §2 and §6) as predicates of a
--- relay. Two things vary in them: how a line is taken, and how two records are merged. All else is fixed by the definitions below this crate: the rules and their
+-- The customer's three demands (document 00; document 01, 'Many joins, for demand 3' and 'How the promises are judged'; document 02, §2, §6 and §7) as predicates of
+-- a relay. Two things vary in them: how a line is taken, and how two records are merged. All else is fixed by the definitions below this crate: the rules and their
 -- numbers, what a line reads as, the fold, the limits, the plain record and the record that holds a channel.
 use Prim.Native.Nat.{ℕ, _+_, _≤_}
 use mathlib.Core.Path.{_≡_}
@@ -129,9 +129,10 @@ pub record Accepts (t : Table) (a : Arrival) (out : List ℕ) (answer : Outcome)
   pub silent : isLateMask t a ≡ true → Silent t out answer after
 
 -- "Lines are read by RFC 1459's grammar and written back in one fixed form that reads as the same message. Channel joins, parts and quits change the table as
--- TS6 and the plan say, and go to every registered link except the source." So do ban masks, but for those that come too late. Every line by the rules is
--- accepted. That any line is read by the grammar and any message written in the fixed form are the contracts of `message::parse` and `writer::write`; that it
--- reads back are the laws `written-reads` and `read-writes` (writer/proofs/Rounds.antt). `Witnesses` and `Banning` of proofs/ have lines that are accepted.
+-- TS6 and the plan say, and go to every registered link except the source." So do ban masks, but for those that come too late. The grammar is RFC 2812's for
+-- the fifteenth parameter (document 02, §7). Every line by the rules is accepted. That any line is read by the grammar and any message written in the fixed form
+-- are the contracts of `message::parse` and `writer::write`; that it reads back are the laws `written-reads` and `read-writes` (writer/proofs/Rounds.antt).
+-- `Witnesses` and `Banning` of proofs/ have lines that are accepted.
 abbrev pub Demand2 : Taking → Type 0
 Demand2 taking =
     (t : Table) (a : Arrival) (out : List ℕ) → ruled t a out ≡ accepted → Accepts t a out (taking t a out .0) (taking t a out .1)

@@ -6,16 +6,16 @@ use Prim.Native.Nat.{ℕ, zero, suc, _+_, _-_, _≤_, _<_, min}
 use native.Mathlib.Omega.{arith}
 use lib.ListN.{length, take, drop, getD, length-append, length-drop, length-take, take-append-drop}
 use lib.Seq.{take-at, take-nil, drop-length}
-use lib.Dec.{eqb}
 use Rattle.octets.specs.Bytes.{space, colon}
 use Rattle.octets.specs.Room.{part}
 use Rattle.laws.proofs.Lists.{drop-inside, drop-next, front-part, getD-padded}
 use Rattle.laws.specs.Lists.{startsWith}
 use Rattle.message.specs.declared.Span.{Span}
 use Rattle.message.specs.declared.Message.{Message}
-use Rattle.message.specs.Grammar.{Part, partAt, paramLimit, word, spaces, rest, afterMiddle, hasPrefix, prefix, prefixEnd, commandStart, command, commandEnd, params}
+use Rattle.message.specs.Grammar.{Part, partAt, paramLimit, word, spaces, hasPrefix, prefix, prefixEnd, commandStart, command, commandEnd, params}
 use Rattle.message.specs.Content.{bytesOf}
 use Rattle.message.specs.Parts.{emptyAt, bytesAt, spanOf, messageIn}
+use Rattle.message.proofs.Induction.{Claim, Clauses, of-rest}
 use Rattle.message.proofs.Runs.{word-split, start-in, stop-in}
 
 -- The span lies in s, and has these bytes there.
@@ -80,6 +80,10 @@ module _ (b : List ℕ) where
       go true h = rw h (start-in b (prefixEnd b) (prefixEnd b + spaces (drop (prefixEnd b) b)) (prefix-end-in h) refl)
       go false h = rw h (omega arith)
 
+  pub command-end-in : commandEnd b ≤ length b
+  unfolding commandEnd command
+  command-end-in = stop-in b (commandStart b) (commandEnd b) command-start-in refl
+
   pub command-placed : (n : ℕ) → Placed b (messageIn b n .command) (command b)
   unfolding messageIn commandEnd command
   command-placed n = word-placed b (commandStart b) command-start-in
@@ -98,43 +102,33 @@ abbrev pub In : List ℕ → Part → Type 0
 In s p = Placed s (spanOf p) (p .bytes)
 
 module _ (b : List ℕ) where
+  remains-in : (at x : ℕ) (s : List ℕ) → drop at b ≡ x ∷ s → In b (partAt at (x ∷ s))
+  remains-in at x s e = standing b at (x ∷ s) [] (omega (arith, drop-inside b at x s e)) (e ∙ sym (append-nil (x ∷ s)))
+
   trailing-in : (at x : ℕ) (s : List ℕ) → drop at b ≡ x ∷ s → In b (partAt (at + 1) s)
   trailing-in at x s e = standing b (at + 1) s [] (omega (arith, drop-inside b at x s e)) (drop-next b at x s e ∙ sym (append-nil s))
 
   middle-in : (at x : ℕ) (s : List ℕ) → drop at b ≡ x ∷ s → In b (partAt at (x ∷ word s))
   middle-in at x s e = standing b at (x ∷ word s) (drop (length (word s)) s) (omega (arith, drop-inside b at x s e)) (e ∙ ap (λ (l : List ℕ). x ∷ l) (word-split s))
 
-  rest-step : (k at x : ℕ) (s : List ℕ) → drop at b ≡ x ∷ s → Each (In b) (rest k (at + 1) s) → Each (In b) (afterMiddle (k + 1) (at + 1) s) → Each (In b) (rest k at (x ∷ s))
-  unfolding rest
-  rest-step k at x s e r m = go (eqb x space) refl (eqb x colon) refl
-    where
-      go : (t : Bool) → eqb x space ≡ t → (u : Bool) → eqb x colon ≡ u → Each (In b) (rest k at (x ∷ s))
-      go true p u q = rw p r
-      go false p true q = rw (p, q) (trailing-in at x s e, tt)
-      go false p false q = rw (p, q) (middle-in at x s e, m)
+  abbrev Within : Claim
+  Within k at s ps = drop at b ≡ s → Each (In b) ps
 
-  middle-step : (k at x : ℕ) (s : List ℕ) → Each (In b) (rest k (at + 1) s) → Each (In b) (afterMiddle k (at + 1) s) → Each (In b) (afterMiddle k at (x ∷ s))
-  unfolding rest
-  middle-step k at x s r m = go (eqb x space) refl
-    where
-      go : (t : Bool) → eqb x space ≡ t → Each (In b) (afterMiddle k at (x ∷ s))
-      go true p = rw p r
-      go false p = rw p m
-
-  mutual
-    unfolding rest
-
-    rest-in : (s : List ℕ) (k at : ℕ) → drop at b ≡ s → Each (In b) (rest k at s)
-    rest-in [] k at e = tt
-    rest-in (x ∷ s) k at e = let d = drop-next b at x s e in rest-step k at x s e (rest-in s k (at + 1) d) (after-middle-in s (k + 1) (at + 1) d)
-
-    after-middle-in : (s : List ℕ) (k at : ℕ) → drop at b ≡ s → Each (In b) (afterMiddle k at s)
-    after-middle-in [] k at e = tt
-    after-middle-in (x ∷ s) k at e = let d = drop-next b at x s e in middle-step k at x s (rest-in s k (at + 1) d) (after-middle-in s k (at + 1) d)
+  within : Clauses Within Within
+  within = record {
+    nothing = λ k at e. tt;
+    spaced = λ k at s ps r e. r (drop-next b at space s e);
+    trailing = λ k at s e. (trailing-in at colon s e, tt);
+    remains = λ k at x s p q l e. (remains-in at x s e, tt);
+    middle = λ k at x s ps p q l m e. (middle-in at x s e, m (drop-next b at x s e));
+    ends = λ k at e. tt;
+    stops = λ k at s ps r e. r (drop-next b at space s e);
+    goes = λ k at x s ps p m e. m (drop-next b at x s e);
+  }
 
   pub params-in : Each (In b) (params b)
   unfolding params
-  params-in = rest-in (drop (commandEnd b) b) 0 (commandEnd b) refl
+  params-in = of-rest Within Within within (drop (commandEnd b) b) 0 (commandEnd b) refl
 
 -- ---- the parts of a message in a line, whose body is its first j bytes
 module _ (line : List ℕ) (j : ℕ) where

@@ -9,7 +9,7 @@ use native.Mathlib.Omega.{arith}
 use lib.ListN.{length, drop, getD, length-take, length-map, getD-replicate, drop-of-length-le, List·getD-eq-default}
 use lib.Dec.{eqb, ltb}
 use borrow.Author.Tests.{eq-eqb, ne-eqb, lt-ltb, le-ltb, ltb-true, ltb-false, eqb-true, eqb-false, not-false}
-use Rattle.refusal.specs.Numbers.{accepted, lineTooLong, noLineEnd, forbiddenByte, emptyLine, emptyPrefix, badCommand, tooManyParams}
+use Rattle.refusal.specs.Numbers.{accepted, lineTooLong, noLineEnd, forbiddenByte, emptyLine, emptyPrefix, badCommand}
 use Rattle.refusal.specs.Rules.{_when_, firstOf, ascend, ascendFrom, placeIn}
 use Rattle.refusal.proofs.Rules.{skip, stop, first-nil, first-none, first-lacks, numbered}
 use Rattle.octets.specs.Bytes.{cr, lf, isPlain}
@@ -27,6 +27,7 @@ use Rattle.message.specs.Content.{bytesOf, contentIn}
 use Rattle.message.specs.Parts.{emptyAt, messageIn, blank}
 use Rattle.message.specs.Reading.{crlf, endsLine, bodyOf, bodyRules, grammarRules, lineRules, numberFor, isRead, numberOf, countOf, answer, readingOf, contentOf, messageOf, parsedOf}
 use Rattle.message.specs.Private.Scan.{unread, bodyParsed}
+use Rattle.message.proofs.Fifteenth.{params-few}
 use Rattle.message.proofs.Places.{Placed, empty-placed, command-placed, prefix-in-line, command-in-line, param-in-line}
 
 -- The rules stand in the order of their numbers: the first in it that applies is given.
@@ -83,7 +84,6 @@ pub record Formed (line : List ℕ) : Type 0 where
   pub plain : all isPlain (bodyOf line) ≡ true
   pub prefixed : hasPrefix (bodyOf line) && isNil (prefix (bodyOf line)) ≡ false
   pub commanded : isCommand (command (bodyOf line)) ≡ true
-  pub few : length (params (bodyOf line)) ≤ paramLimit
 
 pub formed : (line : List ℕ) → firstOf (grammarRules line) ≡ accepted → Formed line
 unfolding bodyRules
@@ -93,13 +93,11 @@ formed line e =
     let r7 = first-none _ _ (λ q. omega arith) (r6 .1) in
     let r8 = first-none _ _ (λ q. omega arith) (r7 .1) in
     let r9 = first-none _ _ (λ q. omega arith) (r8 .1) in
-    let r10 = first-none _ _ (λ q. omega arith) (r9 .1) in
     record {
       ends = not-false _ (r5 .0);
       plain = not-false _ (r6 .0);
       prefixed = r8 .0;
       commanded = not-false _ (r9 .0);
-      few = ltb-false paramLimit _ (r10 .0);
     }
 
 -- ---- a line that is read
@@ -268,17 +266,13 @@ module _ (b : List ℕ) (n : ℕ) (m : Message) (is : m ≡ messageIn b n) where
     body-no-command e = skip _ _ (sym tested ∙ full) ∙ stop _ _ (rw e)
 
     module _ (named : isCommand (command b) ≡ true) where
-      pub body-many : paramLimit < m .count → firstOf (bodyRules b) ≡ tooManyParams
+      body-accepted : firstOf (bodyRules b) ≡ accepted
       unfolding bodyRules
-      body-many h = skip _ _ (sym tested ∙ full) ∙ skip _ _ (rw named) ∙ stop _ _ (lt-ltb paramLimit (length (params b)) (rw counted at h))
+      body-accepted = skip _ _ (sym tested ∙ full) ∙ skip _ _ (rw named) ∙ first-nil
 
-      body-accepted : m .count ≤ paramLimit → firstOf (bodyRules b) ≡ accepted
-      unfolding bodyRules
-      body-accepted h = skip _ _ (sym tested ∙ full) ∙ skip _ _ (rw named) ∙ skip _ _ (le-ltb paramLimit (length (params b)) (rw counted at h)) ∙ first-nil
-
-      pub body-reads : m .count ≤ paramLimit → record { reading = Line (m .count); message = m } ≡ bodyParsed b n
+      pub body-reads : record { reading = Line (m .count); message = m } ≡ bodyParsed b n
       unfolding bodyParsed answer
-      body-reads h = rw (body-accepted h, ← counted, ← is)
+      body-reads = rw (body-accepted, ← counted, ← is)
 
 -- what a body comes to that gets a number
 pub body-refused : (b : List ℕ) (n : ℕ) (r : Parsed) (k : ℕ) → firstOf (bodyRules b) ≡ k → (k ≡ accepted → ⊥) → r ≡ unread k n → r ≡ bodyParsed b n
@@ -329,7 +323,7 @@ unfolding contentOf contentIn
 param-past line k past = go (isRead line) refl
   where
     go : (t : Bool) → isRead line ≡ t → getD (contentOf line .params) k [] ≡ []
-    go true h = rw h (List·getD-eq-default (bytesOf (params (bodyOf line))) [] {n = k} (omega (arith, read-formed line h .few, length-map (params (bodyOf line)) (λ (p : Part). p .bytes))))
+    go true h = rw h (List·getD-eq-default (bytesOf (params (bodyOf line))) [] {n = k} (omega (arith, params-few (bodyOf line), length-map (params (bodyOf line)) (λ (p : Part). p .bytes))))
     go false h = rw h
 
 -- a message never counts more parameters than it has spans
@@ -338,5 +332,5 @@ unfolding messageOf messageIn blank
 count-few line = go (isRead line) refl
   where
     go : (t : Bool) → isRead line ≡ t → messageOf line .count ≤ paramLimit
-    go true h = rw h (read-formed line h .few)
+    go true h = rw h (params-few (bodyOf line))
     go false h = rw h (omega arith)

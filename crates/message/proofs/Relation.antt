@@ -2,24 +2,25 @@
 use mathlib.Core.Path.{_≡_, refl, sym, ap, _∙_}
 use mathlib.Core.Bool.{Bool, true, false, true≢false, not, _&&_}
 use mathlib.Core.List.{List, [], _∷_, _++_, append-nil}
-use Prim.Native.Nat.{ℕ, _+_}
+use Prim.Native.Nat.{ℕ, _+_, _≤_, _<_}
 use native.Mathlib.Omega.{arith}
 use lib.ListN.{length, drop}
 use lib.Seq.{append-snoc, drop-drop}
 use lib.Dec.{eqb}
-use borrow.Author.Tests.{eqb-true, not-true}
+use borrow.Author.Tests.{ne-eqb, eqb-true, not-true}
 use Rattle.octets.specs.Bytes.{space, colon, isNonSpace}
 use Rattle.laws.specs.Lists.{all}
 use Rattle.laws.proofs.Bools.{and-left, and-right}
 use Rattle.laws.proofs.Lists.{all-cons, all-append}
-use Rattle.message.specs.Grammar.{Part, partAt, word, isMiddle, rest, afterMiddle, commandStart, command, commandEnd, params}
+use Rattle.message.specs.Grammar.{Part, middleLimit, partAt, word, isMiddle, isBare, rest, afterMiddle, commandStart, command, commandEnd, params}
 use Rattle.message.specs.Content.{bytesOf}
 use Rattle.message.specs.Syntax.{Spaces, Rest, Middle, Parameters}
 use Rattle.message.specs.Syntax.Spaces.{one, more}
-use Rattle.message.specs.Syntax.Rest.{nothing, trailing, middle}
+use Rattle.message.specs.Syntax.Rest.{nothing, trailing, middle, remains}
 use Rattle.message.specs.Syntax.Middle.{ends, followed}
 use Rattle.message.specs.Syntax.Parameters.{absent, follow}
 use Rattle.message.proofs.Words.{word-append}
+use Rattle.message.proofs.Induction.{Claim, Clauses, of-rest}
 
 -- t is empty or begins with a SPACE
 abbrev pub Stops : List ℕ → Type 0
@@ -59,32 +60,44 @@ spaces-alone : {r : List ℕ} → Spaces r → Stops r
 spaces-alone one = refl
 spaces-alone (more p) = refl
 
-rest-stops : {s : List ℕ} {ps : List (List ℕ)} → Rest s ps → Stops s
+rest-stops : {k : ℕ} {s : List ℕ} {ps : List (List ℕ)} → Rest k s ps → Stops s
 rest-stops (nothing p) = spaces-alone p
 rest-stops (trailing r t p e) = rw e (spaces-stop p (colon ∷ t))
-rest-stops (middle r m p e q) = rw e (spaces-stop p m)
+rest-stops (middle r m p e l q) = rw e (spaces-stop p m)
+rest-stops (remains r t p e l h) = rw e (spaces-stop p t)
 
-pub middle-read : (t : List ℕ) → Stops t → (w : List ℕ) → isMiddle w ≡ true → (k at : ℕ) → rest k at (w ++ t) ≡ partAt at w ∷ rest (k + 1) (at + length w) t
+pub middle-read : (t : List ℕ) → Stops t → (w : List ℕ) → isMiddle w ≡ true → (k at : ℕ) → (k ≡ middleLimit → ⊥) → rest k at (w ++ t) ≡ partAt at w ∷ rest (k + 1) (at + length w) t
 unfolding isMiddle rest all
-middle-read t stops [] h k at = absurd (true≢false (sym h))
-middle-read t stops (b ∷ w) h k at =
+middle-read t stops [] h k at l = absurd (true≢false (sym h))
+middle-read t stops (b ∷ w) h k at l =
     let a : isNonSpace b && all isNonSpace w ≡ true = and-right (not (eqb b colon)) (isNonSpace b && all isNonSpace w) h in
     let c : eqb b colon ≡ false = not-true (eqb b colon) (and-left (not (eqb b colon)) (isNonSpace b && all isNonSpace w) h) in
     let e : eqb b space ≡ false = not-true (eqb b space) (and-left (isNonSpace b) (all isNonSpace w) a) in
     let n : all isNonSpace w ≡ true = and-right (isNonSpace b) (all isNonSpace w) a in
-    rw (e, c, word-append w t n (stops-word t stops)) (ap (λ (l : List Part). partAt at (b ∷ w) ∷ l) (middle-append t stops w n (k + 1) (at + 1) ∙ ap (λ (i : ℕ). rest (k + 1) i t) (omega arith)))
+    rw (e, c, ne-eqb k middleLimit l, word-append w t n (stops-word t stops)) (ap (λ (l : List Part). partAt at (b ∷ w) ∷ l) (middle-append t stops w n (k + 1) (at + 1) ∙ ap (λ (i : ℕ). rest (k + 1) i t) (omega arith)))
+
+-- all that remains after the fourteenth middle
+pub bare-read : (t : List ℕ) → isBare t ≡ true → (k at : ℕ) → k ≡ middleLimit → rest k at t ≡ partAt at t ∷ []
+unfolding isBare rest
+bare-read [] h k at l = absurd (true≢false (sym h))
+bare-read (b ∷ t) h k at l =
+    let c : eqb b colon ≡ false = not-true (eqb b colon) (and-left (not (eqb b colon)) (isNonSpace b) h) in
+    let e : eqb b space ≡ false = not-true (eqb b space) (and-right (not (eqb b colon)) (isNonSpace b) h) in
+    rw (e, c, l)
 
 mutual
   unfolding rest
 
-  pub complete : {s : List ℕ} {ps : List (List ℕ)} → Rest s ps → (k at : ℕ) → bytesOf (rest k at s) ≡ ps
-  complete (nothing {s = s} p) k at = ap (λ (l : List ℕ). bytesOf (rest k at l)) (sym (append-nil s)) ∙ ap bytesOf (spaces-pass p [] k at)
-  complete (trailing r t p e) k at = rw e (ap bytesOf (spaces-pass p (colon ∷ t) k at))
-  complete (middle r m p e q) k at = rw e (ap bytesOf (spaces-pass p m k at) ∙ complete-middle q k (at + length r))
+  pub complete : {k : ℕ} {s : List ℕ} {ps : List (List ℕ)} → Rest k s ps → (at : ℕ) → bytesOf (rest k at s) ≡ ps
+  complete (nothing {k = k} {s = s} p) at = ap (λ (l : List ℕ). bytesOf (rest k at l)) (sym (append-nil s)) ∙ ap bytesOf (spaces-pass p [] k at)
+  complete (trailing {k = k} r t p e) at = rw e (ap bytesOf (spaces-pass p (colon ∷ t) k at))
+  complete (middle {k = k} r m p e l q) at = rw e (ap bytesOf (spaces-pass p m k at) ∙ complete-middle q l (at + length r))
+  complete (remains {k = k} r t p e l h) at = rw e (ap bytesOf (spaces-pass p t k at ∙ bare-read t h k (at + length r) l))
 
-  complete-middle : {s : List ℕ} {ps : List (List ℕ)} → Middle s ps → (k at : ℕ) → bytesOf (rest k at s) ≡ ps
-  complete-middle (ends {w = w} h) k at = ap (λ (l : List ℕ). bytesOf (rest k at l)) (sym (append-nil w)) ∙ ap bytesOf (middle-read [] tt w h k at)
-  complete-middle (followed w t h e q) k at = rw e (ap bytesOf (middle-read t (rest-stops q) w h k at) ∙ ap (λ (l : List (List ℕ)). w ∷ l) (complete q (k + 1) (at + length w)))
+  complete-middle : {k : ℕ} {s : List ℕ} {ps : List (List ℕ)} → Middle k s ps → k < middleLimit → (at : ℕ) → bytesOf (rest k at s) ≡ ps
+  complete-middle (ends {k = k} {w = w} h) l at = ap (λ (s : List ℕ). bytesOf (rest k at s)) (sym (append-nil w)) ∙ ap bytesOf (middle-read [] tt w h k at (λ q. omega arith))
+  complete-middle (followed {k = k} w t h e q) l at =
+      rw e (ap bytesOf (middle-read t (rest-stops q) w h k at (λ z. omega arith)) ∙ ap (λ (ps : List (List ℕ)). w ∷ ps) (complete q (at + length w)))
 
 -- ---- what the function gives, the relation has
 spaces-more : {r : List ℕ} → Spaces r → Spaces (r ++ (space ∷ []))
@@ -96,35 +109,25 @@ unfolding isMiddle all
 middle-more [] b h e = absurd (true≢false (sym h))
 middle-more (x ∷ w) b h e = rw (and-left (not (eqb x colon)) (all isNonSpace (x ∷ w)) h) (all-append isNonSpace (x ∷ w) (b ∷ []) (and-right (not (eqb x colon)) (all isNonSpace (x ∷ w)) h) (all-cons isNonSpace b [] e refl))
 
-rest-step : (x : ℕ) (s r : List ℕ) → Spaces r → (k at : ℕ) → Rest (r ++ (space ∷ []) ++ s) (bytesOf (rest k (at + 1) s))
-    → (isMiddle (x ∷ []) ≡ true → Middle (x ∷ s) ((x ∷ word s) ∷ bytesOf (afterMiddle (k + 1) (at + 1) s))) → Rest (r ++ (x ∷ s)) (bytesOf (rest k at (x ∷ s)))
-unfolding rest isMiddle all
-rest-step x s r p k at spaced run = go (eqb x space) refl (eqb x colon) refl
-  where
-    go : (t : Bool) → eqb x space ≡ t → (u : Bool) → eqb x colon ≡ u → Rest (r ++ (x ∷ s)) (bytesOf (rest k at (x ∷ s)))
-    go true e u q = rw (e, eqb-true x space e) (rw (append-snoc r space s) at spaced)
-    go false e true q = rw (e, q) (trailing r s p (ap (λ (n : ℕ). r ++ (n ∷ s)) (eqb-true x colon q)))
-    go false e false q = rw (e, q) (middle r (x ∷ s) p refl (run (rw (q, e))))
+-- a run of SPACEs before a rest, and bytes of a middle before what follows it
+abbrev Rests : Claim
+Rests k at s ps = (r : List ℕ) → Spaces r → k ≤ middleLimit → Rest k (r ++ s) (bytesOf ps)
 
-middle-step : (x : ℕ) (s w : List ℕ) → isMiddle w ≡ true → (k at : ℕ) → Rest (space ∷ s) (bytesOf (rest k (at + 1) s))
-    → (isNonSpace x ≡ true → Middle (w ++ (x ∷ []) ++ s) ((w ++ (x ∷ []) ++ word s) ∷ bytesOf (afterMiddle k (at + 1) s))) → Middle (w ++ (x ∷ s)) ((w ++ word (x ∷ s)) ∷ bytesOf (afterMiddle k at (x ∷ s)))
-unfolding rest word
-middle-step x s w h k at spaced run = go (eqb x space) refl
-  where
-    go : (t : Bool) → eqb x space ≡ t → Middle (w ++ (x ∷ s)) ((w ++ word (x ∷ s)) ∷ bytesOf (afterMiddle k at (x ∷ s)))
-    go true e = rw (e, eqb-true x space e, append-nil w) (followed w (space ∷ s) h refl spaced)
-    go false e = rw (e, ← append-snoc w x s, ← append-snoc w x (word s)) (run (rw e))
+abbrev Follows : Claim
+Follows k at s ps = (j : ℕ) (w : List ℕ) → k ≡ j + 1 → j < middleLimit → isMiddle w ≡ true → Middle j (w ++ s) ((w ++ word s) ∷ bytesOf ps)
 
-mutual
-  unfolding rest word
-
-  pub sound : (s r : List ℕ) → Spaces r → (k at : ℕ) → Rest (r ++ s) (bytesOf (rest k at s))
-  sound [] r p k at = rw (append-nil r) (nothing p)
-  sound (x ∷ s) r p k at = rest-step x s r p k at (sound s (r ++ (space ∷ [])) (spaces-more p) k (at + 1)) (λ h. sound-middle s (x ∷ []) h (k + 1) (at + 1))
-
-  sound-middle : (s w : List ℕ) → isMiddle w ≡ true → (k at : ℕ) → Middle (w ++ s) ((w ++ word s) ∷ bytesOf (afterMiddle k at s))
-  sound-middle [] w h k at = rw (append-nil w) (ends h)
-  sound-middle (x ∷ s) w h k at = middle-step x s w h k at (sound s (space ∷ []) one k (at + 1)) (λ e. sound-middle s (w ++ (x ∷ [])) (middle-more w x h e) k (at + 1))
+has : Clauses Rests Follows
+unfolding isMiddle isBare all word
+has = record {
+  nothing = λ k at r run few. rw (append-nil r) (nothing run);
+  spaced = λ k at s ps h r run few. rw (append-snoc r space s) at (h (r ++ (space ∷ [])) (spaces-more run) few);
+  trailing = λ k at s r run few. trailing r s run refl;
+  remains = λ k at x s p q l r run few. remains r (x ∷ s) run refl l (rw (q, p));
+  middle = λ k at x s ps p q l h r run few. let below : k < middleLimit = omega (arith, l) in middle r (x ∷ s) run refl below (h k (x ∷ []) refl below (rw (q, p)));
+  ends = λ k at j w e below is. rw (append-nil w) (ends is);
+  stops = λ k at s ps h j w e below is. rw (append-nil w) (followed w (space ∷ s) is refl (rw e at (h (space ∷ []) one (omega (arith, e)))));
+  goes = λ k at x s ps p h j w e below is. rw (p, ← append-snoc w x s, ← append-snoc w x (word s)) (h j (w ++ (x ∷ [])) e below (middle-more w x is (rw p)));
+}
 
 -- ---- the parameters of a body are those that the rules give it
 -- a word is followed by a SPACE or the end
@@ -138,24 +141,24 @@ word-then (b ∷ s) = go (eqb b space) refl (word-then s)
     go false e ih = rw e ih
 
 -- what stops a word has the parameters that the function gives
-stopped : (s : List ℕ) → Stops s → (k at : ℕ) → Parameters s (bytesOf (rest k at s))
+stopped : (s : List ℕ) → Stops s → (at : ℕ) → Parameters s (bytesOf (rest 0 at s))
 unfolding rest
-stopped [] h k at = absent
-stopped (b ∷ s) h k at = rw h (follow (sound s (space ∷ []) one k (at + 1)))
+stopped [] h at = absent
+stopped (b ∷ s) h at = rw h (follow (of-rest Rests Follows has s 0 (at + 1) (space ∷ []) one (omega arith)))
 
-only : {s : List ℕ} {ps : List (List ℕ)} → Parameters s ps → (k at : ℕ) → bytesOf (rest k at s) ≡ ps
+only : {s : List ℕ} {ps : List (List ℕ)} → Parameters s ps → (at : ℕ) → bytesOf (rest 0 at s) ≡ ps
 unfolding rest
-only absent k at = refl
-only (follow r) k at = complete r k at
+only absent at = refl
+only (follow r) at = complete r at
 
 module _ (body : List ℕ) where
   pub params-follow : Parameters (drop (commandEnd body) body) (bytesOf (params body))
   unfolding params commandEnd command
-  params-follow = stopped (drop (commandEnd body) body) after 0 (commandEnd body)
+  params-follow = stopped (drop (commandEnd body) body) after (commandEnd body)
     where
       after : Stops (drop (commandEnd body) body)
       after = rw (← drop-drop (length (word (drop (commandStart body) body))) (commandStart body) body) (word-then (drop (commandStart body) body))
 
   pub params-only : (ps : List (List ℕ)) → Parameters (drop (commandEnd body) body) ps → bytesOf (params body) ≡ ps
   unfolding params
-  params-only ps r = only r 0 (commandEnd body)
+  params-only ps r = only r (commandEnd body)

@@ -13,7 +13,7 @@ use Rattle.octets.specs.Search.{before}
 use Rattle.octets.proofs.Search.{before-past, before-stop, before-go, before-front, before-within}
 use Rattle.laws.proofs.Lists.{drop-step}
 use Rattle.message.specs.declared.Message.{Message}
-use Rattle.message.specs.Grammar.{partAt, word, spaces, rest, afterMiddle}
+use Rattle.message.specs.Grammar.{middleLimit, partAt, word, spaces, rest, afterMiddle}
 use Rattle.message.specs.Parts.{span}
 use Rattle.message.specs.Private.Scan.{withParam, withParams}
 
@@ -151,10 +151,15 @@ module _ (b : List ℕ) (k start : ℕ) where
   unfolding rest
   rest-colon h e = rw (drop-step b start 0 h, e)
 
-  pub rest-middle : start < length b → (getD b start 0 ≡ space → ⊥) → (getD b start 0 ≡ colon → ⊥)
-      → rest k start (drop start b) ≡ partAt start (getD b start 0 ∷ word (drop (start + 1) b)) ∷ afterMiddle (k + 1) (start + 1) (drop (start + 1) b)
-  unfolding rest
-  rest-middle h e f = rw (drop-step b start 0 h, ne-eqb _ space e, ne-eqb _ colon f)
+  module _ (h : start < length b) (e : getD b start 0 ≡ space → ⊥) (f : getD b start 0 ≡ colon → ⊥) where
+    pub rest-remains : k ≡ middleLimit → rest k start (drop start b) ≡ partAt start (drop start b) ∷ []
+    unfolding rest
+    rest-remains g = rw (drop-step b start 0 h, ne-eqb _ space e, ne-eqb _ colon f, g)
+
+    pub rest-middle : (k ≡ middleLimit → ⊥)
+        → rest k start (drop start b) ≡ partAt start (getD b start 0 ∷ word (drop (start + 1) b)) ∷ afterMiddle (k + 1) (start + 1) (drop (start + 1) b)
+    unfolding rest
+    rest-middle g = rw (drop-step b start 0 h, ne-eqb _ space e, ne-eqb _ colon f, ne-eqb k middleLimit g)
 
 -- ---- what `middle` returns: a message m with the middle from `start`, of which the bytes before `at` are read, to `stop`, and what follows it
 module _ (b : List ℕ) (m : Message) (start at stop : ℕ) (within : at ≤ length b) (is : stop ≡ at + length (word (drop at b))) where
@@ -183,10 +188,18 @@ module _ (b : List ℕ) (m : Message) (at start : ℕ) (within : at ≤ length b
       let n : start + 1 + length (drop (start + 1) b) ≡ length b = omega (arith, length-drop (start + 1) b) in
       rw (rest-from b at start within is (m .count), rest-colon b (m .count) start lt f, n) e
 
-  pub rest-goes : (r : Message) → r ≡ withParams (withParam m (span start (start + 1 + length (word (drop (start + 1) b))))) (afterMiddle (m .count + 1) (start + 1) (drop (start + 1) b))
-      → (start ≡ length b → ⊥) → (getD b start 0 ≡ colon → ⊥) → r ≡ withParams m (rest (m .count) at (drop at b))
+  pub rest-last : (r : Message) → r ≡ withParam m (span start (length b)) → (start ≡ length b → ⊥) → (getD b start 0 ≡ colon → ⊥) → m .count ≡ middleLimit
+      → r ≡ withParams m (rest (m .count) at (drop at b))
   unfolding withParams
-  rest-goes r e h f =
+  rest-last r e h f g =
       let lt : start < length b = omega (arith, start-in b at start within is) in
-      rw (rest-from b at start within is (m .count), rest-middle b (m .count) start lt (start-stops b at start within is lt) f)
+      let n : start + length (drop start b) ≡ length b = omega (arith, length-drop start b) in
+      rw (rest-from b at start within is (m .count), rest-remains b (m .count) start lt (start-stops b at start within is lt) f g, n) e
+
+  pub rest-goes : (r : Message) → r ≡ withParams (withParam m (span start (start + 1 + length (word (drop (start + 1) b))))) (afterMiddle (m .count + 1) (start + 1) (drop (start + 1) b))
+      → (start ≡ length b → ⊥) → (getD b start 0 ≡ colon → ⊥) → (m .count ≡ middleLimit → ⊥) → r ≡ withParams m (rest (m .count) at (drop at b))
+  unfolding withParams
+  rest-goes r e h f g =
+      let lt : start < length b = omega (arith, start-in b at start within is) in
+      rw (rest-from b at start within is (m .count), rest-middle b (m .count) start lt (start-stops b at start within is lt) f g)
       (e ∙ ap (λ (n : ℕ). withParams (withParam m (span start n)) (afterMiddle (m .count + 1) (start + 1) (drop (start + 1) b))) (omega arith))

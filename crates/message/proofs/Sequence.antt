@@ -1,21 +1,20 @@
 -- The parameters of a line stand one behind the other, behind the command, before CR LF, and each but the last has a byte: true since a SPACE stands between each two, and
 -- a middle isn't empty. Assumes nothing.
 use Prim.Native.Nat.{ℕ, zero, suc, _+_, _-_, _≤_, _<_}
-use mathlib.Core.Path.{_≡_, refl, sym, ap, _∙_}
-use mathlib.Core.Bool.{Bool, true, false, true≢false}
+use mathlib.Core.Path.{_≡_, sym, ap, _∙_}
+use mathlib.Core.Bool.{true, false, true≢false}
 use mathlib.Core.List.{List, [], _∷_, map}
 use native.Mathlib.Omega.{arith}
 use lib.ListN.{length, drop, getD, length-map, List·getD-map}
 use lib.Seq.{getD-take, getD-drop}
-use lib.Dec.{eqb}
 use Rattle.laws.proofs.Lists.{getD-any}
-use Rattle.octets.specs.Bytes.{space, colon}
 use Rattle.octets.specs.Room.{part}
 use Rattle.message.specs.declared.Span.{Span}
-use Rattle.message.specs.Grammar.{Part, partAt, word, rest, afterMiddle, isCommand, command, commandEnd, params}
+use Rattle.message.specs.Grammar.{Part, partAt, word, isCommand, command, commandEnd, params}
 use Rattle.message.specs.Parts.{emptyAt, spanOf, paramSpan}
 use Rattle.message.specs.Content.{Content, contentIn}
 use Rattle.message.specs.Reading.{bodyOf, isRead, contentOf, messageOf}
+use Rattle.message.proofs.Induction.{Claim, Clauses, of-rest}
 use Rattle.message.proofs.Places.{Each, In, params-in}
 use Rattle.message.proofs.Readings.{ends-long, body-length, read-formed, read-content}
 use Rattle.message.proofs.SpanContents.{param-held, message-holds, spans-read}
@@ -30,38 +29,29 @@ sequence-from : (at from : ℕ) (ps : List Part) → from ≤ at → Sequence at
 sequence-from at from [] h s = tt
 sequence-from at from (p ∷ ps) h s = (omega (arith, h, s .0), s .1, s .2)
 
-rest-step : (k at x : ℕ) (s : List ℕ) → Sequence (at + 1) (rest k (at + 1) s) → Sequence (at + 1 + length (word s) + 1) (afterMiddle (k + 1) (at + 1) s) → Sequence at (rest k at (x ∷ s))
-unfolding rest
-rest-step k at x s r m = go (eqb x space) refl (eqb x colon) refl
-  where
-    go : (t : Bool) → eqb x space ≡ t → (u : Bool) → eqb x colon ≡ u → Sequence at (rest k at (x ∷ s))
-    go true p u q = rw p (sequence-from (at + 1) at (rest k (at + 1) s) (omega arith) r)
-    go false p true q = rw (p, q) (omega arith, λ h. absurd (omega (arith, h)), tt)
-    go false p false q = rw (p, q) (omega arith, λ h. omega arith, sequence-from (at + 1 + length (word s) + 1) (at + suc (length (word s)) + 1) (afterMiddle (k + 1) (at + 1) s) (omega arith) m)
+abbrev Rests : Claim
+Rests k at s ps = Sequence at ps
 
-middle-step : (k at x : ℕ) (s : List ℕ) → Sequence (at + 1) (rest k (at + 1) s) → Sequence (at + 1 + length (word s) + 1) (afterMiddle k (at + 1) s)
-    → Sequence (at + length (word (x ∷ s)) + 1) (afterMiddle k at (x ∷ s))
-unfolding rest word
-middle-step k at x s r m = go (eqb x space) refl
-  where
-    go : (t : Bool) → eqb x space ≡ t → Sequence (at + length (word (x ∷ s)) + 1) (afterMiddle k at (x ∷ s))
-    go true p = rw p (sequence-from (at + 1) (at + 0 + 1) (rest k (at + 1) s) (omega arith) r)
-    go false p = rw p (sequence-from (at + 1 + length (word s) + 1) (at + suc (length (word s)) + 1) (afterMiddle k (at + 1) s) (omega arith) m)
+-- behind the middle, of which bytes may be left
+abbrev Follows : Claim
+Follows k at s ps = Sequence (at + length (word s) + 1) ps
 
-mutual
-  unfolding rest
-
-  rest-sequence : (s : List ℕ) (k at : ℕ) → Sequence at (rest k at s)
-  rest-sequence [] k at = tt
-  rest-sequence (x ∷ s) k at = rest-step k at x s (rest-sequence s k (at + 1)) (after-sequence s (k + 1) (at + 1))
-
-  after-sequence : (s : List ℕ) (k at : ℕ) → Sequence (at + length (word s) + 1) (afterMiddle k at s)
-  after-sequence [] k at = tt
-  after-sequence (x ∷ s) k at = middle-step k at x s (rest-sequence s k (at + 1)) (after-sequence s k (at + 1))
+sequence : Clauses Rests Follows
+unfolding word
+sequence = record {
+  nothing = λ k at. tt;
+  spaced = λ k at s ps r. sequence-from (at + 1) at ps (omega arith) r;
+  trailing = λ k at s. (omega arith, λ h. absurd (omega (arith, h)), tt);
+  remains = λ k at x s p q l. (omega arith, λ h. absurd (omega (arith, h)), tt);
+  middle = λ k at x s ps p q l m. (omega arith, λ h. omega arith, sequence-from (at + 1 + length (word s) + 1) (at + suc (length (word s)) + 1) ps (omega arith) m);
+  ends = λ k at. tt;
+  stops = λ k at s ps r. sequence-from (at + 1) (at + 0 + 1) ps (omega arith) r;
+  goes = λ k at x s ps p m. rw p (sequence-from (at + 1 + length (word s) + 1) (at + suc (length (word s)) + 1) ps (omega arith) m);
+}
 
 params-sequence : (body : List ℕ) → Sequence (commandEnd body) (params body)
 unfolding params
-params-sequence body = rest-sequence (drop (commandEnd body) body) 0 (commandEnd body)
+params-sequence body = of-rest Rests Follows sequence (drop (commandEnd body) body) 0 (commandEnd body)
 
 -- ---- the part in a place
 -- no part

@@ -18,8 +18,9 @@ use Rattle.message.specs.Grammar.{Part, paramLimit, hasPrefix, prefix, c
 use Rattle.message.specs.Content.{Content, bytesOf, contentIn, noContent}
 use Rattle.message.specs.Parts.{emptyAt, bytesAt, spanOf, messageIn, blank, contentBy, prefixSpan, paramSpan, startIn}
 use Rattle.message.specs.Reading.{bodyOf, isRead, contentOf, messageOf}
+use Rattle.message.proofs.Fifteenth.{params-few}
 use Rattle.message.proofs.Places.{Placed, Each, In, empty-placed, placed-start, prefix-in-line, command-in-line, params-in-line}
-use Rattle.message.proofs.Readings.{read-formed, prefix-at, command-at, param-at, param-past, count-few}
+use Rattle.message.proofs.Readings.{prefix-at, command-at, param-at, param-past, count-few}
 
 -- ---- two messages with the same parts
 abbrev pub content : Option (List ℕ) → List ℕ → List (List ℕ) → Content
@@ -67,12 +68,12 @@ module _ (text : List ℕ) (m : Message) where
     unfolding paramSpan
     param-span-none h = sym (List·getD-eq-default (take (m .count) (m .params)) (emptyAt (length text)) {n = k} h)
 
--- ---- the spans of a line that keeps to the grammar
+-- ---- the spans of a line's parts
 each-same : (line : List ℕ) (ps : List Part) → Each (In line) ps → map (bytesAt line) (map spanOf ps) ≡ bytesOf ps
 each-same line [] e = refl
 each-same line (p ∷ ps) e = rw (e .0 .same, each-same line ps (e .1))
 
-module _ (line : List ℕ) (few : length (params (bodyOf line)) ≤ paramLimit) where
+module _ (line : List ℕ) where
   abbrev body : List ℕ
   body = bodyOf line
 
@@ -83,7 +84,7 @@ module _ (line : List ℕ) (few : length (params (bodyOf line)) ≤ paramLimit) 
   unfolding messageIn
   spans-are =
       let n : length (map spanOf (params body)) ≡ length (params body) = length-map (params body) spanOf in
-      ap (λ (i : ℕ). take i (padded paramLimit (emptyAt (length line)) (map spanOf (params body)))) (sym n) ∙ take-padded (emptyAt (length line)) paramLimit (map spanOf (params body)) (omega arith)
+      ap (λ (i : ℕ). take i (padded paramLimit (emptyAt (length line)) (map spanOf (params body)))) (sym n) ∙ take-padded (emptyAt (length line)) paramLimit (map spanOf (params body)) (omega (arith, params-few body))
 
   prefix-same : bytesAt line (parts .prefix) ≡ prefix body
   unfolding bodyOf
@@ -122,13 +123,13 @@ module _ (line : List ℕ) where
   message-holds = go (isRead line) refl
     where
       go : (t : Bool) → isRead line ≡ t → contentBy line (messageOf line) ≡ contentOf line
-      go true h = rw h (parts-hold line (read-formed line h .few))
+      go true h = rw h (parts-hold line)
       go false h = rw h (blank-holds line)
 
   -- Those of a line that is read are the spans of its parts.
   pub spans-read : isRead line ≡ true → take (messageOf line .count) (messageOf line .params) ≡ map spanOf (params (bodyOf line))
   unfolding messageOf
-  spans-read h = rw h (spans-are line (read-formed line h .few))
+  spans-read h = rw h (spans-are line)
 
   -- and a part that is missing is the empty one at the line's end
   prefix-span : prefixSpan (length line) (messageOf line) ≡ messageOf line .prefix

@@ -1,5 +1,5 @@
--- The grammar of a line's body, the bytes before CR LF (document 01, 'Reading one line'), as functions. `Syntax` has the two rules of
--- the parameters in the paper's words.
+-- The grammar of a line's body, the bytes before CR LF (document 01, 'Reading one line'; document 02, §7), as functions. `Syntax` has the two rules of
+-- the parameters in the papers' words.
 use Prim.Native.Nat.{ℕ, suc, _+_}
 use mathlib.Core.Bool.{Bool, false, not, cond, _&&_, _||_}
 use mathlib.Core.List.{List, [], _∷_}
@@ -15,6 +15,10 @@ lineLimit = 512
 -- the most parameters of a line
 abbrev pub paramLimit : ℕ
 paramLimit = 15
+
+-- the most middles of a line: all that remains after them is one parameter, the fifteenth (document 02, §7)
+abbrev pub middleLimit : ℕ
+middleLimit = 14
 
 -- A part of the body: the place where it begins, and its bytes.
 pub record Part : Type 0 where
@@ -64,15 +68,21 @@ unfoldable pub isMiddle : List ℕ → Bool
 isMiddle [] = false
 isMiddle (b ∷ s) = not (eqb b colon) && all isNonSpace (b ∷ s)
 
+-- non-empty, starting with neither ':' nor SPACE: what the fifteenth parameter is where no ':' stands before it
+unfoldable pub isBare : List ℕ → Bool
+isBare [] = false
+isBare (b ∷ s) = not (eqb b colon) && isNonSpace b
+
 unfoldable mutual
-  -- The parameters of a rest, of which SPACEs may be passed already, at a place, after k parameters: a run of SPACEs, then nothing, or ':' and a
-  -- trailing part, or a middle. No rule depends on k.
+  -- The parameters of a rest, of which SPACEs may be passed already, at a place, after k middles: a run of SPACEs, then nothing, or ':' and a trailing part, or a
+  -- middle. After the fourteenth middle all that remains is the fifteenth parameter, less one leading ':' if there is one. In `params` k is fourteen at most.
   pub rest : ℕ → ℕ → List ℕ → List Part
   rest k at [] = []
   rest k at (b ∷ s) =
       cond (eqb b space) (rest k (at + 1) s)
       (cond (eqb b colon) (partAt (at + 1) s ∷ [])
-      (partAt at (b ∷ word s) ∷ afterMiddle (k + 1) (at + 1) s))
+      (cond (eqb k middleLimit) (partAt at (b ∷ s) ∷ [])
+      (partAt at (b ∷ word s) ∷ afterMiddle (k + 1) (at + 1) s)))
 
   -- The parameters after a middle, the k-th, of which bytes may be left: a rest follows the next SPACE, or nothing the end.
   pub afterMiddle : ℕ → ℕ → List ℕ → List Part

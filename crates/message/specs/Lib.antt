@@ -4,4 +4,5 @@ pub mod Content
 pub mod Parts
 pub mod Reading
 pub mod Words
+pub mod Former
 pub mod Private

@@ -1,10 +1,10 @@
--- What a line reads as: the numbers 4 to 10 of document 01, and the answer.
+-- What a line reads as: the numbers 4 to 9 of document 01, and the answer.
 use Prim.Native.Nat.{ℕ, _-_}
 use mathlib.Core.Bool.{Bool, not, cond, _&&_}
 use mathlib.Core.List.{List, [], _∷_}
 use lib.ListN.{length, take, drop}
 use lib.Dec.{eqb, ltb}
-use Rattle.refusal.specs.Numbers.{accepted, lineTooLong, noLineEnd, forbiddenByte, emptyLine, emptyPrefix, badCommand, tooManyParams}
+use Rattle.refusal.specs.Numbers.{accepted, lineTooLong, noLineEnd, forbiddenByte, emptyLine, emptyPrefix, badCommand}
 use Rattle.refusal.specs.Rules.{Rule, _when_, firstOf}
 use Rattle.octets.specs.Bytes.{cr, lf, isPlain}
 use Rattle.laws.specs.Lists.{all, isNil, same}
@@ -12,7 +12,7 @@ use Rattle.message.specs.declared.Message.{Message}
 use Rattle.message.specs.declared.Parsed.{Parsed}
 use Rattle.message.specs.declared.Reading.{Reading}
 use Rattle.message.specs.declared.Reading.the-variants.{Line, Refused}
-use Rattle.message.specs.Grammar.{lineLimit, paramLimit, hasPrefix, prefix, command, isCommand, params}
+use Rattle.message.specs.Grammar.{lineLimit, hasPrefix, prefix, command, isCommand, params}
 use Rattle.message.specs.Content.{Content, contentIn, noContent}
 use Rattle.message.specs.Parts.{messageIn, blank}
 
@@ -33,7 +33,6 @@ unfoldable pub bodyRules : List ℕ → List Rule
 bodyRules body =
     emptyPrefix when (hasPrefix body && isNil (prefix body))
     ∷ badCommand when not (isCommand (command body))
-    ∷ tooManyParams when ltb paramLimit (length (params body))
     ∷ []
 
 -- the grammar's own: those of a line, its length apart

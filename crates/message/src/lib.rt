@@ -1,5 +1,5 @@
-// Reads one line of the server protocol (RFC 1459, section 2.3.1; document 01, 'Reading one line'): prefix, command and parameters,
-// each as a part of the caller's line. Any bytes are taken; a line that isn't read is refused by a number of crate `refusal`.
+// Reads one line of the server protocol (RFC 1459, section 2.3.1; document 01, 'Reading one line'; the fifteenth parameter as in RFC 2812, document 02, §7): prefix,
+// command and parameters, each as a part of the caller's line. Any bytes are taken; a line that isn't read is refused by a number of crate `refusal`.
 mod scan;
 pub mod spans;
 
@@ -7,12 +7,11 @@ ghost use mathlib.Core.Path.{_≡_};
 ghost use mathlib.Core.Bool.{_&&_};
 ghost use mathlib.Core.List.{[]};
 ghost use mathlib.Core.Option.{Option·getD};
-ghost use Prim.Native.Nat.{_≤_};
 ghost use lib.Dec.{eqb};
 ghost use lib.ListN.{length, getD};
 ghost use denote.Ref.{ptr};
 ghost use Rattle.octets.specs.Room.{placeIn};
-ghost use Rattle.message.specs.Grammar.{lineLimit, isCommand};
+ghost use Rattle.message.specs.Grammar.{isCommand};
 ghost use Rattle.message.specs.Parts.{emptyAt};
 ghost use Rattle.message.specs.Reading.{endsLine, numberOf, countOf, numberFor, readingOf, contentOf, messageOf, parsedOf};
 ghost use Rattle.message.specs.Words.{nextWord};
@@ -27,7 +26,6 @@ use refusal::EMPTY_PREFIX;
 use refusal::FORBIDDEN_BYTE;
 use refusal::LINE_TOO_LONG;
 use refusal::NO_LINE_END;
-use refusal::TOO_MANY_PARAMS;
 use scan::blank;
 use scan::message_in;
 use scan::spaces_end;
@@ -41,6 +39,9 @@ pub const LINE_LIMIT: usize = 512;
 
 // The most parameters of a line.
 pub const PARAM_LIMIT: usize = 15;
+
+// The most middles of a line: all that remains after them is one parameter, the fifteenth.
+pub const MIDDLE_LIMIT: usize = 14;
 
 // A part of a line: the bytes from start up to, not including, end.
 #[repr(C)]
@@ -138,7 +139,6 @@ fn unread(k: u8, n: usize) -> Parsed
 
 // What a line of n bytes comes to by the bytes before CR LF.
 fn parse_body(body: &[u8], n: usize) -> Parsed
-    requires { ⌜ length (now body) ≤ lineLimit ⌝ }
     ensures { λ r. ⌜ r ≡ bodyParsed (now (body .entry)) n ⌝ }
 {
     let message = message_in(body, n);
@@ -149,12 +149,8 @@ fn parse_body(body: &[u8], n: usize) -> Parsed
     if !is_command(part(body, c.start, c.end)) {
         return unread(BAD_COMMAND, n);
     }
-    let count = message.count;
-    if PARAM_LIMIT < count {
-        return unread(TOO_MANY_PARAMS, n);
-    }
     Parsed {
-        reading: Reading::Line(count),
+        reading: Reading::Line(message.count),
         message,
     }
 }

@@ -2,9 +2,10 @@
 ghost use mathlib.Core.Path.{_≡_};
 ghost use Prim.Native.Nat.{_+_, _≤_, _<_};
 ghost use lib.ListN.{length, drop};
-ghost use Rattle.message.specs.Grammar.{lineLimit, word, spaces, hasPrefix, rest as restOf, afterMiddle};
+ghost use Rattle.message.specs.Grammar.{paramLimit, middleLimit, word, spaces, hasPrefix, rest as restOf, afterMiddle};
 ghost use Rattle.message.specs.Parts.{span, blank as blankOf, messageIn};
 ghost use Rattle.message.specs.Private.Scan.{opened as openedOf, withParam, withParams, fromCommand};
+use crate::MIDDLE_LIMIT;
 use crate::Message;
 use crate::PARAM_LIMIT;
 use crate::Span;
@@ -61,24 +62,21 @@ pub(crate) fn blank(end: usize) -> Message
     opened(false, none, none, end)
 }
 
-// One parameter more. Past the last that has room they are only counted.
+// One parameter more.
 fn with_param(m: Message, start: usize, end: usize) -> Message
-    requires { ⌜ m .count ≤ lineLimit ⌝ }
+    requires { ⌜ m .count < paramLimit ⌝ }
     ensures { λ r. ⌜ r ≡ withParam m (span start end) ⌝ }
 {
     let n = m.count;
     let mut next = m;
     next.count = n + 1;
-    if n < PARAM_LIMIT {
-        next.params[n] = Span { start, end };
-        return next;
-    }
+    next.params[n] = Span { start, end };
     next
 }
 
-// A run of SPACEs, then nothing, or ':' and a trailing part, or a middle. `m` holds the parameters before.
+// A run of SPACEs, then nothing, or ':' and a trailing part, or, after the fourteenth middle, all that remains, or a middle. `m` holds the parameters before.
 fn rest(body: &[u8], at: usize, m: Message) -> Message
-    requires { ⌜ (at ≤ length (now body)) × (length (now body) ≤ lineLimit) × (m .count ≤ at) ⌝ }
+    requires { ⌜ (at ≤ length (now body)) × (m .count ≤ middleLimit) ⌝ }
     ensures { λ r. ⌜ r ≡ withParams m (restOf (m .count) at (drop at (now (body .entry)))) ⌝ }
 {
     let start = spaces_end(body, at);
@@ -88,12 +86,15 @@ fn rest(body: &[u8], at: usize, m: Message) -> Message
     if body[start] == b':' {
         return with_param(m, start + 1, body.len());
     }
+    if m.count == MIDDLE_LIMIT {
+        return with_param(m, start, body.len());
+    }
     middle(body, start, start + 1, m)
 }
 
 // A middle, of which the bytes from `start` up to `at` are read: the bytes up to the next SPACE or the end, then a rest.
 fn middle(body: &[u8], start: usize, at: usize, m: Message) -> Message
-    requires { ⌜ (start < at) × (at ≤ length (now body)) × (length (now body) ≤ lineLimit) × (m .count ≤ start) ⌝ }
+    requires { ⌜ (at ≤ length (now body)) × (m .count < middleLimit) ⌝ }
     ensures { λ r. ⌜ r ≡ withParams (withParam m (span start (at + length (word (drop at (now (body .entry))))))) (afterMiddle (m .count + 1) at (drop at (now (body .entry)))) ⌝ }
 {
     let stop = word_end(body, at);
@@ -106,7 +107,7 @@ fn middle(body: &[u8], start: usize, at: usize, m: Message) -> Message
 
 // The parts from the command on, which is the word at `at`.
 fn from_command(body: &[u8], at: usize, has_prefix: bool, prefix: Span, end: usize) -> Message
-    requires { ⌜ (at ≤ length (now body)) × (length (now body) ≤ lineLimit) ⌝ }
+    requires { ⌜ at ≤ length (now body) ⌝ }
     ensures { λ r. ⌜ r ≡ fromCommand (now (body .entry)) at «has_prefix» prefix end ⌝ }
 {
     let stop = word_end(body, at);
@@ -129,7 +130,6 @@ fn has_prefix(body: &[u8]) -> bool
 
 // The parts of a body. A part that is missing is the empty one at `end`.
 pub(crate) fn message_in(body: &[u8], end: usize) -> Message
-    requires { ⌜ length (now body) ≤ lineLimit ⌝ }
     ensures { λ r. ⌜ r ≡ messageIn (now (body .entry)) end ⌝ }
 {
     if has_prefix(body) {

@@ -9,7 +9,7 @@ use native.Mathlib.Omega.{arith}
 use lib.ListN.{length}
 use lib.Dec.{eqb, leb, ltb}
 use borrow.Author.Tests.{ne-eqb, eqb-true, eqb-false, leb-true, ltb-true}
-use Rattle.refusal.specs.Numbers.{accepted, badName, badModes, unknownMode, badLimit, badMembers, tooManyMembers, noRoom, badMasks, tooManyMasks, modeNumbers, isModeNumber, order}
+use Rattle.refusal.specs.Numbers.{accepted, badCommand, tooManyParams, unknownCommand, badName, badModes, unknownMode, badLimit, badMembers, tooManyMembers, noRoom, badMasks, tooManyMasks, modeNumbers, isModeNumber, order}
 use Rattle.refusal.specs.Rules.{Rule, firstOf, emitted, placeIn, rank, ascendFrom, ascend}
 
 -- ---- one rule
@@ -152,6 +152,11 @@ order-bans = (refl, refl)
 order-modes : (rank unknownMode ≡ suc (rank badName)) × (rank badMembers ≡ suc (rank badLimit)) × (rank badModes ≡ length order)
 unfolding placeIn
 order-modes = (refl, refl, refl)
+
+-- 10 has no place either: 11 follows 9 (document 02, §7).
+order-params : (rank unknownCommand ≡ suc (rank badCommand)) × (rank tooManyParams ≡ length order)
+unfolding placeIn
+order-params = (refl, refl)
 
 -- those of a list that are numbers of modes
 abbrev ofModes : List ℕ → List ℕ

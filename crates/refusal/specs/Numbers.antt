@@ -35,6 +35,7 @@ emptyPrefix = 8
 abbrev pub badCommand : ℕ
 badCommand = 9
 
+-- given no longer: no line has a sixteenth parameter (document 02, §7)
 abbrev pub tooManyParams : ℕ
 tooManyParams = 10
 
@@ -130,7 +131,6 @@ order =
     ∷ emptyLine
     ∷ emptyPrefix
     ∷ badCommand
-    ∷ tooManyParams
     ∷ unknownCommand
     ∷ wrongParamCount
     ∷ badSource

@@ -31,7 +31,7 @@ pub const EMPTY_PREFIX: u8 = 8;
 // command malformed or missing
 pub const BAD_COMMAND: u8 = 9;
 
-// a sixteenth parameter
+// a sixteenth parameter: given no longer, all after the fourteenth is the fifteenth (02 §7)
 pub const TOO_MANY_PARAMS: u8 = 10;
 
 // command not one of the three, nor of those that 02 adds

@@ -1,15 +1,15 @@
 -- Document 01's whole case, an SJOIN with a later time for `#Race` from link 3 of 0, 3 and 5, and a PART, a QUIT and two BMASKs: what each comes to by the
 -- definitions, witnesses so for the premises of the laws of taking a line, and what these say. That no list has masks yet is known by law. Assumes nothing.
 use Prim.Native.Nat.{ℕ, _-_}
-use mathlib.Core.Path.{_≡_, refl, ap, _∙_}
+use mathlib.Core.Path.{_≡_, refl, sym, ap, _∙_}
 use mathlib.Core.Bool.{Bool, true, false, not, cond}
 use mathlib.Core.List.{List, [], _∷_, _++_}
 use native.Mathlib.Omega.{arith}
 use lib.ListN.{length, replicate}
-use Rattle.refusal.specs.Numbers.{accepted}
+use Rattle.refusal.specs.Numbers.{accepted, tooManyParams, unknownCommand, wrongParamCount}
 use Rattle.refusal.specs.Faults.{firstFault}
 use Rattle.refusal.specs.Rules.{firstOf}
-use Rattle.refusal.proofs.Rules.{skip, first-nil}
+use Rattle.refusal.proofs.Rules.{skip, first-nil, append-none}
 use Rattle.octets.specs.Bytes.{within, isPlain, isLetter, isDigit, isIdByte, isNameByte, isKeyByte, capital}
 use Rattle.laws.specs.Lists.{all, sameBy, padded, startsWith, separated, prefixed}
 use Rattle.octets.specs.Order.{compare}
@@ -22,6 +22,7 @@ use Rattle.links.specs.Links.{links, setBelow, lessLink, relaySet, linksFrom, l
 use Rattle.message.specs.Grammar.{lineLimit, word, spaces, prefix, prefixEnd, commandStart, command, commandEnd, isCommand, rest, params}
 use Rattle.message.specs.Content.{contentIn, prefixIs}
 use Rattle.message.specs.Words.{wordsAt}
+use Rattle.message.specs.Former.{formerRest, formerParams, formerLineRules}
 use Rattle.message.specs.Reading.{crlf, endsLine, bodyOf, bodyRules, lineRules, numberFor, isRead, contentOf}
 use Rattle.writer.specs.Form.{takesColon, writtenParam, writtenParams, writtenPrefix, writtenBody, written, withCommand}
 use Rattle.channel.specs.declared.Record.{Record}
@@ -49,9 +50,9 @@ use Rattle.sjoin.specs.Faults.{letterChecks, ownChecks, argumentChecks, countCh
 use Rattle.sjoin.specs.Entries.{past, idOf, statusOf, isEntry, memberOf, goodEntries}
 use Rattle.sjoin.specs.Join.{argumentsIn, goodCount, modeRules, joinRules, channelIn, isTime}
 use Rattle.bmask.specs.Masks.{goodMasks, bmaskRules}
-use Rattle.telling.specs.Telling.{lettersFrom, entryOf, paramsOf}
+use Rattle.telling.specs.Telling.{lettersFrom, entryOf, paramsOf, sjoin}
 use Rattle.retelling.specs.Retelling.{Reads}
-use Rattle.relay.specs.declared.Command.the-variants.{Sjoin}
+use Rattle.relay.specs.declared.Command.the-variants.{Sjoin, Unknown}
 use Rattle.relay.specs.Arrival.{Arrival, arrival}
 use Rattle.relay.specs.Leaving.{isLast, leftLists}
 use Rattle.relay.specs.Sjoin.{resulting, joinedRules, isEarlier, joined, outgoing}
@@ -59,11 +60,12 @@ use Rattle.relay.specs.Part.{partRules, partedRules, parted}
 use Rattle.relay.specs.Quit.{quitRules, quitted}
 use Rattle.relay.specs.Bmask.{isLater, masksWith, maskedRules, masked}
 use Rattle.relay.specs.Commands.{commandAmong, commandIn}
-use Rattle.relay.specs.Relay.{takenRules, enteringRules, networkBy, goesBy, messageBy, relayed, processAnswer}
+use Rattle.relay.specs.Relay.{takenRules, enteringRules, networkBy, goesBy, messageBy, relayed, refused, processAnswer}
 use Rattle.relay.proofs.Entering.{enters}
 use Rattle.relay.proofs.Results.{OneChanged}
 use Rattle.relay.proofs.Taking.{taken-good, relayed-reads, join-one, after-alone}
 use Rattle.relay.proofs.Answering.{answer-accepted}
+use Rattle.relay.proofs.Fifteenth.{turns}
 
 -- the first slot holds the record
 unfoldable pub race : Record → List Record
@@ -251,3 +253,25 @@ shore-enters = skip _ _ (ap not shore-good) ∙ skip _ _ refl ∙ skip _ _ refl 
 whichever-links : networkOf (processAnswer water (from3 joining) lineLimit .table) ≡ networkOf (processAnswer shore (from3 joining) lineLimit .table)
 unfolding shore
 whichever-links = after-alone water shore (from3 joining) lineLimit lineLimit refl (water-enters joining) shore-enters .1
+
+-- ---- sixteen parameters `a`, of SJOIN and of a command `X`
+abbrev crowd : List ℕ → List ℕ
+crowd name = name ++ prefixed 32 (replicate 16 (97 ∷ [])) ++ crlf
+
+crowds : (firstOf (formerLineRules (crowd sjoin)) ≡ tooManyParams) × (firstOf (formerLineRules (crowd (88 ∷ []))) ≡ tooManyParams) × (commandIn (crowd sjoin) ≡ Sjoin) × (commandIn (crowd (88 ∷ [])) ≡ Unknown)
+unfolding prefixed formerLineRules formerParams formerRest commandAmong capital contentOf contentIn isRead numberFor lineRules bodyRules firstOf endsLine sameBy bodyOf all isPlain startsWith prefix word prefixEnd commandStart spaces command isCommand isLetter within commandEnd rest params
+crowds = (refl, refl, refl, refl)
+
+-- they got 10
+crowd-was : (name : List ℕ) → firstOf (formerLineRules (crowd name)) ≡ tooManyParams → firstOf (enteringRules water (from3 (crowd name)) lineLimit ++ formerLineRules (crowd name)) ≡ tooManyParams
+crowd-was name e = append-none (formerLineRules (crowd name)) (enteringRules water (from3 (crowd name)) lineLimit) refl (water-enters (crowd name)) ∙ e
+
+distinct : Sjoin ≡ Unknown → ⊥
+distinct e = let z : _≡_ {A = ℕ} 0 1 = cc in omega (arith, z)
+
+-- and get 12 and 11
+crowd-gets : (processAnswer water (from3 (crowd sjoin)) lineLimit ≡ refused water wrongParamCount 0) × (processAnswer water (from3 (crowd (88 ∷ []))) lineLimit ≡ refused water unknownCommand 0)
+crowd-gets =
+    let join = turns water (from3 (crowd sjoin)) lineLimit in
+    let other = turns water (from3 (crowd (88 ∷ []))) lineLimit in
+    (join .known (join .turned (crowd-was sjoin (crowds .0))) (λ e. distinct (sym (crowds .2) ∙ e)), other .unknown (other .turned (crowd-was (88 ∷ []) (crowds .1))) (crowds .3))

@@ -5,7 +5,7 @@ use mathlib.Core.Bool.{true, false}
 use mathlib.Core.List.{List, map}
 use Prim.Native.Nat.{suc}
 use lib.ListN.{length}
-use Rattle.refusal.specs.Numbers.{accepted, tooManyParams, isModeNumber}
+use Rattle.refusal.specs.Numbers.{accepted, badCommand, isModeNumber}
 use Rattle.refusal.specs.Rules.{Rule, firstOf, ascendFrom, rank}
 use Rattle.octets.specs.Bytes.{capital}
 use Rattle.message.specs.declared.Message.{Message}
@@ -33,7 +33,7 @@ pub record Unrefused (m : Meaning) (n : Network) (a : Arrival) : Type 0 where
 
 -- The rules stand in the order of their numbers, behind the reader's.
 abbrev pub BehindReader : List Rule → Type 0
-BehindReader rules = ascendFrom (suc (rank tooManyParams)) rules ≡ true
+BehindReader rules = ascendFrom (suc (rank badCommand)) rules ≡ true
 
 -- What holds of a lawful command.
 pub record Lawful (k : Command) : Type 0 where

@@ -20,5 +20,6 @@ pub mod Joined
 pub mod IllFormed
 pub mod Places
 pub mod Former
+pub mod Fifteenth
 mod Examples
 mod Clashing

@@ -1,5 +1,6 @@
 -- What became of number 17 (document 02, §6). The rules of a line, the answer to it and what is written, with 17 where there are 32 to 36 now; and what is claimed: "17 becomes
--- 32 to 36", "Lines refused before are refused still, and no others". No function goes by the former rules.
+-- 32 to 36", "Lines refused before are refused still, and no others". No function goes by the former rules. The reader is
+-- today's: what became of its own number 10 is in `Fifteenth`.
 use Prim.Native.Nat.{ℕ}
 use mathlib.Core.Path.{_≡_}
 use mathlib.Core.Bool.{true, cond}

@@ -10,4 +10,5 @@ pub mod Relay
 pub mod IllFormed
 pub mod Places
 pub mod Former
+pub mod Fifteenth
 pub mod Private

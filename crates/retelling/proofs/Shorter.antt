@@ -7,7 +7,7 @@ use mathlib.Core.Logic.{inl, inr}
 use mathlib.Core.List.{List, [], _∷_, _++_, map, append-assoc}
 use mathlib.Core.Option.{some}
 use native.Mathlib.Omega.{arith}
-use lib.ListN.{length, length-map}
+use lib.ListN.{length, length-append, length-map}
 use lib.Dec.{eqb, leb, ltb}
 use borrow.Author.Tests.{eqb-true}
 use Rattle.refusal.specs.Numbers.{accepted}
@@ -195,15 +195,18 @@ module _ (c : Content) (none : firstOf (joinRules c) ≡ accepted) (p : Proper (
       let s = o .settings in
       let a = hasMode (s .modes) keyMode in
       let b = hasMode (s .modes) limitMode in
+      let given = timeIn c ∷ nameIn c ∷ modesIn c ∷ argumentsIn c in
+      let whole : c .params ≡ given ++ (listIn c ∷ []) = parts (c .params) (bounds c (good .count) .0) (bounds c (good .count) .1) in
       written-shorter (joinMessage sid o) c
       (before a b (digitsOf time) name (modesText (s .modes)) (s .key) (digitsOf (s .limit)))
-      (timeIn c ∷ nameIn c ∷ modesIn c ∷ argumentsIn c)
+      given
       (listText (o .members))
       (listIn c)
       refl
-      (parts (c .params) (bounds c (good .count) .0) (bounds c (good .count) .1))
+      whole
       (sym source)
       (omega (arith, command))
+      (omega (arith, bounds c (good .count) .1, length-append given (listIn c ∷ []), ap (λ (ps : List (List ℕ)). length ps) whole))
       (omega (arith, before-room a b (digitsOf time) name (modesText (s .modes)) (s .key) (digitsOf (s .limit)), time-shorter time until, letters-shorter (counts time ch), arguments-shorter (counts time ch)))
       (list-shorter ch (listIn c) refl time (p .some))
       (λ m. entry-alone (o .members) (q .some) (standing-one ch (listIn c) refl time m) (q .listed))

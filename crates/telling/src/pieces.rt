@@ -29,7 +29,8 @@ use writer::form::takes_colon;
 // The parameters that always come before the list: time, name and modes.
 const FIXED: usize = 3;
 
-// The place of the list among the parameters: behind the time, the name, the modes, and the key and the limit where they are told.
+// The place of the list among the parameters: behind the time, the name, the modes, and the key and the limit where they are told. The rule for ':' asks for it, though no list is
+// the fifteenth.
 fn list_place(modes: u8) -> usize
     ensures { λ k. ⌜ k ≡ listPlace modes ⌝ }
 {

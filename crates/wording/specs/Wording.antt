@@ -17,7 +17,6 @@ use Rattle.refusal.specs.Numbers.{
   emptyLine,
   emptyPrefix,
   badCommand,
-  tooManyParams,
   unknownCommand,
   wrongParamCount,
   badSource,
@@ -71,7 +70,6 @@ table =
     ∷ emptyLine says "only CR LF"
     ∷ emptyPrefix says "prefix empty"
     ∷ badCommand says "command malformed or missing"
-    ∷ tooManyParams says "a sixteenth parameter"
     ∷ unknownCommand says "command not SJOIN, PART, QUIT or BMASK"
     ∷ wrongParamCount says "too few or too many parameters"
     ∷ badSource says "prefix missing or no id of its kind"

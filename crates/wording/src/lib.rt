@@ -33,7 +33,6 @@ use refusal::OUTPUT_TOO_SHORT;
 use refusal::TEXT_TOO_LONG;
 use refusal::TOO_MANY_MASKS;
 use refusal::TOO_MANY_MEMBERS;
-use refusal::TOO_MANY_PARAMS;
 use refusal::UNKNOWN_COMMAND;
 use refusal::UNKNOWN_MODE;
 use refusal::UNWRITABLE;
@@ -77,7 +76,6 @@ pub fn words(number: u8) -> Text
         EMPTY_LINE => held(b"only CR LF"),
         EMPTY_PREFIX => held(b"prefix empty"),
         BAD_COMMAND => held(b"command malformed or missing"),
-        TOO_MANY_PARAMS => held(b"a sixteenth parameter"),
         UNKNOWN_COMMAND => held(b"command not SJOIN, PART, QUIT or BMASK"),
         WRONG_PARAM_COUNT => held(b"too few or too many parameters"),
         BAD_SOURCE => held(b"prefix missing or no id of its kind"),

@@ -1,7 +1,7 @@
 -- A message written by computing: a witness for the premises of the theorems about messages that are written. Assumes nothing.
 use mathlib.Core.Path.{_≡_, refl}
 use mathlib.Core.Bool.{false}
-use mathlib.Core.List.{List, [], _∷_}
+use mathlib.Core.List.{List, [], _∷_, map}
 use Prim.Native.Nat.{ℕ}
 use lib.ListN.{replicate}
 use Rattle.refusal.specs.Numbers.{accepted, outputTooShort, unwritable}
@@ -11,7 +11,7 @@ use Rattle.laws.specs.Lists.{all, sameBy, startsWith}
 use Rattle.octets.specs.Room.{part}
 use Rattle.message.specs.declared.Span.{Span}
 use Rattle.message.specs.declared.Message.{Message}
-use Rattle.message.specs.Grammar.{lineLimit, paramLimit, word, spaces, prefix, prefixEnd, commandStart, command, commandEnd, isCommand, rest, params}
+use Rattle.message.specs.Grammar.{lineLimit, paramLimit, isBare, word, spaces, prefix, prefixEnd, commandStart, command, commandEnd, isCommand, rest, params}
 use Rattle.message.specs.Content.{contentIn}
 use Rattle.message.specs.Parts.{span, emptyAt, contentBy}
 use Rattle.message.specs.Reading.{crlf, endsLine, bodyOf, bodyRules}
@@ -30,6 +30,12 @@ message p = record { «has_prefix» = false; prefix = emptyAt 0; command = span 
 whole-written : written (contentBy text (message (span 1 4))) ≡ 88 ∷ space ∷ colon ∷ 97 ∷ space ∷ 98 ∷ crlf
 unfolding text message written writtenBody writtenPrefix writtenParams writtenParam takesColon all startsWith contentBy part
 whole-written = refl
+
+-- as the fifteenth it takes none; ` b`, `:b` and an empty one do
+fifteenths-written : map (λ p. writtenParams 14 (p ∷ [])) ((97 ∷ space ∷ 98 ∷ []) ∷ (space ∷ 98 ∷ []) ∷ (colon ∷ 98 ∷ []) ∷ [] ∷ [])
+    ≡ (space ∷ 97 ∷ space ∷ 98 ∷ []) ∷ (space ∷ colon ∷ space ∷ 98 ∷ []) ∷ (space ∷ colon ∷ colon ∷ 98 ∷ []) ∷ (space ∷ colon ∷ []) ∷ []
+unfolding writtenParams writtenParam takesColon isBare
+fifteenths-written = refl
 
 whole-accepted : firstOf (writeRules text (message (span 1 4)) (replicate lineLimit 0)) ≡ accepted
 unfolding text message writeRules firstOf lies liesIn all readsBack sameContent samePrefix sameBy contentBy part written writtenBody writtenPrefix writtenParams writtenParam takesColon startsWith endsLine bodyOf bodyRules isPlain contentIn prefix word prefixEnd commandStart spaces command isCommand isLetter within commandEnd rest params

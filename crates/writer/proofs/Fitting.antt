@@ -4,7 +4,7 @@ use mathlib.Core.Path.{_≡_, refl, sym, ap, _∙_}
 use mathlib.Core.Bool.{Bool, true, false, true≢false, not, _&&_, _||_, or-true, and-true}
 use mathlib.Core.List.{List, [], _∷_, map}
 use mathlib.Core.Option.{Option, some, none}
-use Prim.Native.Nat.{ℕ, _+_}
+use Prim.Native.Nat.{ℕ, _+_, _≤_}
 use native.Mathlib.Omega.{arith}
 use lib.ListN.{length, take, drop, length-map, length-take}
 use lib.Dec.{eqb, leb}
@@ -18,16 +18,18 @@ use Rattle.laws.proofs.Lists.{nil-map, all-head, all-tail, all-cons, all-drop, 
 use Rattle.octets.proofs.Bytes.{same-refl, same-true}
 use Rattle.message.specs.declared.Span.{Span}
 use Rattle.message.specs.declared.Message.{Message}
-use Rattle.message.specs.Grammar.{Part, paramLimit, word, isMiddle, rest, afterMiddle, hasPrefix, prefix, isCommand, commandEnd, params}
+use Rattle.message.specs.Grammar.{Part, paramLimit, middleLimit, word, isMiddle, rest, afterMiddle, hasPrefix, prefix, isCommand, commandEnd, params}
 use Rattle.message.specs.Content.{Content, bytesOf, contentIn}
 use Rattle.message.specs.Parts.{bytesAt, contentBy}
 use Rattle.message.specs.Reading.{bodyOf, grammarRules}
+use Rattle.message.proofs.Induction.{Claim, Clauses, of-rest}
+use Rattle.message.proofs.Fifteenth.{params-few}
 use Rattle.message.proofs.Readings.{Formed, formed}
 use Rattle.message.proofs.SpanContents.{content-eq}
 use Rattle.writer.specs.Form.{writtenBody, written, samePrefix, sameContent, readsBack, liesIn, lies}
 use Rattle.writer.specs.Private.Fit.{goodPrefix, goodSource, goodParam, goodParams, good, fitPrefix, fitCommand, fitParam, fitParams, fit}
 use Rattle.writer.proofs.Words.{all-word, word-clear, word-middle}
-use Rattle.writer.proofs.Trips.{content-back, body-plain, body-full, good-reads, body-back, form-reads}
+use Rattle.writer.proofs.Trips.{readFrom, bodyFrom, good-few, content-back, body-plain, body-full, good-reads, body-back, form-reads}
 
 -- ---- the parameters that are read are good: all but the last are middles
 good-cons : (p : List ℕ) (ps : List (List ℕ)) → all isPlain p ≡ true → isMiddle p ≡ true → goodParams ps ≡ true → goodParams (p ∷ ps) ≡ true
@@ -38,37 +40,23 @@ good-last : (p : List ℕ) → all isPlain p ≡ true → goodParams (p ∷ []) 
 unfolding goodParams goodParam
 good-last p a = rw a
 
-module _ (x : ℕ) (s : List ℕ) (k at : ℕ) where
-  rest-good-step : all isPlain (x ∷ s) ≡ true → goodParams (bytesOf (rest k (at + 1) s)) ≡ true → goodParams (bytesOf (afterMiddle (k + 1) (at + 1) s)) ≡ true
-      → goodParams (bytesOf (rest k at (x ∷ s))) ≡ true
-  unfolding rest
-  rest-good-step a r m = go (eqb x space) refl (eqb x colon) refl
-    where
-      go : (t : Bool) → eqb x space ≡ t → (u : Bool) → eqb x colon ≡ u → goodParams (bytesOf (rest k at (x ∷ s))) ≡ true
-      go true p u q = rw p r
-      go false p true q = rw (p, q) (good-last s (all-tail isPlain x s a))
-      go false p false q =
-          rw (p, q) (good-cons (x ∷ word s) (bytesOf (afterMiddle (k + 1) (at + 1) s))
-          (all-cons isPlain x (word s) (all-head isPlain x s a) (all-word isPlain s (all-tail isPlain x s a))) (word-middle x s p q) m)
+abbrev Good : Claim
+Good k at s ps = all isPlain s ≡ true → goodParams (bytesOf ps) ≡ true
 
-  middle-good-step : goodParams (bytesOf (rest k (at + 1) s)) ≡ true → goodParams (bytesOf (afterMiddle k (at + 1) s)) ≡ true → goodParams (bytesOf (afterMiddle k at (x ∷ s))) ≡ true
-  unfolding rest
-  middle-good-step r m = go (eqb x space) refl
-    where
-      go : (t : Bool) → eqb x space ≡ t → goodParams (bytesOf (afterMiddle k at (x ∷ s))) ≡ true
-      go true p = rw p r
-      go false p = rw p m
-
-mutual
-  unfolding rest goodParams
-
-  rest-good : (s : List ℕ) (k at : ℕ) → all isPlain s ≡ true → goodParams (bytesOf (rest k at s)) ≡ true
-  rest-good [] k at a = refl
-  rest-good (x ∷ s) k at a = let b = all-tail isPlain x s a in rest-good-step x s k at a (rest-good s k (at + 1) b) (middle-good s (k + 1) (at + 1) b)
-
-  middle-good : (s : List ℕ) (k at : ℕ) → all isPlain s ≡ true → goodParams (bytesOf (afterMiddle k at s)) ≡ true
-  middle-good [] k at a = refl
-  middle-good (x ∷ s) k at a = let b = all-tail isPlain x s a in middle-good-step x s k at (rest-good s k (at + 1) b) (middle-good s k (at + 1) b)
+read-params : Clauses Good Good
+unfolding goodParams
+read-params = record {
+  nothing = λ k at a. refl;
+  spaced = λ k at s ps r a. r (all-tail isPlain space s a);
+  trailing = λ k at s a. good-last s (all-tail isPlain colon s a);
+  remains = λ k at x s p q l a. good-last (x ∷ s) a;
+  middle = λ k at x s ps p q l m a.
+      let b = all-tail isPlain x s a in
+      good-cons (x ∷ word s) (bytesOf ps) (all-cons isPlain x (word s) (all-head isPlain x s a) (all-word isPlain s b)) (word-middle x s p q) (m b);
+  ends = λ k at a. refl;
+  stops = λ k at s ps r a. r (all-tail isPlain space s a);
+  goes = λ k at x s ps p m a. m (all-tail isPlain x s a);
+}
 
 -- ---- what a line that keeps to the grammar holds is good
 prefix-run : (b : List ℕ) → hasPrefix b ≡ true → prefix b ≡ word (drop 1 b)
@@ -86,20 +74,24 @@ module _ (line : List ℕ) (f : Formed line) where
       let n : isNil (prefix body) ≡ false = rw h at (f .prefixed) in
       rw (n, p) (and-intro _ _ (all-word isPlain (drop 1 body) (all-drop isPlain 1 body (f .plain))) (word-clear (drop 1 body)))
 
-  source-good : goodSource (contentIn body .prefix) ≡ true
-  unfolding contentIn goodSource
-  source-good = go (hasPrefix body) refl
+  source-good : (k : ℕ) → goodSource (readFrom k body .prefix) ≡ true
+  unfolding goodSource
+  source-good k = go (hasPrefix body) refl
     where
-      go : (t : Bool) → hasPrefix body ≡ t → goodSource (contentIn body .prefix) ≡ true
+      go : (t : Bool) → hasPrefix body ≡ t → goodSource (readFrom k body .prefix) ≡ true
       go true h = rw h (prefix-good h)
       go false h = rw h
 
+  pub read-good : (k : ℕ) → length (readFrom k body .params) ≤ paramLimit → good (readFrom k body) ≡ true
+  unfolding good
+  read-good k few =
+      and-intro _ _ (source-good k) (and-intro _ _ (f .commanded) (and-intro _ _
+      (of-rest Good Good read-params (drop (commandEnd body) body) k (commandEnd body) (all-drop isPlain (commandEnd body) body (f .plain)))
+      (le-leb (length (readFrom k body .params)) paramLimit few)))
+
   pub formed-good : good (contentIn body) ≡ true
-  unfolding good contentIn params
-  formed-good =
-      and-intro _ _ source-good (and-intro _ _ (f .commanded) (and-intro _ _
-      (rest-good (drop (commandEnd body) body) 0 (commandEnd body) (all-drop isPlain (commandEnd body) body (f .plain)))
-      (le-leb (length (bytesOf (params body))) paramLimit (omega (arith, f .few, length-map (params body) (λ (x : Part). x .bytes))))))
+  unfolding contentIn params
+  formed-good = read-good 0 (omega (arith, params-few body, length-map (params body) (λ (x : Part). x .bytes)))
 
 -- ---- equal, byte for byte
 prefix-refl : (o : Option (List ℕ)) → samePrefix o o ≡ true
@@ -114,11 +106,11 @@ prefix-true none (some q) e = absurd (true≢false (sym e))
 prefix-true (some p) none e = absurd (true≢false (sym e))
 prefix-true (some p) (some q) e = ap some (same-true p q e)
 
-content-refl : (d : Content) → sameContent d d ≡ true
+pub content-refl : (d : Content) → sameContent d d ≡ true
 unfolding sameContent
 content-refl d = simp (prefix-refl, same-refl, sameBy-refl same same-refl)
 
-content-true : (d e : Content) → sameContent d e ≡ true → d ≡ e
+pub content-true : (d e : Content) → sameContent d e ≡ true → d ≡ e
 unfolding sameContent
 content-true d e h =
     let a = and-right (samePrefix (d .prefix) (e .prefix)) _ h in
@@ -127,10 +119,10 @@ content-true d e h =
 
 -- ---- the tests of the parts are exactly "reads back as it"
 pub good-form : (d : Content) → good d ≡ true → (firstOf (grammarRules (written d)) ≡ accepted) × (contentIn (bodyOf (written d)) ≡ d)
-unfolding written
+unfolding written writtenBody contentIn params
 good-form d ok =
-    let g : good (contentIn (writtenBody d)) ≡ true = rw (content-back d ok) ok in
-    (form-reads (writtenBody d) (body-plain d ok) (body-full d ok) ∙ good-reads (writtenBody d) g, ap contentIn (body-back (writtenBody d)) ∙ content-back d ok)
+    let back = content-back 0 d ok (λ l. omega (arith, good-few d ok)) in
+    (form-reads (bodyFrom 0 d) (body-plain 0 d ok) (body-full 0 d ok) ∙ good-reads 0 (bodyFrom 0 d) (ap good back ∙ ok), ap contentIn (body-back (bodyFrom 0 d)) ∙ back)
 
 pub good-exactly : (d : Content) → good d ≡ readsBack d
 unfolding readsBack

@@ -1,5 +1,5 @@
--- The written form of what a body holds is no longer than the body: a middle is written with the one SPACE that it needs before it, and a
--- trailing part with the ':' that it was read with. Assumes nothing.
+-- The written form of what a body holds is no longer than the body: a middle is written with the one SPACE that it needs before it, a trailing part
+-- with the ':' that it was read with, and what remains after fourteen middles without ':' is written without it. Assumes nothing.
 use mathlib.Core.Path.{_≡_, refl, sym, _∙_}
 use mathlib.Core.Bool.{Bool, true, false}
 use mathlib.Core.List.{List, [], _∷_}
@@ -8,60 +8,56 @@ use native.Mathlib.Omega.{arith}
 use lib.ListN.{length, drop, length-append, length-drop}
 use lib.Seq.{drop-drop}
 use lib.Dec.{eqb}
+use borrow.Author.Tests.{eqb-true}
 use Rattle.octets.specs.Bytes.{space, colon}
 use Rattle.laws.specs.Lists.{isNil}
-use Rattle.message.specs.Grammar.{word, spaces, isMiddle, rest, afterMiddle, hasPrefix, prefix, prefixEnd, commandStart, command, commandEnd, params}
+use Rattle.message.specs.Grammar.{middleLimit, word, spaces, isMiddle, rest, afterMiddle, hasPrefix, prefix, prefixEnd, commandStart, command, commandEnd, params}
 use Rattle.message.specs.Content.{bytesOf, contentIn}
+use Rattle.message.proofs.Induction.{Claim, Clauses, of-middle}
 use Rattle.message.proofs.Runs.{middle-skip}
 use Rattle.message.proofs.Relation.{Stops, middle-stop, word-then}
 use Rattle.writer.specs.Form.{writtenParams, writtenPrefix, writtenBody}
-use Rattle.writer.proofs.Words.{word-middle}
-use Rattle.writer.proofs.Trips.{middle-written, trailing-written}
+use Rattle.writer.proofs.Words.{word-middle, bare-cons}
+use Rattle.writer.proofs.Parts.{stands, stands-last}
+use Rattle.writer.proofs.Trips.{bare-written, middle-written, trailing-written}
 
 -- ---- the parameters
 middle-length : (k : ℕ) (p : List ℕ) (ps : List (List ℕ)) → isMiddle p ≡ true → length (writtenParams k (p ∷ ps)) ≡ suc (length p + length (writtenParams (k + 1) ps))
 unfolding writtenParams
 middle-length k p ps e = rw (middle-written k (isNil ps) p e, length-append p (writtenParams (k + 1) ps))
 
+-- one that stands without ':' takes a SPACE and its bytes
+bare-length : (k : ℕ) (p : List ℕ) → stands k p ≡ true → length (writtenParams k (p ∷ [])) ≡ suc (length p)
+unfolding writtenParams
+bare-length k p e = rw (bare-written k true p e) (omega (arith, length-append p []))
+
 last-length : (k : ℕ) (p : List ℕ) → length (writtenParams k (p ∷ [])) ≤ suc (suc (length p))
 unfolding writtenParams
-last-length k p = go (isMiddle p) refl
+last-length k p = go (stands k p) refl
   where
-    go : (t : Bool) → isMiddle p ≡ t → length (writtenParams k (p ∷ [])) ≤ suc (suc (length p))
-    go true e = omega (arith, middle-length k p [] e)
+    go : (t : Bool) → stands k p ≡ t → length (writtenParams k (p ∷ [])) ≤ suc (suc (length p))
+    go true e = omega (arith, bare-length k p e)
     go false e = rw (trailing-written k p e) (omega (arith, length-append p []))
 
-module _ (x : ℕ) (s : List ℕ) (k at : ℕ) (r : length (writtenParams k (bytesOf (rest k (at + 1) s))) ≤ suc (length s)) where
-  rest-short-step : length (word s) + length (writtenParams (k + 1) (bytesOf (afterMiddle (k + 1) (at + 1) s))) ≤ length s
-      → length (writtenParams k (bytesOf (rest k at (x ∷ s)))) ≤ suc (suc (length s))
-  unfolding rest
-  rest-short-step m = go (eqb x space) refl (eqb x colon) refl
-    where
-      go : (t : Bool) → eqb x space ≡ t → (u : Bool) → eqb x colon ≡ u → length (writtenParams k (bytesOf (rest k at (x ∷ s)))) ≤ suc (suc (length s))
-      go true p u q = rw p (omega arith)
-      go false p true q = rw (p, q) (last-length k s)
-      go false p false q = rw (p, q, middle-length k (x ∷ word s) (bytesOf (afterMiddle (k + 1) (at + 1) s)) (word-middle x s p q)) (omega arith)
+abbrev Rests : Claim
+Rests k at s ps = length (writtenParams k (bytesOf ps)) ≤ suc (length s)
 
-  middle-short-step : length (word s) + length (writtenParams k (bytesOf (afterMiddle k (at + 1) s))) ≤ length s
-      → length (word (x ∷ s)) + length (writtenParams k (bytesOf (afterMiddle k at (x ∷ s)))) ≤ suc (length s)
-  unfolding rest word
-  middle-short-step m = go (eqb x space) refl
-    where
-      go : (t : Bool) → eqb x space ≡ t → length (word (x ∷ s)) + length (writtenParams k (bytesOf (afterMiddle k at (x ∷ s)))) ≤ suc (length s)
-      go true p = rw p (omega arith)
-      go false p = rw p (omega arith)
+-- a middle's bytes that are left count too
+abbrev Follows : Claim
+Follows k at s ps = length (word s) + length (writtenParams k (bytesOf ps)) ≤ length s
 
-mutual
-  unfolding rest writtenParams word
-
-  rest-short : (s : List ℕ) (k at : ℕ) → length (writtenParams k (bytesOf (rest k at s))) ≤ suc (length s)
-  rest-short [] k at = omega arith
-  rest-short (x ∷ s) k at = rest-short-step x s k at (rest-short s k (at + 1)) (middle-short s (k + 1) (at + 1))
-
-  -- a middle's bytes that are left count too
-  middle-short : (s : List ℕ) (k at : ℕ) → length (word s) + length (writtenParams k (bytesOf (afterMiddle k at s))) ≤ length s
-  middle-short [] k at = omega arith
-  middle-short (x ∷ s) k at = middle-short-step x s k at (rest-short s k (at + 1)) (middle-short s k (at + 1))
+short : Clauses Rests Follows
+unfolding writtenParams word
+short = record {
+  nothing = λ k at. omega arith;
+  spaced = λ k at s ps r. omega (arith, r);
+  trailing = λ k at s. last-length k s;
+  remains = λ k at x s p q l. omega (arith, bare-length k (x ∷ s) (stands-last k (x ∷ s) l ∙ bare-cons x s p q));
+  middle = λ k at x s ps p q l m. omega (arith, middle-length k (x ∷ word s) (bytesOf ps) (word-middle x s p q), m);
+  ends = λ k at. omega arith;
+  stops = λ k at s ps r. omega (arith, r);
+  goes = λ k at x s ps p m. rw p (omega (arith, m));
+}
 
 -- ---- the command and the parameters
 -- the parameters follow the command as they follow a middle
@@ -74,7 +70,7 @@ params-middle b =
 
 tail-short : (b : List ℕ) → length (command b) + length (writtenParams 0 (bytesOf (params b))) ≤ length b - commandStart b
 unfolding command
-tail-short b = rw (params-middle b) (omega (arith, middle-short (drop (commandStart b) b) 0 (commandStart b), length-drop (commandStart b) b))
+tail-short b = rw (params-middle b) (omega (arith, of-middle Rests Follows short (drop (commandStart b) b) 0 (commandStart b), length-drop (commandStart b) b))
 
 -- ---- the prefix: a SPACE stands between it and a command
 stops-spaces : (t : List ℕ) → Stops t → 1 ≤ length t → 1 ≤ spaces t

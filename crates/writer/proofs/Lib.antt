@@ -4,6 +4,7 @@ pub mod Words
 pub mod Rounds
 pub mod Shorter
 pub mod Answers
+pub mod Former
 mod Trips
 mod Fitting
 mod Rules

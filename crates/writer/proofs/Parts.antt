@@ -10,10 +10,11 @@ use lib.Dec.{eqb}
 use borrow.Author.Tests.{eq-eqb, ne-eqb}
 use Rattle.octets.specs.Bytes.{space, colon, isPlain, isNonSpace}
 use Rattle.laws.specs.Lists.{all, isNil, startsWith}
-use Rattle.laws.proofs.Lists.{front-step, nil-length, nil-map}
+use Rattle.laws.proofs.Bools.{and-left, and-right, and-intro}
+use Rattle.laws.proofs.Lists.{front-step, nil-length, nil-map, all-head}
 use Rattle.message.specs.declared.Span.{Span}
 use Rattle.message.specs.declared.Message.{Message}
-use Rattle.message.specs.Grammar.{isMiddle}
+use Rattle.message.specs.Grammar.{middleLimit, isMiddle, isBare}
 use Rattle.message.specs.Parts.{span, bytesAt}
 use Rattle.message.specs.Reading.{crlf}
 use Rattle.writer.specs.Form.{takesColon, writtenParam, writtenParams, writtenPrefix, writtenBody, written, liesIn}
@@ -35,15 +36,67 @@ unfolding isMiddle
 middle-word [] = λ h e r q. absurd (h refl)
 middle-word (b ∷ p) = λ h e r q. rw (ne-eqb b colon e) q
 
--- ':' is needed exactly where the last parameter is no middle
-pub colon-exactly : (k : ℕ) (last : Bool) (p : List ℕ) → takesColon k last p ≡ last && not (isMiddle p)
-unfolding takesColon isMiddle startsWith
-colon-exactly k last [] = refl
-colon-exactly k last (b ∷ p) = ap (λ (t : Bool). last && t) (go (eqb b colon) (all isNonSpace (b ∷ p)))
+-- ---- what can stand bare, by its first byte
+pub bare-nil : (p : List ℕ) → length p ≡ 0 → false ≡ isBare p
+unfolding isBare
+bare-nil [] = λ h. refl
+bare-nil (b ∷ p) = λ h. absurd (omega arith)
+
+pub bare-colon : (p : List ℕ) → (length p ≡ 0 → ⊥) → getD p 0 0 ≡ colon → false ≡ isBare p
+unfolding isBare
+bare-colon [] = λ h e. refl
+bare-colon (b ∷ p) = λ h e. rw (eq-eqb b colon e)
+
+pub bare-byte : (p : List ℕ) → (length p ≡ 0 → ⊥) → (getD p 0 0 ≡ colon → ⊥) → not (eqb (getD p 0 0) space) ≡ isBare p
+unfolding isBare
+bare-byte [] = λ h e. absurd (h refl)
+bare-byte (b ∷ p) = λ h e. rw (ne-eqb b colon e)
+
+-- a middle can
+middle-bare : (p : List ℕ) → isMiddle p ≡ true → isBare p ≡ true
+unfolding isMiddle isBare all
+middle-bare [] h = h
+middle-bare (b ∷ p) h =
+    and-intro _ _ (and-left (not (eqb b colon)) (all isNonSpace (b ∷ p)) h) (all-head isNonSpace b p (and-right (not (eqb b colon)) (all isNonSpace (b ∷ p)) h))
+
+-- ---- what is read back as parameter k, if it is the last, without ':'
+abbrev pub stands : ℕ → List ℕ → Bool
+stands k p = cond (eqb k middleLimit) (isBare p) (isMiddle p)
+
+-- a middle is, everywhere
+pub middle-stands : (k : ℕ) (p : List ℕ) → isMiddle p ≡ true → stands k p ≡ true
+middle-stands k p h = go (eqb k middleLimit)
+  where
+    go : (t : Bool) → cond t (isBare p) (isMiddle p) ≡ true
+    go true = middle-bare p h
+    go false = h
+
+module _ (k : ℕ) (p : List ℕ) where
+  -- of the fifteenth only the first byte counts
+  pub stands-last : k ≡ middleLimit → stands k p ≡ isBare p
+  stands-last h = rw (eq-eqb k middleLimit h)
+
+  pub stands-before : (k ≡ middleLimit → ⊥) → stands k p ≡ isMiddle p
+  stands-before h = rw (ne-eqb k middleLimit h)
+
+-- 01's words for ':' say that the parameter is no middle
+no-middle : (p : List ℕ) → isNil p || (startsWith colon p || not (all isNonSpace p)) ≡ not (isMiddle p)
+unfolding isMiddle startsWith
+no-middle [] = refl
+no-middle (b ∷ p) = go (eqb b colon) (all isNonSpace (b ∷ p))
   where
     go : (s t : Bool) → s || not t ≡ not (not s && t)
     go true t = refl
     go false t = refl
+
+-- ':' is written exactly where the last parameter doesn't stand without it
+pub colon-exactly : (k : ℕ) (last : Bool) (p : List ℕ) → takesColon k last p ≡ last && not (stands k p)
+unfolding takesColon
+colon-exactly k last p = ap (λ (t : Bool). last && t) (go (eqb k middleLimit))
+  where
+    go : (t : Bool) → cond t (not (isBare p)) (isNil p || (startsWith colon p || not (all isNonSpace p))) ≡ not (cond t (isBare p) (isMiddle p))
+    go true = refl
+    go false = no-middle p
 
 -- ---- the prefix
 module _ (text : List ℕ) (m : Message) (has : not (m .«has_prefix») ≡ false) where

@@ -1,15 +1,15 @@
 -- Reading what is written gives the message back: part by part, each part of a good message stops where the grammar stops reading it.
 -- Assumes nothing.
 use mathlib.Core.Path.{_≡_, refl, sym, ap, _∙_}
-use mathlib.Core.Bool.{Bool, true, false, true≢false, not, _&&_, _||_, and-false}
+use mathlib.Core.Bool.{Bool, true, false, true≢false, not, cond, _&&_, _||_, and-false}
 use mathlib.Core.List.{List, [], _∷_, _++_, append-nil, append-assoc}
 use mathlib.Core.Option.{Option, some, none}
 use Prim.Native.Nat.{ℕ, _+_, _-_, _≤_}
 use native.Mathlib.Omega.{arith}
-use lib.ListN.{length, drop, length-append, length-map}
+use lib.ListN.{length, drop, length-append}
 use lib.Seq.{drop-drop, drop-append-seam, drop-at, take-at}
 use lib.Dec.{eqb}
-use borrow.Author.Tests.{ne-eqb, leb-true, le-ltb, not-true}
+use borrow.Author.Tests.{ne-eqb, eqb-true, eqb-false, leb-true, not-true}
 use Rattle.refusal.specs.Numbers.{accepted}
 use Rattle.refusal.specs.Rules.{firstOf}
 use Rattle.refusal.proofs.Rules.{skip, first-nil}
@@ -17,25 +17,28 @@ use Rattle.octets.specs.Bytes.{space, colon, isPlain, isNonSpace}
 use Rattle.laws.specs.Lists.{all, isNil, sameBy, startsWith}
 use Rattle.laws.proofs.Bools.{and-left, and-right}
 use Rattle.laws.proofs.Lists.{nil-length, all-head, all-cons, all-append}
-use Rattle.message.specs.Grammar.{Part, paramLimit, spaces, isMiddle, rest, hasPrefix, prefix, prefixEnd, commandStart, command, commandEnd, isCommand, params}
-use Rattle.message.specs.Content.{Content, bytesOf, contentIn}
+use Rattle.message.specs.Grammar.{paramLimit, middleLimit, spaces, isMiddle, rest, hasPrefix, prefix, prefixEnd, commandStart, command, commandEnd, isCommand}
+use Rattle.message.specs.Content.{Content, bytesOf}
 use Rattle.message.specs.Reading.{crlf, endsLine, bodyOf, bodyRules, grammarRules}
-use Rattle.message.proofs.Relation.{Stops, stops-word, middle-read}
+use Rattle.message.proofs.Relation.{Stops, stops-word, middle-read, bare-read}
 use Rattle.message.proofs.Words.{word-append}
 use Rattle.message.proofs.SpanContents.{content, content-eq}
-use Rattle.writer.specs.Form.{takesColon, writtenParam, writtenParams, writtenPrefix, writtenBody}
+use Rattle.writer.specs.Form.{takesColon, writtenParam, writtenParams, writtenPrefix}
 use Rattle.writer.specs.Private.Fit.{goodPrefix, goodSource, goodParam, goodParams, good}
-use Rattle.writer.proofs.Parts.{colon-exactly}
+use Rattle.writer.proofs.Parts.{stands, middle-stands, stands-last, stands-before, colon-exactly}
 use Rattle.writer.proofs.Words.{middle-clear, command-long, command-plain, command-middle}
 
 -- ---- one parameter
-pub middle-written : (k : ℕ) (last : Bool) (p : List ℕ) → isMiddle p ≡ true → writtenParam k last p ≡ p
+pub bare-written : (k : ℕ) (last : Bool) (p : List ℕ) → stands k p ≡ true → writtenParam k last p ≡ p
 unfolding writtenParam
-middle-written k last p e = rw (colon-exactly k last p, e, and-false last)
+bare-written k last p e = rw (colon-exactly k last p ∙ ap (λ (t : Bool). last && not t) e, and-false last)
 
-pub trailing-written : (k : ℕ) (p : List ℕ) → isMiddle p ≡ false → writtenParam k true p ≡ colon ∷ p
+pub middle-written : (k : ℕ) (last : Bool) (p : List ℕ) → isMiddle p ≡ true → writtenParam k last p ≡ p
+middle-written k last p e = bare-written k last p (middle-stands k p e)
+
+pub trailing-written : (k : ℕ) (p : List ℕ) → stands k p ≡ false → writtenParam k true p ≡ colon ∷ p
 unfolding writtenParam
-trailing-written k p e = rw (colon-exactly k true p, e)
+trailing-written k p e = rw (colon-exactly k true p ∙ ap not e)
 
 param-plain : (k : ℕ) (last : Bool) (p : List ℕ) → all isPlain p ≡ true → all isPlain (writtenParam k last p) ≡ true
 unfolding writtenParam isPlain
@@ -69,26 +72,35 @@ unfolding writtenParams
 written-stops k [] = tt
 written-stops k (p ∷ ps) = refl
 
-middle-back : (k at : ℕ) (p : List ℕ) (ps : List (List ℕ)) → isMiddle p ≡ true → bytesOf (rest (k + 1) (at + 1 + length p) (writtenParams (k + 1) ps)) ≡ ps
+middle-back : (k at : ℕ) (p : List ℕ) (ps : List (List ℕ)) → isMiddle p ≡ true → (k ≡ middleLimit → ⊥) → bytesOf (rest (k + 1) (at + 1 + length p) (writtenParams (k + 1) ps)) ≡ ps
     → bytesOf (rest k at (writtenParams k (p ∷ ps))) ≡ p ∷ ps
 unfolding writtenParams rest
-middle-back k at p ps m ih =
+middle-back k at p ps m h ih =
     rw (middle-written k (isNil ps) p m)
-    (ap bytesOf (middle-read (writtenParams (k + 1) ps) (written-stops (k + 1) ps) p m k (at + 1)) ∙ ap (λ (l : List (List ℕ)). p ∷ l) ih)
+    (ap bytesOf (middle-read (writtenParams (k + 1) ps) (written-stops (k + 1) ps) p m k (at + 1) h) ∙ ap (λ (l : List (List ℕ)). p ∷ l) ih)
 
 last-back : (k at : ℕ) (p : List ℕ) → bytesOf (rest k at (writtenParams k (p ∷ []))) ≡ p ∷ []
 unfolding writtenParams rest
-last-back k at p = go (isMiddle p) refl
+last-back k at p = go (stands k p) refl (eqb k middleLimit) refl
   where
-    go : (t : Bool) → isMiddle p ≡ t → bytesOf (rest k at (writtenParams k (p ∷ []))) ≡ p ∷ []
-    go true e = middle-back k at p [] e refl
-    go false e = rw (trailing-written k p e) (ap (λ (l : List ℕ). l ∷ []) (append-nil p))
+    go : (t : Bool) → stands k p ≡ t → (u : Bool) → eqb k middleLimit ≡ u → bytesOf (rest k at (writtenParams k (p ∷ []))) ≡ p ∷ []
+    go true e true l =
+        let h = eqb-true k middleLimit l in
+        rw (bare-written k true p e, append-nil p) (ap bytesOf (bare-read p (sym (stands-last k p h) ∙ e) k (at + 1) h))
+    go true e false l = let h = eqb-false k middleLimit l in middle-back k at p [] (sym (stands-before k p h) ∙ e) h refl
+    go false e u l = rw (trailing-written k p e) (ap (λ (s : List ℕ). s ∷ []) (append-nil p))
 
-params-back : (ps : List (List ℕ)) → goodParams ps ≡ true → (k at : ℕ) → bytesOf (rest k at (writtenParams k ps)) ≡ ps
+-- After k parameters there is room for these: none of them is the fifteenth, or the last is.
+abbrev pub Fits : ℕ → List (List ℕ) → Type 0
+Fits k ps = k ≤ middleLimit → k + length ps ≤ paramLimit
+
+params-back : (ps : List (List ℕ)) → goodParams ps ≡ true → (k at : ℕ) → Fits k ps → bytesOf (rest k at (writtenParams k ps)) ≡ ps
 unfolding writtenParams rest
-params-back [] h k at = refl
-params-back (p ∷ []) h k at = last-back k at p
-params-back (p ∷ q ∷ ps) h k at = middle-back k at p (q ∷ ps) (good-middle p (q ∷ ps) h refl) (params-back (q ∷ ps) (good-tail p (q ∷ ps) h) (k + 1) (at + 1 + length p))
+params-back [] h k at f = refl
+params-back (p ∷ []) h k at f = last-back k at p
+params-back (p ∷ q ∷ ps) h k at f =
+    middle-back k at p (q ∷ ps) (good-middle p (q ∷ ps) h refl) (λ e. omega (arith, f (omega arith)))
+    (params-back (q ∷ ps) (good-tail p (q ∷ ps) h) (k + 1) (at + 1 + length p) (λ l. omega (arith, f (omega arith))))
 
 params-plain : (ps : List (List ℕ)) → goodParams ps ≡ true → (k : ℕ) → all isPlain (writtenParams k ps) ≡ true
 unfolding writtenParams all isPlain
@@ -108,25 +120,33 @@ module _ (t : List ℕ) where
   prefix-none (b ∷ w) h = not-true (eqb b colon) (and-left (not (eqb b colon)) (all isNonSpace (b ∷ w)) h)
 
 -- ---- a command and good parameters are read where they stand
-module _ (c : List ℕ) (ps : List (List ℕ)) (is : isMiddle c ≡ true) (ok : goodParams ps ≡ true) where
+-- what a body holds if k middles are counted before its parameters: of 0 that is what it holds
+abbrev pub readFrom : ℕ → List ℕ → Content
+readFrom k body = record {
+  prefix = cond (hasPrefix body) (some (prefix body)) none;
+  command = command body;
+  params = bytesOf (rest k (commandEnd body) (drop (commandEnd body) body));
+}
+
+module _ (k : ℕ) (c : List ℕ) (ps : List (List ℕ)) (is : isMiddle c ≡ true) (ok : goodParams ps ≡ true) (fits : Fits k ps) where
   abbrev tail : List ℕ
-  tail = c ++ writtenParams 0 ps
+  tail = c ++ writtenParams k ps
 
   module _ (b : List ℕ) (e : drop (commandStart b) b ≡ tail) where
     command-there : command b ≡ c
     unfolding command
-    command-there = rw e (word-append c (writtenParams 0 ps) (middle-clear c is) (stops-word (writtenParams 0 ps) (written-stops 0 ps)))
+    command-there = rw e (word-append c (writtenParams k ps) (middle-clear c is) (stops-word (writtenParams k ps) (written-stops k ps)))
 
-    params-there : bytesOf (params b) ≡ ps
-    unfolding params commandEnd
+    params-there : readFrom k b .params ≡ ps
+    unfolding commandEnd
     params-there =
-        rw (command-there, ← drop-drop (length c) (commandStart b) b, e, drop-append-seam c (writtenParams 0 ps))
-        (params-back ps ok 0 (commandStart b + length c))
+        rw (command-there, ← drop-drop (length c) (commandStart b) b, e, drop-append-seam c (writtenParams k ps))
+        (params-back ps ok k (commandStart b + length c) fits)
 
   -- without a prefix
   bare-start : drop (commandStart tail) tail ≡ tail
   unfolding commandStart
-  bare-start = rw (prefix-none (writtenParams 0 ps) c is)
+  bare-start = rw (prefix-none (writtenParams k ps) c is)
 
   -- with one
   module _ (p : List ℕ) (clear : all isNonSpace p ≡ true) where
@@ -145,7 +165,7 @@ module _ (c : List ℕ) (ps : List (List ℕ)) (is : isMiddle c ≡ true) (ok : 
     unfolding commandStart startsWith spaces
     start-there =
         let e : drop (1 + length p) body ≡ space ∷ tail = drop-at (colon ∷ p) (space ∷ tail) (1 + length p) (omega arith) in
-        rw (end-there, e, spaces-none (writtenParams 0 ps) c is)
+        rw (end-there, e, spaces-none (writtenParams k ps) c is)
 
     tail-there : drop (commandStart body) body ≡ tail
     tail-there =
@@ -166,7 +186,7 @@ module _ (d : Content) (ok : good d ≡ true) where
   unfolding good
   good-params = and-left _ _ (and-right (isCommand (d .command)) _ (and-right (goodSource (d .prefix)) _ ok))
 
-  good-few : length (d .params) ≤ paramLimit
+  pub good-few : length (d .params) ≤ paramLimit
   unfolding good
   good-few = leb-true _ _ (and-right (goodParams (d .params)) _ (and-right (isCommand (d .command)) _ (and-right (goodSource (d .prefix)) _ ok)))
 
@@ -182,55 +202,53 @@ source-full : (p : List ℕ) → goodPrefix p ≡ true → isNil p ≡ false
 unfolding goodPrefix
 source-full p h = not-true (isNil p) (and-left (not (isNil p)) _ h)
 
--- ---- what the written form of a good message holds
-parts-back : (o : Option (List ℕ)) (c : List ℕ) (ps : List (List ℕ)) → goodSource o ≡ true → isMiddle c ≡ true → goodParams ps ≡ true
-    → contentIn (writtenPrefix o ++ c ++ writtenParams 0 ps) ≡ content o c ps
-unfolding contentIn startsWith writtenPrefix goodSource
-parts-back none c ps h is ok =
-    let b : List ℕ = c ++ writtenParams 0 ps in
-    let e = bare-start c ps is ok in
-    content-eq (contentIn b) (content none c ps) (rw (prefix-none (writtenParams 0 ps) c is)) (command-there c ps is ok b e) (params-there c ps is ok b e)
-parts-back (some p) c ps h is ok =
+-- ---- what the written form of a good message holds, k middles being counted before its parameters
+parts-back : (o : Option (List ℕ)) (c : List ℕ) (ps : List (List ℕ)) (k : ℕ) → goodSource o ≡ true → isMiddle c ≡ true → goodParams ps ≡ true → Fits k ps
+    → readFrom k (writtenPrefix o ++ c ++ writtenParams k ps) ≡ content o c ps
+unfolding startsWith writtenPrefix goodSource
+parts-back none c ps k h is ok f =
+    let b : List ℕ = c ++ writtenParams k ps in
+    let e = bare-start k c ps is ok f in
+    content-eq (readFrom k b) (content none c ps) (rw (prefix-none (writtenParams k ps) c is)) (command-there k c ps is ok f b e) (params-there k c ps is ok f b e)
+parts-back (some p) c ps k h is ok f =
     let clear = source-clear p h in
-    let b : List ℕ = body c ps is ok p clear in
-    let e = tail-there c ps is ok p clear in
-    let w : writtenPrefix (some p) ++ c ++ writtenParams 0 ps ≡ b = simp append-assoc in
-    rw w (content-eq (contentIn b) (content (some p) c ps) (ap some (prefix-there c ps is ok p clear)) (command-there c ps is ok b e) (params-there c ps is ok b e))
+    let b : List ℕ = body k c ps is ok f p clear in
+    let e = tail-there k c ps is ok f p clear in
+    let w : writtenPrefix (some p) ++ c ++ writtenParams k ps ≡ b = simp append-assoc in
+    rw w (content-eq (readFrom k b) (content (some p) c ps) (ap some (prefix-there k c ps is ok f p clear)) (command-there k c ps is ok f b e) (params-there k c ps is ok f b e))
 
 prefix-plain : (o : Option (List ℕ)) → goodSource o ≡ true → all isPlain (writtenPrefix o) ≡ true
 unfolding writtenPrefix goodSource all isPlain
 prefix-plain none h = refl
 prefix-plain (some p) h = all-append isPlain p (space ∷ []) (source-plain p h) refl
 
-module _ (d : Content) (ok : good d ≡ true) where
-  pub content-back : contentIn (writtenBody d) ≡ d
-  unfolding writtenBody
-  content-back = parts-back (d .prefix) (d .command) (d .params) (good-source d ok) (command-middle (d .command) (good-command d ok)) (good-params d ok)
+-- the body of a message whose parameters are written as if k came before them
+abbrev pub bodyFrom : ℕ → Content → List ℕ
+bodyFrom k d = writtenPrefix (d .prefix) ++ d .command ++ writtenParams k (d .params)
 
-  pub body-plain : all isPlain (writtenBody d) ≡ true
-  unfolding writtenBody
+module _ (k : ℕ) (d : Content) (ok : good d ≡ true) where
+  pub content-back : Fits k (d .params) → readFrom k (bodyFrom k d) ≡ d
+  content-back f = parts-back (d .prefix) (d .command) (d .params) k (good-source d ok) (command-middle (d .command) (good-command d ok)) (good-params d ok) f
+
+  pub body-plain : all isPlain (bodyFrom k d) ≡ true
   body-plain =
-      all-append isPlain (writtenPrefix (d .prefix) ++ d .command) (writtenParams 0 (d .params))
+      all-append isPlain (writtenPrefix (d .prefix) ++ d .command) (writtenParams k (d .params))
       (all-append isPlain (writtenPrefix (d .prefix)) (d .command) (prefix-plain (d .prefix) (good-source d ok)) (command-plain (d .command) (good-command d ok)))
-      (params-plain (d .params) (good-params d ok) 0)
+      (params-plain (d .params) (good-params d ok) k)
 
-  pub body-full : isNil (writtenBody d) ≡ false
-  unfolding writtenBody
-  body-full = nil-length (writtenBody d) ∙ ne-eqb (length (writtenBody d)) 0 (λ q. omega (arith, command-long (d .command) (good-command d ok), simp length-append at q))
+  pub body-full : isNil (bodyFrom k d) ≡ false
+  body-full = nil-length (bodyFrom k d) ∙ ne-eqb (length (bodyFrom k d)) 0 (λ q. omega (arith, command-long (d .command) (good-command d ok), simp length-append at q))
 
 -- ---- a good body has no refusal
-pub good-reads : (b : List ℕ) → good (contentIn b) ≡ true → firstOf (bodyRules b) ≡ accepted
-unfolding bodyRules contentIn goodSource
-good-reads b ok = skip _ _ sourced ∙ skip _ _ (rw (good-command (contentIn b) ok)) ∙ skip _ _ (le-ltb paramLimit (length (params b)) few) ∙ first-nil
+pub good-reads : (k : ℕ) (b : List ℕ) → good (readFrom k b) ≡ true → firstOf (bodyRules b) ≡ accepted
+unfolding bodyRules goodSource
+good-reads k b ok = skip _ _ sourced ∙ skip _ _ (rw (good-command (readFrom k b) ok)) ∙ first-nil
   where
-    few : length (params b) ≤ paramLimit
-    few = omega (arith, good-few (contentIn b) ok, length-map (params b) (λ (x : Part). x .bytes))
-
     sourced : hasPrefix b && isNil (prefix b) ≡ false
     sourced = go (hasPrefix b) refl
       where
         go : (t : Bool) → hasPrefix b ≡ t → hasPrefix b && isNil (prefix b) ≡ false
-        go true h = rw h (source-full (prefix b) (rw h at (good-source (contentIn b) ok)))
+        go true h = rw h (source-full (prefix b) (rw h at (good-source (readFrom k b) ok)))
         go false h = rw h
 
 -- ---- a body and CR LF

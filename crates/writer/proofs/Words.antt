@@ -15,7 +15,7 @@ use Rattle.laws.proofs.Lists.{all-head, all-tail, all-cons, all-imp, all-map}
 use Rattle.octets.proofs.Bytes.{within-bounds, small-bounds, capital-letter, capital-digit}
 use Rattle.octets.proofs.Clean.{above-space}
 use Rattle.octets.proofs.Search.{before-none}
-use Rattle.message.specs.Grammar.{word, isCommand, isMiddle}
+use Rattle.message.specs.Grammar.{word, isCommand, isMiddle, isBare}
 use Rattle.message.proofs.Runs.{word-before}
 
 -- ---- a word
@@ -36,6 +36,11 @@ word-clear s = rw (word-before s) (before-none space s)
 pub word-middle : (b : ℕ) (s : List ℕ) → eqb b space ≡ false → eqb b colon ≡ false → isMiddle (b ∷ word s) ≡ true
 unfolding isMiddle all
 word-middle b s e f = simp (e, f, word-clear s)
+
+-- what begins so can stand bare
+pub bare-cons : (b : ℕ) (s : List ℕ) → eqb b space ≡ false → eqb b colon ≡ false → isBare (b ∷ s) ≡ true
+unfolding isBare
+bare-cons b s e f = simp (e, f)
 
 pub middle-clear : (w : List ℕ) → isMiddle w ≡ true → all isNonSpace w ≡ true
 unfolding isMiddle all

@@ -1,4 +1,4 @@
--- The fixed form of a message (document 01: "The writer takes a message .. and writes the fixed form").
+-- The fixed form of a message (document 01: "The writer takes a message .. and writes the fixed form"; document 02, §7).
 use Prim.Native.Nat.{ℕ, _+_}
 use mathlib.Core.Bool.{Bool, true, false, not, cond, _&&_, _||_}
 use mathlib.Core.List.{List, [], _∷_, _++_, map}
@@ -11,14 +11,15 @@ use Rattle.octets.specs.Bytes.{space, colon, isNonSpace, capital}
 use Rattle.laws.specs.Lists.{all, isNil, same, sameBy, startsWith}
 use Rattle.message.specs.declared.Span.{Span}
 use Rattle.message.specs.declared.Message.{Message}
-use Rattle.message.specs.Grammar.{paramLimit}
+use Rattle.message.specs.Grammar.{paramLimit, middleLimit, isBare}
 use Rattle.message.specs.Content.{Content, contentIn}
 use Rattle.message.specs.Reading.{crlf, bodyOf, grammarRules}
 
 -- ---- the form
--- ':' stands before parameter k exactly if it is the last and is empty, starts with ':' or holds a SPACE. The rule doesn't depend on k.
+-- ':' stands before parameter k, counted from 0, exactly if it is the last and is empty, starts with ':' or holds a SPACE; before a last one that is the fifteenth,
+-- unless it is non-empty and starts with neither ':' nor SPACE
 unfoldable pub takesColon : ℕ → Bool → List ℕ → Bool
-takesColon k last p = last && (isNil p || (startsWith colon p || not (all isNonSpace p)))
+takesColon k last p = last && cond (eqb k middleLimit) (not (isBare p)) (isNil p || (startsWith colon p || not (all isNonSpace p)))
 
 unfoldable pub writtenParam : ℕ → Bool → List ℕ → List ℕ
 writtenParam k last p = cond (takesColon k last p) (colon ∷ p) p

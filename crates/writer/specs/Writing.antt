@@ -1,4 +1,4 @@
--- When a line is written, and what is answered: the numbers 2, 24 and 25 of document 01, and of a line passed on the reader's 4 to 10.
+-- When a line is written, and what is answered: the numbers 2, 24 and 25 of document 01, and of a line passed on the reader's 4 to 9.
 use Prim.Native.Nat.{ℕ}
 use mathlib.Core.Bool.{not, _&&_}
 use mathlib.Core.List.{List, [], _∷_}

@@ -8,25 +8,42 @@ ghost use Prim.Native.Nat.{_≤_};
 ghost use lib.ListN.{take};
 ghost use Rattle.octets.specs.Bytes.{space, capital as capitalOf};
 ghost use Rattle.octets.specs.Private.Additions.{Adds};
-ghost use Rattle.message.specs.Grammar.{paramLimit};
+ghost use Rattle.message.specs.Grammar.{paramLimit, isBare};
 ghost use Rattle.message.specs.Parts.{bytesAt, contentBy};
 ghost use Rattle.writer.specs.Form.{takesColon, writtenParam, writtenParams, writtenPrefix, written};
 ghost use Rattle.writer.specs.Private.Fit.{cased};
 use crate::fit::is_middle;
+use message::MIDDLE_LIMIT;
 use message::Message;
 use message::spans::command_in;
 use octets::capital;
 use octets::part;
 use octets::put;
 
-// Whether parameter k is written with ':' before it.
+// What stands as the fifteenth without ':': one or more bytes, the first neither ':' nor SPACE.
+fn is_bare(p: &[u8]) -> bool
+    ensures { λ r. ⌜ r ≡ isBare (now (p .entry)) ⌝ }
+{
+    if p.len() == 0 {
+        return false;
+    }
+    if p[0] == b':' {
+        return false;
+    }
+    p[0] != b' '
+}
+
+// Whether parameter k, counted from 0, is written with ':' before it.
 pub fn takes_colon(p: &[u8], k: usize, last: bool) -> bool
     ensures { λ r. ⌜ r ≡ takesColon k last (now (p .entry)) ⌝ }
 {
-    if last {
-        return !is_middle(p);
+    if !last {
+        return false;
     }
-    false
+    if k == MIDDLE_LIMIT {
+        return !is_bare(p);
+    }
+    !is_middle(p)
 }
 
 // Adds a SPACE and parameter k.

@@ -1,6 +1,6 @@
-// Writes a message in the one fixed form (document 01, 'Reading one line'): one SPACE between parts, ':' before the last parameter exactly if
-// it is empty, starts with ':' or holds a SPACE, CR LF at the end. A line is put together apart, and goes to the front of the lent output
-// only if nothing refuses it.
+// Writes a message in the one fixed form (document 01, 'Reading one line'; document 02, §7): one SPACE between parts, ':' before the last parameter exactly if
+// it is empty, starts with ':' or holds a SPACE, before a fifteenth exactly if it is empty or starts with ':' or SPACE, CR LF at the end. A line is put together
+// apart, and goes to the front of the lent output only if nothing refuses it.
 mod fit;
 pub mod form;
 

@@ -8,6 +8,9 @@ pub const LINE: usize = 512;
 /// The most parameters of a message.
 pub const PARAMS: usize = 15;
 
+/// The most middles: what remains after the last of these is the fifteenth parameter.
+const MIDDLES: usize = 14;
+
 /// What a line says: perhaps a prefix, a command, parameters, each a part of the lent bytes.
 #[derive(Clone, Debug, PartialEq, Eq)]
 pub struct Message<'a> {
@@ -15,7 +18,7 @@ pub struct Message<'a> {
     pub prefix: Option<&'a [u8]>,
     /// The command as it is spelled.
     pub command: &'a [u8],
-    /// The middles, then the trailing part if there is one.
+    /// The middles, then the trailing part, or what remains after the fourteenth, if there is any.
     pub params: Vec<&'a [u8]>,
 }
 
@@ -46,11 +49,7 @@ fn read_any_length(line: &[u8]) -> Result<Message<'_>, Refusal> {
     if !is_command(command) {
         return Err(Refusal::BadCommand);
     }
-    let params = params_in(rest);
-    if params.len() > PARAMS {
-        return Err(Refusal::ManyParams);
-    }
-    Ok(Message { prefix, command, params })
+    Ok(Message { prefix, command, params: params_in(rest) })
 }
 
 /// The prefix, where the first byte is ':', and what follows it and its run of SPACEs.
@@ -81,10 +80,11 @@ fn is_command(word: &[u8]) -> bool {
     letters || digits
 }
 
-/// The rules *rest* and *middle*: each turn is one *rest*, and a *middle* is followed by the next.
+/// The rules *rest* and *middle*: each turn is one *rest*, and a *middle* is followed by the next, up to
+/// the fourteenth.
 fn params_in(mut text: &[u8]) -> Vec<&[u8]> {
     let mut params = Vec::new();
-    loop {
+    while params.len() < MIDDLES {
         text = after_spaces(text);
         if text.is_empty() {
             return params;
@@ -97,6 +97,14 @@ fn params_in(mut text: &[u8]) -> Vec<&[u8]> {
         params.push(middle);
         text = rest;
     }
+    params.extend(fifteenth(after_spaces(text)));
+    params
+}
+
+/// All that remains after the fourteenth middle and its SPACEs, less one leading ':' if there is one; no
+/// parameter if nothing remains.
+fn fifteenth(remains: &[u8]) -> Option<&[u8]> {
+    (!remains.is_empty()).then(|| remains.strip_prefix(b":").unwrap_or(remains))
 }
 
 /// The prefix of a line; the empty part at the end of the lent bytes where there is none or the
@@ -197,8 +205,7 @@ fn message_of<'a>(lent: &'a [u8], parts: &Parts) -> Option<Message<'a>> {
     Some(Message { prefix, command, params: params.iter().map(part).collect::<Option<_>>()? })
 }
 
-/// The fixed form: one SPACE between parts, ':' before the last parameter exactly if it is empty,
-/// starts with ':' or holds a SPACE.
+/// The fixed form: one SPACE between parts, ':' before the last parameter where it needs one.
 pub fn form(message: &Message) -> Vec<u8> {
     let mut line = Vec::with_capacity(LINE);
     if let Some(prefix) = message.prefix {
@@ -209,7 +216,7 @@ pub fn form(message: &Message) -> Vec<u8> {
     line.extend(message.command);
     for (index, param) in message.params.iter().enumerate() {
         line.push(b' ');
-        if index + 1 == message.params.len() && needs_colon(param) {
+        if index + 1 == message.params.len() && needs_colon(index, param) {
             line.push(b':');
         }
         line.extend(*param);
@@ -218,8 +225,12 @@ pub fn form(message: &Message) -> Vec<u8> {
     line
 }
 
-fn needs_colon(param: &[u8]) -> bool {
-    param.is_empty() || param.starts_with(b":") || param.contains(&b' ')
+/// Whether the last parameter, whose index that is, is empty, starts with ':' or holds a SPACE. The ':'
+/// is left off a fifteenth that is non-empty and starts with neither ':' nor SPACE.
+fn needs_colon(index: usize, last: &[u8]) -> bool {
+    let starts = |byte: u8| last.first() == Some(&byte);
+    let left_off = index == MIDDLES && !last.is_empty() && !starts(b':') && !starts(b' ');
+    (last.is_empty() || starts(b':') || last.contains(&b' ')) && !left_off
 }
 
 #[cfg(test)]
@@ -251,15 +262,78 @@ mod tests {
     }
 
     #[test]
-    fn sixteen_parameters_and_513_bytes() {
-        assert_eq!(
-            read(&line(&[b"X".as_slice(), &b" a".repeat(15)].concat())).unwrap().params.len(),
-            15
-        );
-        assert_eq!(refused(&[b"X".as_slice(), &b" a".repeat(16)].concat()), Some(10));
-        assert_eq!(refused(&[b"X".as_slice(), &b" a".repeat(15), b" :"].concat()), Some(10));
+    fn sixteen_words_and_513_bytes() {
+        assert_eq!(after(14, b" o"), (15, Some(b"o".to_vec())));
+        assert_eq!(after(14, b" o p"), (15, Some(b"o p".to_vec())));
+        assert_eq!(after(14, b" o :"), (15, Some(b"o :".to_vec())));
         assert_eq!(refused(&[b'x'; 510]), None);
         assert_eq!(refused(&[b'x'; 511]), Some(4));
+    }
+
+    /// The text of a command and so many words, then this end.
+    fn words(count: usize, end: &[u8]) -> Vec<u8> {
+        [b"X".as_slice(), &b" a".repeat(count), end].concat()
+    }
+
+    /// The number of parameters of such a text, and the one that stands behind the words.
+    fn after(count: usize, end: &[u8]) -> (usize, Option<Vec<u8>>) {
+        let line = line(&words(count, end));
+        let params = read(&line).unwrap().params;
+        assert!(params.iter().take(count).all(|param| param == b"a"));
+        (params.len(), params.get(count).map(|param| param.to_vec()))
+    }
+
+    #[test]
+    fn the_fifteenth_is_all_that_remains() {
+        for (end, fifteenth) in [
+            (b" o".as_slice(), b"o".as_slice()),
+            (b"   o", b"o"),
+            (b" o ", b"o "),
+            (b"  o p  q :r  ", b"o p  q :r  "),
+            (b" :", b""),
+            (b"  : ", b" "),
+            (b" ::", b":"),
+            (b" :::", b"::"),
+            (b" :o p", b"o p"),
+            (b" : o", b" o"),
+            (b" o:", b"o:"),
+            (b" o ::", b"o ::"),
+        ] {
+            assert_eq!(after(14, end), (15, Some(fifteenth.to_vec())), "{end:?}");
+        }
+        for end in [b"".as_slice(), b" ", b"     "] {
+            assert_eq!(after(14, end), (14, None), "{end:?}");
+        }
+    }
+
+    #[test]
+    fn the_fourteenth_is_as_before() {
+        assert_eq!(after(13, b" n "), (14, Some(b"n".to_vec())));
+        assert_eq!(after(13, b" n   "), (14, Some(b"n".to_vec())));
+        assert_eq!(after(13, b" n o"), (15, Some(b"n".to_vec())));
+        assert_eq!(after(13, b" :n o"), (14, Some(b"n o".to_vec())));
+        assert_eq!(after(13, b" :"), (14, Some(b"".to_vec())));
+        assert_eq!(after(12, b" m :n o :p"), (14, Some(b"m".to_vec())));
+    }
+
+    #[test]
+    fn the_colon_of_a_fifteenth() {
+        let formed = |count, end: &[u8]| form(&read(&line(&words(count, end))).unwrap());
+        for (read, written) in [
+            (b" o".as_slice(), b" o".as_slice()),
+            (b"  :o", b" o"),
+            (b" :o p  ", b" o p  "),
+            (b" o :p", b" o :p"),
+            (b"   :", b" :"),
+            (b" ::", b" ::"),
+            (b" : o", b" : o"),
+            (b"  ", b""),
+        ] {
+            assert_eq!(formed(14, read), line(&words(14, written)), "{read:?}");
+            assert_eq!(formed(14, written), line(&words(14, written)), "{read:?}");
+        }
+        assert_eq!(formed(13, b" :n o"), line(&words(13, b" :n o")));
+        assert_eq!(formed(13, b" :n"), line(&words(13, b" n")));
     }
 
     #[test]
@@ -336,6 +410,31 @@ mod tests {
         assert_eq!(number(spaced), Some(24));
         spaced.params[0] = span(4, 6);
         assert_eq!(number(Parts { count: 1, ..spaced }), Some(24));
+    }
+
+    /// As a fifteenth anything goes that goes as a last one; before it, middles alone.
+    #[test]
+    fn fifteen_parameters_to_be_written() {
+        let span = |start, end| Span { start, end };
+        let lent = b"X a :b\r";
+        let mut out = [0; 512];
+        let mut number = |parts: Parts| write(lent, &parts, &mut out).err().map(Refusal::number);
+        let (command, params) = (span(0, 1), [span(2, 3); 15]);
+        let good = Parts { command, count: 15, params, ..Parts::default() };
+        assert_eq!(number(good), None);
+        for (part, as_last) in [
+            (span(2, 6), None),
+            (span(4, 6), None),
+            (span(3, 4), None),
+            (span(1, 1), None),
+            (span(5, 7), Some(24)),
+        ] {
+            for (place, expected) in [(0, Some(24)), (13, Some(24)), (14, as_last)] {
+                let mut parts = good;
+                parts.params[place] = part;
+                assert_eq!(number(parts), expected, "{part:?} at {place}");
+            }
+        }
     }
 
     #[test]

@@ -22,8 +22,6 @@ pub enum Refusal {
     EmptyPrefix = 8,
     /// command malformed or missing
     BadCommand = 9,
-    /// a sixteenth parameter
-    ManyParams = 10,
     /// command not one of the three, nor of those added
     UnknownCommand = 11,
     /// parameters not 4 to 6 (SJOIN), 1 to 2 (PART), 0 to 1 (QUIT), 4 (BMASK)

@@ -374,6 +374,16 @@ mod tests {
     }
 
     #[test]
+    fn lines_of_many_words() {
+        for words in [" a".repeat(16), " a".repeat(200), format!("{} :", " a".repeat(14))] {
+            assert_eq!(say(&mut race(), &format!("PING{words}")), Err(11));
+            for command in ["SJOIN", "PART", "QUIT", "BMASK"] {
+                assert_eq!(say(&mut race(), &format!("{command}{words}")), Err(12), "{command}");
+            }
+        }
+    }
+
+    #[test]
     fn the_source_alone() {
         let mut table = Table { links: 1 << 31, ..Table::EMPTY };
         let mut out = [0; 512];

@@ -96,7 +96,7 @@ fn numbers_of_a_line_by_itself() {
     }
 }
 
-/// 1 to 3 come before the line, and 4 to 10 before its command.
+/// 1 to 3 come before the line, and 4 to 9 before its command.
 #[test]
 fn numbers_before_the_line() {
     let line = b":1AB BMASK 1000 #race b x\r\n";

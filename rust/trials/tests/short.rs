@@ -1,5 +1,7 @@
 //! Every short input there is over the bytes that mean something.
 
+use model::line::{Parts, Span};
+use model::refusal::number_of;
 use model::{line, mask, names, Table};
 use trials::compare::feeding::compare_feed;
 use trials::compare::taking::compare_take;
@@ -25,9 +27,18 @@ fn compare_read(line: &[u8]) {
     let answer = relay::read(line);
     let expected = line::read(line);
     let told = line.escape_ascii();
-    assert_eq!(answer.number, model::refusal::number_of(&expected), "{told}");
+    assert_eq!(answer.number, number_of(&expected), "{told}");
     assert_eq!(answer.count, expected.map_or(0, |m| m.params.len()), "{told}");
     assert_eq!(relay::parts(line), core_message(&line::parts(line)), "{told}");
+}
+
+fn compare_write(text: &[u8], parts: &Parts) {
+    let (mut out, mut expected_out) = ([7; 512], [7; 512]);
+    let answer = relay::write(text, &core_message(parts), &mut out);
+    let expected = line::write(text, parts, &mut expected_out);
+    let told = text.escape_ascii();
+    assert_eq!(answer.number, number_of(&expected), "{told}");
+    assert_eq!((answer.len, out), (expected.unwrap_or(0), expected_out), "{told}");
 }
 
 #[test]
@@ -40,11 +51,42 @@ fn lines() {
     }
 }
 
+/// What stands behind about fourteen words: the line read, and written again.
+#[test]
+fn ends_of_many_words() {
+    for (words, length) in (12..17).flat_map(|words| (0..8).map(move |length| (words, length))) {
+        each_text(b" :a", length, &mut |end| {
+            let line = [b"X".as_slice(), &b" b".repeat(words), end, b"\r\n"].concat();
+            compare_read(&line);
+            compare_write(&line, &line::parts(&line));
+        });
+    }
+}
+
+/// One of about fifteen parameters to be written, the last and one before it.
+#[test]
+fn last_of_many_parameters() {
+    let span = |start, end| Span { start, end };
+    for (count, length) in (13..17).flat_map(|count| (0..6).map(move |length| (count, length))) {
+        each_text(b" :a\0", length, &mut |last| {
+            let text = [b"X", last].concat();
+            let mut parts = Parts { command: span(0, 1), count, ..Parts::default() };
+            for place in 12..15 {
+                parts.params = [span(0, 1); 15];
+                parts.params[place] = span(1, text.len());
+                compare_write(&text, &parts);
+            }
+        });
+    }
+}
+
 #[test]
 fn each_byte_in_each_place_of_a_line() {
-    let line = b":1AB SJOIN 1 #a + :@1ABAAAAAA +1ABAAAAAB\r\n";
-    for place in 0..line.len() {
-        for byte in 0..=255 {
+    for line in [
+        b":1AB SJOIN 1 #a + :@1ABAAAAAA +1ABAAAAAB\r\n".as_slice(),
+        b":1AB X a b c d e f g h i j k l m n  :o p \r\n",
+    ] {
+        for (place, byte) in (0..line.len()).flat_map(|place| (0..=255).map(move |b| (place, b))) {
             let mut changed = line.to_vec();
             changed[place] = byte;
             compare_read(&changed);

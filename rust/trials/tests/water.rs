@@ -58,9 +58,20 @@ fn lines() {
         (b"b".as_slice(), b"".as_slice())
     );
     assert_eq!((number(b""), number(b": X"), number(b"12")), (7, 8, 9));
-    assert_eq!(number(&[b"X".as_slice(), &b" a".repeat(15)].concat()), 0);
-    assert_eq!(number(&[b"X".as_slice(), &b" a".repeat(16)].concat()), 10);
     assert_eq!((number(&[b'x'; 510]), number(&[b'x'; 511])), (0, 4));
+}
+
+/// The case of sixteen parameters, which document 02 turns round, §7: they are read as fifteen.
+#[test]
+fn fifteen_and_sixteen_parameters() {
+    for (line, last) in [
+        (b"X a b c d e f g h i j k l m n o\r\n".as_slice(), b"o".as_slice()),
+        (b"X a b c d e f g h i j k l m n o p\r\n", b"o p"),
+    ] {
+        let read = relay::read(line);
+        assert_eq!((read.number, read.count), (0, 15));
+        assert_eq!((relay::param(line, 13), relay::param(line, 14)), (b"n".as_slice(), last));
+    }
 }
 
 #[test]

@@ -11,7 +11,7 @@ use borrow.Author.Tests.{not-true, not-false}
 use Rattle.refusal.specs.Numbers.{lineTooLong, noLineEnd, forbiddenByte, emptyLine}
 use Rattle.message.specs.Grammar.{lineLimit}
 use Rattle.message.specs.Reading.{endsLine, bodyOf}
-use Rattle.message.proofs.Readings.{ends-long, body-is, body-length, answers, parses-refused, parses-body, number-long, number-unended, number-control, number-empty, number-body}
+use Rattle.message.proofs.Readings.{ends-long, body-is, answers, parses-refused, parses-body, number-long, number-unended, number-control, number-empty, number-body}
 use Rattle.message.proofs.parse.Statement.{statement}
 use Rattle.message.proofs.parse.Tie as tie
 
@@ -77,9 +77,7 @@ returns-4 c =
     (number-empty (line p) (small p) (ends p) _ (body p) (sym (c .before .before .before .all-in .ensures) ∙ not-false _ (c .before .before .if3 .left)) (c .before .if4 .taken)) (λ q. omega arith) (c .unread4 .ensures))
 
 parse-body-requires : tie.Need-parse-body-requires
-parse-body-requires c κs =
-    let p = c .before .before .before in
-    rw (body p) (omega (arith, body-length (line p), small p))
+parse-body-requires c κs = search needs
 
 returns-5 : tie.Need-returns-5
 returns-5 c =

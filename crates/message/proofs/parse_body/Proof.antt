@@ -7,12 +7,12 @@ use native.Mathlib.Omega.{arith}
 use lib.Dec.{eqb}
 use borrow.Author.Needs.{needs}
 use borrow.Author.Tests.{not-true, not-false}
-use Rattle.refusal.specs.Numbers.{emptyPrefix, badCommand, tooManyParams}
+use Rattle.refusal.specs.Numbers.{emptyPrefix, badCommand}
 use Rattle.message.specs.declared.Message.{Message}
 use Rattle.message.specs.Grammar.{command, isCommand}
 use Rattle.message.specs.Parts.{messageIn}
 use Rattle.message.proofs.Places.{Placed}
-use Rattle.message.proofs.Readings.{command-in, body-empty-prefix, body-no-command, body-many, body-reads, body-refused}
+use Rattle.message.proofs.Readings.{command-in, body-empty-prefix, body-no-command, body-reads, body-refused}
 use Rattle.message.proofs.parse_body.Statement.{statement}
 use Rattle.message.proofs.parse_body.Tie as tie
 
@@ -68,20 +68,10 @@ returns-2 c =
     body-refused (body p) (size p) (c .unread2 .result) badCommand
     (body-no-command (body p) _ (parts p) (are p) (full (c .before .before .before .before .before)) (tested (c .before .before) ∙ not-true _ (c .before .if2 .taken))) (λ q. omega arith) (c .unread2 .ensures)
 
-unread-requires-3 : tie.Need-unread-requires-3
-unread-requires-3 c κs = search needs
-
 returns-3 : tie.Need-returns-3
 returns-3 c =
-    let p = c .before .before .before .before .before .before .before .before in
-    body-refused (body p) (size p) (c .unread3 .result) tooManyParams
-    (body-many (body p) _ (parts p) (are p) (full (c .before .before .before .before .before .before)) (tested (c .before .before .before) ∙ not-false _ (c .before .before .if2 .left)) (omega (arith, c .before .if3 .taken)))
-    (λ q. omega arith) (c .unread3 .ensures)
-
-returns-4 : tie.Need-returns-4
-returns-4 c =
-    let p = c .before .before .before .before .before .before .before in
-    body-reads (body p) _ (parts p) (are p) (full (c .before .before .before .before .before)) (tested (c .before .before) ∙ not-false _ (c .before .if2 .left)) (omega (arith, c .if3 .left))
+    let p = c .before .before .before .before .before .before in
+    body-reads (body p) _ (parts p) (are p) (full (c .before .before .before .before)) (tested (c .before) ∙ not-false _ (c .if2 .left))
 
 pub parse-body-spec : {M : Type 1} → statement M
 parse-body-spec =
@@ -95,6 +85,4 @@ parse-body-spec =
     is-command-requires
     unread-requires-2
     returns-2
-    unread-requires-3
-    returns-3
-    returns-4)
+    returns-3)

@@ -24,7 +24,7 @@ opened has before named n = record {
   params = replicate paramLimit (emptyAt n);
 }
 
--- one parameter more: past the last that has room it is only counted (`set` past a list's end changes nothing)
+-- one parameter more
 unfoldable pub withParam : Message → Span → Message
 withParam m s = record {
   «has_prefix» = m .«has_prefix»;

@@ -216,12 +216,6 @@ slice-aggregate-held-35 c = search needs
 held-requires-35 : tie.Need-held-requires-35
 held-requires-35 c κs = search needs
 
-slice-aggregate-held-36 : tie.Need-slice-aggregate-held-36
-slice-aggregate-held-36 c = search needs
-
-held-requires-36 : tie.Need-held-requires-36
-held-requires-36 c κs = search needs
-
 returns : tie.Need-returns
 unfolding bytesOf table wordsIn
 returns c = c .held .ensures ∙ sym (ap textOf (c .before .before .match .keys1))
@@ -360,24 +354,19 @@ returns-34 c = c .held34 .ensures ∙ sym (ap textOf (c .before .before .match .
 
 returns-35 : tie.Need-returns-35
 unfolding bytesOf table wordsIn
-returns-35 c = c .held35 .ensures ∙ sym (ap textOf (c .before .before .match .keys35))
-
-returns-36 : tie.Need-returns-36
-unfolding bytesOf table wordsIn
-returns-36 c =
+returns-35 c =
     let n = c .before .before .before .args .number in
     let other = c .before .before .match .rest in
-    c .held36 .ensures ∙ simp (
-      ne-eqb 1 n (λ e. other .0 .0 .0 .0 .0 .0 .0 .0 .0 .0 .0 .0 .0 .0 .0 .0 .0 .0 .0 .0 .0 .0 .0 .0 .0 .0 .0 .0 .0 .0 .0 .0 .0 .0 .1 (sym e)),
-      ne-eqb 2 n (λ e. other .0 .0 .0 .0 .0 .0 .0 .0 .0 .0 .0 .0 .0 .0 .0 .0 .0 .0 .0 .0 .0 .0 .0 .0 .0 .0 .0 .0 .0 .0 .0 .0 .0 .1 (sym e)),
-      ne-eqb 3 n (λ e. other .0 .0 .0 .0 .0 .0 .0 .0 .0 .0 .0 .0 .0 .0 .0 .0 .0 .0 .0 .0 .0 .0 .0 .0 .0 .0 .0 .0 .0 .0 .0 .0 .1 (sym e)),
-      ne-eqb 4 n (λ e. other .0 .0 .0 .0 .0 .0 .0 .0 .0 .0 .0 .0 .0 .0 .0 .0 .0 .0 .0 .0 .0 .0 .0 .0 .0 .0 .0 .0 .0 .0 .0 .1 (sym e)),
-      ne-eqb 5 n (λ e. other .0 .0 .0 .0 .0 .0 .0 .0 .0 .0 .0 .0 .0 .0 .0 .0 .0 .0 .0 .0 .0 .0 .0 .0 .0 .0 .0 .0 .0 .0 .1 (sym e)),
-      ne-eqb 6 n (λ e. other .0 .0 .0 .0 .0 .0 .0 .0 .0 .0 .0 .0 .0 .0 .0 .0 .0 .0 .0 .0 .0 .0 .0 .0 .0 .0 .0 .0 .0 .1 (sym e)),
-      ne-eqb 7 n (λ e. other .0 .0 .0 .0 .0 .0 .0 .0 .0 .0 .0 .0 .0 .0 .0 .0 .0 .0 .0 .0 .0 .0 .0 .0 .0 .0 .0 .0 .1 (sym e)),
-      ne-eqb 8 n (λ e. other .0 .0 .0 .0 .0 .0 .0 .0 .0 .0 .0 .0 .0 .0 .0 .0 .0 .0 .0 .0 .0 .0 .0 .0 .0 .0 .0 .1 (sym e)),
-      ne-eqb 9 n (λ e. other .0 .0 .0 .0 .0 .0 .0 .0 .0 .0 .0 .0 .0 .0 .0 .0 .0 .0 .0 .0 .0 .0 .0 .0 .0 .0 .1 (sym e)),
-      ne-eqb 10 n (λ e. other .0 .0 .0 .0 .0 .0 .0 .0 .0 .0 .0 .0 .0 .0 .0 .0 .0 .0 .0 .0 .0 .0 .0 .0 .0 .1 (sym e)),
+    c .held35 .ensures ∙ simp (
+      ne-eqb 1 n (λ e. other .0 .0 .0 .0 .0 .0 .0 .0 .0 .0 .0 .0 .0 .0 .0 .0 .0 .0 .0 .0 .0 .0 .0 .0 .0 .0 .0 .0 .0 .0 .0 .0 .0 .1 (sym e)),
+      ne-eqb 2 n (λ e. other .0 .0 .0 .0 .0 .0 .0 .0 .0 .0 .0 .0 .0 .0 .0 .0 .0 .0 .0 .0 .0 .0 .0 .0 .0 .0 .0 .0 .0 .0 .0 .0 .1 (sym e)),
+      ne-eqb 3 n (λ e. other .0 .0 .0 .0 .0 .0 .0 .0 .0 .0 .0 .0 .0 .0 .0 .0 .0 .0 .0 .0 .0 .0 .0 .0 .0 .0 .0 .0 .0 .0 .0 .1 (sym e)),
+      ne-eqb 4 n (λ e. other .0 .0 .0 .0 .0 .0 .0 .0 .0 .0 .0 .0 .0 .0 .0 .0 .0 .0 .0 .0 .0 .0 .0 .0 .0 .0 .0 .0 .0 .0 .1 (sym e)),
+      ne-eqb 5 n (λ e. other .0 .0 .0 .0 .0 .0 .0 .0 .0 .0 .0 .0 .0 .0 .0 .0 .0 .0 .0 .0 .0 .0 .0 .0 .0 .0 .0 .0 .0 .1 (sym e)),
+      ne-eqb 6 n (λ e. other .0 .0 .0 .0 .0 .0 .0 .0 .0 .0 .0 .0 .0 .0 .0 .0 .0 .0 .0 .0 .0 .0 .0 .0 .0 .0 .0 .0 .1 (sym e)),
+      ne-eqb 7 n (λ e. other .0 .0 .0 .0 .0 .0 .0 .0 .0 .0 .0 .0 .0 .0 .0 .0 .0 .0 .0 .0 .0 .0 .0 .0 .0 .0 .0 .1 (sym e)),
+      ne-eqb 8 n (λ e. other .0 .0 .0 .0 .0 .0 .0 .0 .0 .0 .0 .0 .0 .0 .0 .0 .0 .0 .0 .0 .0 .0 .0 .0 .0 .0 .1 (sym e)),
+      ne-eqb 9 n (λ e. other .0 .0 .0 .0 .0 .0 .0 .0 .0 .0 .0 .0 .0 .0 .0 .0 .0 .0 .0 .0 .0 .0 .0 .0 .0 .1 (sym e)),
       ne-eqb 11 n (λ e. other .0 .0 .0 .0 .0 .0 .0 .0 .0 .0 .0 .0 .0 .0 .0 .0 .0 .0 .0 .0 .0 .0 .0 .0 .1 (sym e)),
       ne-eqb 12 n (λ e. other .0 .0 .0 .0 .0 .0 .0 .0 .0 .0 .0 .0 .0 .0 .0 .0 .0 .0 .0 .0 .0 .0 .0 .1 (sym e)),
       ne-eqb 13 n (λ e. other .0 .0 .0 .0 .0 .0 .0 .0 .0 .0 .0 .0 .0 .0 .0 .0 .0 .0 .0 .0 .0 .0 .1 (sym e)),
@@ -479,8 +468,6 @@ words-spec =
     held-requires-34
     slice-aggregate-held-35
     held-requires-35
-    slice-aggregate-held-36
-    held-requires-36
     returns
     returns-2
     returns-3
@@ -515,5 +502,4 @@ words-spec =
     returns-32
     returns-33
     returns-34
-    returns-35
-    returns-36)
+    returns-35)

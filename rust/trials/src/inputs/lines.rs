@@ -7,15 +7,17 @@ use super::{lists, words};
 use crate::rng::Rng;
 
 /// A line for a relay with that table: an SJOIN, PART, QUIT or BMASK, perhaps with one thing wrong,
-/// or another message, or noise; some damaged after that, some brought to a length near the limit.
+/// or another message, or one of many words, or noise; some damaged after that, some brought to a
+/// length near the limit.
 pub fn line(rng: &mut Rng, table: &Table) -> Vec<u8> {
-    let mut line = match rng.below(16) {
+    let mut line = match rng.below(17) {
         0..=5 => sjoin(rng),
         6..=7 => part(rng, table),
         8 => quit(rng, table),
         9 => other(rng),
         10 => noise(rng),
         11 => crowd(rng),
+        12 => many_words(rng),
         _ => bmask(rng, table),
     };
     if rng.one_in(4) {
@@ -306,6 +308,32 @@ fn other(rng: &mut Rng) -> Vec<u8> {
     let prefix: Option<&[u8]> = rng.pick(&[None, Some(b"1AB"), Some(b"1ABAAAAAA"), Some(b"")]);
     let command = rng.pick(commands);
     message(rng, prefix, command, &params)
+}
+
+/// A message of about fourteen words, perhaps of many more, and behind them SPACEs, ':' and letters in
+/// any order: it is what remains after the fourteenth that tells.
+pub fn many_words(rng: &mut Rng) -> Vec<u8> {
+    let commands: &[&[u8]] = &[b"PING", b"001", b"SJOIN", b"SJOIN", b"PART", b"QUIT", b"BMASK"];
+    let words: &[&[u8]] = &[b"a", b"b:", b"#race", b"x::", b"1"];
+    let prefix: &[u8] = rng.pick(&[b"".as_slice(), b":1AB ", b":1ABAAAAAA  "]);
+    let command = rng.pick(commands);
+    let mut line = [prefix, &cased(rng, command)].concat();
+    for _ in 0..rng.pick(&[12, 13, 13, 14, 14, 14, 14, 14, 15, 15, 16, 17, 40, 200]) {
+        gap(rng, &mut line);
+        line.extend(rng.pick(words));
+    }
+    if !rng.one_in(6) {
+        gap(rng, &mut line);
+        line.extend(ending(rng));
+    }
+    line.extend(b"\r\n");
+    line
+}
+
+/// No bytes or a few: SPACEs, ':' and letters.
+pub fn ending(rng: &mut Rng) -> Vec<u8> {
+    let length = rng.below(7);
+    (0..length).map(|_| rng.pick(b"  ::ab")).collect()
 }
 
 /// A message as a line: the letters of its command in any case, perhaps more SPACEs than it needs, at

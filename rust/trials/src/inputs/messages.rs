@@ -7,9 +7,15 @@ use crate::rng::Rng;
 
 /// Lent bytes and parts of them.
 pub fn message(rng: &mut Rng) -> (Vec<u8>, Parts) {
-    if rng.one_in(4) {
-        return read_message(rng);
+    match rng.below(5) {
+        0 => read_message(rng),
+        1 => many_params(rng),
+        _ => any_message(rng),
     }
+}
+
+/// Words of a text, and now and then another part of it.
+fn any_message(rng: &mut Rng) -> (Vec<u8>, Parts) {
     let text = text(rng);
     let words = words_in(&text);
     let mut parts = Parts {
@@ -40,6 +46,25 @@ fn read_message(rng: &mut Rng) -> (Vec<u8>, Parts) {
         parts.count = count(rng);
     }
     (line, parts)
+}
+
+/// About fourteen parameters that are words, behind them one that may start with SPACE or ':', hold
+/// SPACEs or be empty, some so long that the line is about as long as it may be; perhaps one of the
+/// words moved.
+pub fn many_params(rng: &mut Rng) -> (Vec<u8>, Parts) {
+    let mut text = [b"Xa:".as_slice(), &lines::ending(rng)].concat();
+    if rng.one_in(4) {
+        text.resize(rng.between(455, 475), rng.pick(b" :a"));
+    }
+    let (command, word) = (Span { start: 0, end: 1 }, Span { start: 1, end: 3 });
+    let count = rng.pick(&[13, 14, 14, 15, 15, 15, 15, 16]);
+    let has_prefix = rng.one_in(2);
+    let mut parts = Parts { has_prefix, prefix: word, command, count, params: [word; PARAMS] };
+    parts.params[count.min(PARAMS) - 1] = Span { start: 3, end: text.len() };
+    if rng.one_in(6) {
+        parts.params[rng.below(PARAMS)] = any_span(rng, text.len());
+    }
+    (text, parts)
 }
 
 /// Words, SPACEs and now and then a byte that no part may hold.

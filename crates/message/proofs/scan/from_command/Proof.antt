@@ -20,7 +20,7 @@ rest-requires : tie.Need-rest-requires
 unfolding opened
 rest-requires c κs =
     let a = c .before .before .before .args in
-    omega (arith, stop-in (a .body .now) (a .at) (c .before .word-end .result) (c .before .before .before .pre .0) (c .before .word-end .ensures), ap (λ (x : Message). x .count) (c .opened .ensures))
+    omega (arith, stop-in (a .body .now) (a .at) (c .before .word-end .result) (c .before .before .before .pre) (c .before .word-end .ensures), ap (λ (x : Message). x .count) (c .opened .ensures))
 
 returns : tie.Need-returns
 returns c =

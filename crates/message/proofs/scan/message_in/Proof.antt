@@ -35,7 +35,7 @@ spaces-end-requires c κs = stop-within c
 from-command-requires : tie.Need-from-command-requires
 from-command-requires c κs =
     let p = c .before .before in
-    (start-in (body p) (c .before .word-end .result) (c .spaces-end .result) (stop-within (c .before)) (c .spaces-end .ensures), p .before .before .before .pre)
+    start-in (body p) (c .before .word-end .result) (c .spaces-end .result) (stop-within (c .before)) (c .spaces-end .ensures)
 
 returns : tie.Need-returns
 returns c =

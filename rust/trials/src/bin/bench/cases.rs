@@ -189,6 +189,7 @@ fn lines() -> Vec<(String, Vec<u8>)> {
         ("PART".to_string(), part()),
         ("QUIT".to_string(), quit()),
         ("refused by 11".to_string(), unknown()),
+        ("refused by 12, fifteen parameters".to_string(), many_params()),
         ("refused by 18, at the last of 47 members".to_string(), bad_join()),
         ("refused by 36, before 47 members".to_string(), bad_limit()),
     ]);
@@ -210,6 +211,12 @@ fn quit() -> Vec<u8> {
 
 fn unknown() -> Vec<u8> {
     b":1AB PRIVMSG #race :a line of another kind\r\n".to_vec()
+}
+
+/// An SJOIN of fifteen parameters, the last behind ':': without it, an earlier library may see more of
+/// them, and refuse the line by 10.
+pub fn many_params() -> Vec<u8> {
+    b":1AB SJOIN a b c d e f g h i j k l m n :and then free text\r\n".to_vec()
 }
 
 fn text(user: usize) -> String {

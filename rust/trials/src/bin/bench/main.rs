@@ -214,12 +214,14 @@ fn others(clock: &Clock) {
     }
 
     let line = cases::long_line();
-    let times = clock.time(
-        || relay::read(&line).number,
-        || earlier::read(&line).number,
-        || number_of(&model::line::read(&line)),
-    );
-    row("reading a line of 47 members", times);
+    for (name, line) in [("fifteen parameters", &cases::many_params()), ("47 members", &line)] {
+        let times = clock.time(
+            || relay::read(line).number,
+            || earlier::read(line).number,
+            || number_of(&model::line::read(line)),
+        );
+        row(&format!("reading a line of {name}"), times);
+    }
 
     let log = || Page::of([0; 517]);
     let (mut core_log, mut earlier_log, mut model_log) = (log(), log(), log());
