@@ -1,4 +1,4 @@
--- Lines read by computing: what the definitions give for a line that is read and for some that aren't. They are witnesses for the premises of the
+-- Lines read by computing: what the definitions give for some that are read and one that isn't, and what 01's gave for one of them. They are witnesses for the premises of the
 -- theorems about lines that are read. Assumes nothing.
 use mathlib.Core.Path.{_≡_, refl}
 use mathlib.Core.Bool.{true}

@@ -5,7 +5,7 @@ use mathlib.Core.Bool.{Bool, true, false}
 use mathlib.Core.List.{List, [], _∷_}
 use Prim.Native.Nat.{ℕ, zero, suc, _+_, _<_, min}
 use native.Mathlib.Omega.{arith}
-use lib.ListN.{length, take, drop, getD, length-drop, length-map}
+use lib.ListN.{length, take, drop, getD, length-drop}
 use lib.Seq.{take-all, take-length}
 use lib.Dec.{eqb, ltb}
 use borrow.Author.Tests.{eqb-true, eqb-false, ltb-true}
@@ -13,13 +13,12 @@ use Rattle.refusal.specs.Numbers.{accepted, tooManyParams}
 use Rattle.refusal.specs.Rules.{firstOf}
 use Rattle.refusal.proofs.Rules.{skip, stop, first-nil, first-lacks, append-some, append-none}
 use Rattle.message.specs.Grammar.{paramLimit, middleLimit, Part, partAt, word, rest, commandEnd, params}
-use Rattle.message.specs.Content.{contentIn}
 use Rattle.message.specs.Reading.{bodyOf, bodyRules, lineRules, numberFor, contentOf}
 use Rattle.message.specs.Former.{formerRest, formerAfter, formerParams, sixteenth, formerLineRules, Keeps, Opens}
 use Rattle.message.proofs.Runs.{word-front}
 use Rattle.message.proofs.Induction.{Claim, Clauses, of-rest}
 use Rattle.message.proofs.Places.{command-end-in}
-use Rattle.message.proofs.Readings.{rules-numbered, number-read, read-content}
+use Rattle.message.proofs.Readings.{rules-numbered, number-read, read-count}
 
 -- ---- where more than fourteen middles are counted before, as in no line, today's rules are 01's
 abbrev Rests : Claim
@@ -180,32 +179,29 @@ module _ (line : List ℕ) where
   unfolding numberFor lineRules bodyRules
   never-10 = eqb-false (numberFor line) tooManyParams (first-lacks tooManyParams (lineRules line) (λ z. omega arith) refl)
 
-  -- what was refused before the parameters were counted is refused so
+  -- what isn't read got the number that it gets
   refused-same : (numberFor line ≡ accepted → ⊥) → numberFor line ≡ firstOf (formerLineRules line)
   unfolding numberFor formerLineRules
   refused-same ne = sym (append-some _ (lineRules line) ne)
 
-  -- what wasn't got 10 or none, by the parameters
-  read-count : numberFor line ≡ accepted → firstOf (formerLineRules line) ≡ firstOf (sixteenth line)
+  -- what is read got 10 or none, by the number of its parameters
+  read-was : numberFor line ≡ accepted → firstOf (formerLineRules line) ≡ firstOf (sixteenth line)
   unfolding numberFor formerLineRules
-  read-count f = append-none (sixteenth line) (lineRules line) (rules-numbered line) f
+  read-was f = append-none (sixteenth line) (lineRules line) (rules-numbered line) f
 
   read-same : numberFor line ≡ accepted → (firstOf (formerLineRules line) ≡ tooManyParams → ⊥) → numberFor line ≡ firstOf (formerLineRules line)
   read-same f ne = go (ltb paramLimit (length (formerParams (bodyOf line)))) refl
     where
       go : (t : Bool) → ltb paramLimit (length (formerParams (bodyOf line))) ≡ t → numberFor line ≡ firstOf (formerLineRules line)
-      go true h = absurd (ne (read-count f ∙ stop _ _ h))
-      go false h = f ∙ sym (read-count f ∙ skip _ _ h ∙ first-nil)
+      go true h = absurd (ne (read-was f ∙ stop _ _ h))
+      go false h = f ∙ sym (read-was f ∙ skip _ _ h ∙ first-nil)
 
   read-fifteen : numberFor line ≡ accepted → firstOf (formerLineRules line) ≡ tooManyParams → length (contentOf line .params) ≡ paramLimit
-  unfolding contentIn
   read-fifteen f e = go (ltb paramLimit (length (formerParams (bodyOf line)))) refl
     where
       go : (t : Bool) → ltb paramLimit (length (formerParams (bodyOf line))) ≡ t → length (contentOf line .params) ≡ paramLimit
-      go true h =
-          rw (read-content line (number-read line f))
-          (omega (arith, length-map (params (bodyOf line)) (λ (p : Part). p .bytes), keeps (bodyOf line) .count, ltb-true paramLimit (length (formerParams (bodyOf line))) h))
-      go false h = absurd (omega (arith, sym e ∙ read-count f ∙ skip _ _ h ∙ first-nil))
+      go true h = omega (arith, read-count line (number-read line f), keeps (bodyOf line) .count, ltb-true paramLimit (length (formerParams (bodyOf line))) h)
+      go false h = absurd (omega (arith, sym e ∙ read-was f ∙ skip _ _ h ∙ first-nil))
 
   pub opens : Opens line
   opens = go (eqb (numberFor line) accepted) refl

@@ -1,5 +1,5 @@
 -- What holds of the parameters of any bytes is shown clause by clause: of a rest, P, and of what follows a middle, Q, each at the number k of middles before, at a place, of the bytes
--- from there on and the parameters that they have. Assumes nothing.
+-- from there on and the parameters that they have. By recursion on the bytes, since each clause leaves fewer. Assumes nothing.
 use mathlib.Core.Path.{_≡_, refl}
 use mathlib.Core.Bool.{Bool, true, false}
 use mathlib.Core.List.{List, [], _∷_}

@@ -23,7 +23,7 @@ use Rattle.message.specs.declared.Message.{Message}
 use Rattle.message.specs.declared.Parsed.{Parsed}
 use Rattle.message.specs.declared.Reading.the-variants.{Line, Refused}
 use Rattle.message.specs.Grammar.{Part, lineLimit, paramLimit, hasPrefix, prefix, prefixEnd, command, isCommand, params}
-use Rattle.message.specs.Content.{bytesOf, contentIn}
+use Rattle.message.specs.Content.{Content, bytesOf, contentIn}
 use Rattle.message.specs.Parts.{emptyAt, messageIn, blank}
 use Rattle.message.specs.Reading.{crlf, endsLine, bodyOf, bodyRules, grammarRules, lineRules, numberFor, isRead, numberOf, countOf, answer, readingOf, contentOf, messageOf, parsedOf}
 use Rattle.message.specs.Private.Scan.{unread, bodyParsed}
@@ -124,6 +124,11 @@ module _ (line : List ℕ) (h : isRead line ≡ true) where
   pub read-content : contentOf line ≡ contentIn (bodyOf line)
   unfolding contentOf
   read-content = rw h
+
+  -- as many parameters as its body has
+  pub read-count : length (contentOf line .params) ≡ length (params (bodyOf line))
+  unfolding contentIn
+  read-count = ap (λ (c : Content). length (c .params)) read-content ∙ length-map (params (bodyOf line)) (λ (p : Part). p .bytes)
 
 pub number-read : (line : List ℕ) → numberFor line ≡ accepted → isRead line ≡ true
 unfolding isRead

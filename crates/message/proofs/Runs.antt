@@ -152,7 +152,7 @@ module _ (b : List ℕ) (k start : ℕ) where
   rest-colon h e = rw (drop-step b start 0 h, e)
 
   module _ (h : start < length b) (e : getD b start 0 ≡ space → ⊥) (f : getD b start 0 ≡ colon → ⊥) where
-    pub rest-remains : k ≡ middleLimit → rest k start (drop start b) ≡ partAt start (drop start b) ∷ []
+    rest-remains : k ≡ middleLimit → rest k start (drop start b) ≡ partAt start (drop start b) ∷ []
     unfolding rest
     rest-remains g = rw (drop-step b start 0 h, ne-eqb _ space e, ne-eqb _ colon f, g)
 

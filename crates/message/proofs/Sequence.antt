@@ -2,7 +2,7 @@
 -- a middle isn't empty. Assumes nothing.
 use Prim.Native.Nat.{ℕ, zero, suc, _+_, _-_, _≤_, _<_}
 use mathlib.Core.Path.{_≡_, sym, ap, _∙_}
-use mathlib.Core.Bool.{true, false, true≢false}
+use mathlib.Core.Bool.{true, true≢false}
 use mathlib.Core.List.{List, [], _∷_, map}
 use native.Mathlib.Omega.{arith}
 use lib.ListN.{length, drop, getD, length-map, List·getD-map}
@@ -16,7 +16,7 @@ use Rattle.message.specs.Content.{Content, contentIn}
 use Rattle.message.specs.Reading.{bodyOf, isRead, contentOf, messageOf}
 use Rattle.message.proofs.Induction.{Claim, Clauses, of-rest}
 use Rattle.message.proofs.Places.{Each, In, params-in}
-use Rattle.message.proofs.Readings.{ends-long, body-length, read-formed, read-content}
+use Rattle.message.proofs.Readings.{ends-long, body-length, read-formed, read-content, read-count}
 use Rattle.message.proofs.SpanContents.{param-held, message-holds, spans-read}
 
 -- ---- parts one behind the other
@@ -94,15 +94,11 @@ module _ (line : List ℕ) (read : isRead line ≡ true) where
   abbrev pub spanIn : ℕ → Span
   spanIn k = paramSpan (length line) (messageOf line) k
 
-  parts-count : length (contentOf line .params) ≡ length parts
-  unfolding contentIn
-  parts-count = ap (λ (c : Content). length (c .params)) (read-content line read) ∙ length-map parts (λ (p : Part). p .bytes)
-
   span-is : (k : ℕ) → k < length (contentOf line .params) → spanIn k ≡ spanOf (getD parts k none)
   unfolding paramSpan
   span-is k h =
       ap (λ (l : List Span). getD l k (emptyAt (length line))) (spans-read line read)
-      ∙ getD-any (map spanOf parts) k (emptyAt (length line)) (spanOf none) (omega (arith, h, parts-count, length-map parts spanOf))
+      ∙ getD-any (map spanOf parts) k (emptyAt (length line)) (spanOf none) (omega (arith, h, read-count line read, length-map parts spanOf))
       ∙ List·getD-map spanOf parts k none
 
   -- It is as long as the parameter.
@@ -118,15 +114,15 @@ module _ (line : List ℕ) (read : isRead line ≡ true) where
   span-inside k h =
       let is = span-is k h in
       let f = read-formed line read in
-      let first = first-at (commandEnd (bodyOf line)) parts (params-sequence (bodyOf line)) k (omega (arith, h, parts-count)) in
-      let in-body = inside-at (bodyOf line) parts (params-in (bodyOf line)) k (omega (arith, h, parts-count)) in
+      let first = first-at (commandEnd (bodyOf line)) parts (params-sequence (bodyOf line)) k (omega (arith, h, read-count line read)) in
+      let in-body = inside-at (bodyOf line) parts (params-in (bodyOf line)) k (omega (arith, h, read-count line read)) in
       let some = command-some (command (bodyOf line)) (f .commanded) in
       rw is (omega (arith, first, some), omega arith, omega (arith, in-body, body-length line, ends-long line (f .ends)))
 
   -- One that isn't the last has a byte, and ends before the next one begins.
   pub span-next : (k : ℕ) → suc k < length (contentOf line .params) → (spanIn k .start < spanIn k .end) × (spanIn k .end < spanIn (suc k) .start)
   span-next k h =
-      let s = next-at (commandEnd (bodyOf line)) parts (params-sequence (bodyOf line)) k (omega (arith, h, parts-count)) in
+      let s = next-at (commandEnd (bodyOf line)) parts (params-sequence (bodyOf line)) k (omega (arith, h, read-count line read)) in
       rw (span-is k (omega (arith, h)), span-is (suc k) h) (omega (arith, s .0), omega (arith, s .1))
 
   -- A byte of it stands in the line at its place.

@@ -1,5 +1,5 @@
--- Document 01's whole case, an SJOIN with a later time for `#Race` from link 3 of 0, 3 and 5, and a PART, a QUIT and two BMASKs: what each comes to by the
--- definitions, witnesses so for the premises of the laws of taking a line, and what these say. That no list has masks yet is known by law. Assumes nothing.
+-- Document 01's whole case, an SJOIN with a later time for `#Race` from link 3 of 0, 3 and 5, a PART, a QUIT, two BMASKs, and two lines of sixteen parameters, which got 10:
+-- what each comes to by the definitions, witnesses so for the premises of the laws of taking a line, and what these say. That no list has masks yet is known by law. Assumes nothing.
 use Prim.Native.Nat.{ℕ, _-_}
 use mathlib.Core.Path.{_≡_, refl, sym, ap, _∙_}
 use mathlib.Core.Bool.{Bool, true, false, not, cond}
@@ -255,23 +255,23 @@ unfolding shore
 whichever-links = after-alone water shore (from3 joining) lineLimit lineLimit refl (water-enters joining) shore-enters .1
 
 -- ---- sixteen parameters `a`, of SJOIN and of a command `X`
-abbrev crowd : List ℕ → List ℕ
-crowd name = name ++ prefixed 32 (replicate 16 (97 ∷ [])) ++ crlf
+abbrev sixteen : List ℕ → List ℕ
+sixteen name = name ++ prefixed 32 (replicate 16 (97 ∷ [])) ++ crlf
 
-crowds : (firstOf (formerLineRules (crowd sjoin)) ≡ tooManyParams) × (firstOf (formerLineRules (crowd (88 ∷ []))) ≡ tooManyParams) × (commandIn (crowd sjoin) ≡ Sjoin) × (commandIn (crowd (88 ∷ [])) ≡ Unknown)
+sixteens : (firstOf (formerLineRules (sixteen sjoin)) ≡ tooManyParams) × (firstOf (formerLineRules (sixteen (88 ∷ []))) ≡ tooManyParams) × (commandIn (sixteen sjoin) ≡ Sjoin) × (commandIn (sixteen (88 ∷ [])) ≡ Unknown)
 unfolding prefixed formerLineRules formerParams formerRest commandAmong capital contentOf contentIn isRead numberFor lineRules bodyRules firstOf endsLine sameBy bodyOf all isPlain startsWith prefix word prefixEnd commandStart spaces command isCommand isLetter within commandEnd rest params
-crowds = (refl, refl, refl, refl)
+sixteens = (refl, refl, refl, refl)
 
 -- they got 10
-crowd-was : (name : List ℕ) → firstOf (formerLineRules (crowd name)) ≡ tooManyParams → firstOf (enteringRules water (from3 (crowd name)) lineLimit ++ formerLineRules (crowd name)) ≡ tooManyParams
-crowd-was name e = append-none (formerLineRules (crowd name)) (enteringRules water (from3 (crowd name)) lineLimit) refl (water-enters (crowd name)) ∙ e
+sixteen-was : (name : List ℕ) → firstOf (formerLineRules (sixteen name)) ≡ tooManyParams → firstOf (enteringRules water (from3 (sixteen name)) lineLimit ++ formerLineRules (sixteen name)) ≡ tooManyParams
+sixteen-was name e = append-none (formerLineRules (sixteen name)) (enteringRules water (from3 (sixteen name)) lineLimit) refl (water-enters (sixteen name)) ∙ e
 
 distinct : Sjoin ≡ Unknown → ⊥
 distinct e = let z : _≡_ {A = ℕ} 0 1 = cc in omega (arith, z)
 
 -- and get 12 and 11
-crowd-gets : (processAnswer water (from3 (crowd sjoin)) lineLimit ≡ refused water wrongParamCount 0) × (processAnswer water (from3 (crowd (88 ∷ []))) lineLimit ≡ refused water unknownCommand 0)
-crowd-gets =
-    let join = turns water (from3 (crowd sjoin)) lineLimit in
-    let other = turns water (from3 (crowd (88 ∷ []))) lineLimit in
-    (join .known (join .turned (crowd-was sjoin (crowds .0))) (λ e. distinct (sym (crowds .2) ∙ e)), other .unknown (other .turned (crowd-was (88 ∷ []) (crowds .1))) (crowds .3))
+sixteen-gets : (processAnswer water (from3 (sixteen sjoin)) lineLimit ≡ refused water wrongParamCount 0) × (processAnswer water (from3 (sixteen (88 ∷ []))) lineLimit ≡ refused water unknownCommand 0)
+sixteen-gets =
+    let join = turns water (from3 (sixteen sjoin)) lineLimit in
+    let other = turns water (from3 (sixteen (88 ∷ []))) lineLimit in
+    (join .known (join .turned (sixteen-was sjoin (sixteens .0))) (λ e. distinct (sym (sixteens .2) ∙ e)), other .unknown (other .turned (sixteen-was (88 ∷ []) (sixteens .1))) (sixteens .3))

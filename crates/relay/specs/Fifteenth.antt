@@ -2,12 +2,13 @@
 -- and what the relay takes is read as it was.
 use Prim.Native.Nat.{ℕ}
 use mathlib.Core.Path.{_≡_}
+use mathlib.Core.Bool.{true}
 use mathlib.Core.List.{_++_}
 use lib.ListN.{length}
 use Rattle.refusal.specs.Numbers.{accepted, tooManyParams, unknownCommand, wrongParamCount}
 use Rattle.refusal.specs.Rules.{firstOf}
 use Rattle.message.specs.Grammar.{paramLimit, params}
-use Rattle.message.specs.Reading.{bodyOf, lineRules}
+use Rattle.message.specs.Reading.{bodyOf, isRead}
 use Rattle.message.specs.Former.{formerParams, formerLineRules}
 use Rattle.table.specs.Network.{Table}
 use Rattle.relay.specs.declared.Command.the-variants.{Unknown}
@@ -17,7 +18,8 @@ use Rattle.relay.specs.Relay.{enteringRules, refused, processAnswer}
 
 -- A line of fifteen parameters that arrives at a table, with n bytes of lent output: no rule of table, output and link applies, and it is read.
 pub record Fifteen (t : Table) (a : Arrival) (n : ℕ) : Type 0 where
-  pub read : firstOf (enteringRules t a n ++ lineRules (a .line)) ≡ accepted
+  pub enters : firstOf (enteringRules t a n) ≡ accepted
+  pub read : isRead (a .line) ≡ true
   pub count : length (said a .params) ≡ paramLimit
 
 -- What is claimed, of any line that arrives at any table, with any output:

@@ -1,4 +1,4 @@
--- A message written by computing: a witness for the premises of the theorems about messages that are written. Assumes nothing.
+-- Messages and parameters written by computing: a witness for the premises of the theorems about messages that are written. Assumes nothing.
 use mathlib.Core.Path.{_≡_, refl}
 use mathlib.Core.Bool.{false}
 use mathlib.Core.List.{List, [], _∷_, map}

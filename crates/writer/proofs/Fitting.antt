@@ -4,7 +4,7 @@ use mathlib.Core.Path.{_≡_, refl, sym, ap, _∙_}
 use mathlib.Core.Bool.{Bool, true, false, true≢false, not, _&&_, _||_, or-true, and-true}
 use mathlib.Core.List.{List, [], _∷_, map}
 use mathlib.Core.Option.{Option, some, none}
-use Prim.Native.Nat.{ℕ, _+_, _≤_}
+use Prim.Native.Nat.{ℕ, _≤_}
 use native.Mathlib.Omega.{arith}
 use lib.ListN.{length, take, drop, length-map, length-take}
 use lib.Dec.{eqb, leb}
@@ -18,7 +18,7 @@ use Rattle.laws.proofs.Lists.{nil-map, all-head, all-tail, all-cons, all-drop, 
 use Rattle.octets.proofs.Bytes.{same-refl, same-true}
 use Rattle.message.specs.declared.Span.{Span}
 use Rattle.message.specs.declared.Message.{Message}
-use Rattle.message.specs.Grammar.{Part, paramLimit, middleLimit, word, isMiddle, rest, afterMiddle, hasPrefix, prefix, isCommand, commandEnd, params}
+use Rattle.message.specs.Grammar.{Part, paramLimit, word, isMiddle, hasPrefix, prefix, isCommand, commandEnd, params}
 use Rattle.message.specs.Content.{Content, bytesOf, contentIn}
 use Rattle.message.specs.Parts.{bytesAt, contentBy}
 use Rattle.message.specs.Reading.{bodyOf, grammarRules}

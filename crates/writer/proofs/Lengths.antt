@@ -7,18 +7,16 @@ use Prim.Native.Nat.{ℕ, suc, _+_, _-_, _≤_}
 use native.Mathlib.Omega.{arith}
 use lib.ListN.{length, drop, length-append, length-drop}
 use lib.Seq.{drop-drop}
-use lib.Dec.{eqb}
-use borrow.Author.Tests.{eqb-true}
-use Rattle.octets.specs.Bytes.{space, colon}
+use Rattle.octets.specs.Bytes.{space}
 use Rattle.laws.specs.Lists.{isNil}
-use Rattle.message.specs.Grammar.{middleLimit, word, spaces, isMiddle, rest, afterMiddle, hasPrefix, prefix, prefixEnd, commandStart, command, commandEnd, params}
+use Rattle.message.specs.Grammar.{word, spaces, isMiddle, afterMiddle, hasPrefix, prefix, prefixEnd, commandStart, command, commandEnd, params}
 use Rattle.message.specs.Content.{bytesOf, contentIn}
 use Rattle.message.proofs.Induction.{Claim, Clauses, of-middle}
 use Rattle.message.proofs.Runs.{middle-skip}
 use Rattle.message.proofs.Relation.{Stops, middle-stop, word-then}
 use Rattle.writer.specs.Form.{writtenParams, writtenPrefix, writtenBody}
 use Rattle.writer.proofs.Words.{word-middle, bare-cons}
-use Rattle.writer.proofs.Parts.{stands, stands-last}
+use Rattle.writer.proofs.Parts.{stands, stands-fifteenth}
 use Rattle.writer.proofs.Trips.{bare-written, middle-written, trailing-written}
 
 -- ---- the parameters
@@ -52,7 +50,7 @@ short = record {
   nothing = λ k at. omega arith;
   spaced = λ k at s ps r. omega (arith, r);
   trailing = λ k at s. last-length k s;
-  remains = λ k at x s p q l. omega (arith, bare-length k (x ∷ s) (stands-last k (x ∷ s) l ∙ bare-cons x s p q));
+  remains = λ k at x s p q l. omega (arith, bare-length k (x ∷ s) (stands-fifteenth k (x ∷ s) l ∙ bare-cons x s p q));
   middle = λ k at x s ps p q l m. omega (arith, middle-length k (x ∷ word s) (bytesOf ps) (word-middle x s p q), m);
   ends = λ k at. omega arith;
   stops = λ k at s ps r. omega (arith, r);

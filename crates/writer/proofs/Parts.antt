@@ -73,11 +73,11 @@ middle-stands k p h = go (eqb k middleLimit)
 
 module _ (k : ℕ) (p : List ℕ) where
   -- of the fifteenth only the first byte counts
-  pub stands-last : k ≡ middleLimit → stands k p ≡ isBare p
-  stands-last h = rw (eq-eqb k middleLimit h)
+  pub stands-fifteenth : k ≡ middleLimit → stands k p ≡ isBare p
+  stands-fifteenth h = rw (eq-eqb k middleLimit h)
 
-  pub stands-before : (k ≡ middleLimit → ⊥) → stands k p ≡ isMiddle p
-  stands-before h = rw (ne-eqb k middleLimit h)
+  pub stands-other : (k ≡ middleLimit → ⊥) → stands k p ≡ isMiddle p
+  stands-other h = rw (ne-eqb k middleLimit h)
 
 -- 01's words for ':' say that the parameter is no middle
 no-middle : (p : List ℕ) → isNil p || (startsWith colon p || not (all isNonSpace p)) ≡ not (isMiddle p)

@@ -25,7 +25,7 @@ use Rattle.message.proofs.Words.{word-append}
 use Rattle.message.proofs.SpanContents.{content, content-eq}
 use Rattle.writer.specs.Form.{takesColon, writtenParam, writtenParams, writtenPrefix}
 use Rattle.writer.specs.Private.Fit.{goodPrefix, goodSource, goodParam, goodParams, good}
-use Rattle.writer.proofs.Parts.{stands, middle-stands, stands-last, stands-before, colon-exactly}
+use Rattle.writer.proofs.Parts.{stands, middle-stands, stands-fifteenth, stands-other, colon-exactly}
 use Rattle.writer.proofs.Words.{middle-clear, command-long, command-plain, command-middle}
 
 -- ---- one parameter
@@ -86,12 +86,12 @@ last-back k at p = go (stands k p) refl (eqb k middleLimit) refl
     go : (t : Bool) → stands k p ≡ t → (u : Bool) → eqb k middleLimit ≡ u → bytesOf (rest k at (writtenParams k (p ∷ []))) ≡ p ∷ []
     go true e true l =
         let h = eqb-true k middleLimit l in
-        rw (bare-written k true p e, append-nil p) (ap bytesOf (bare-read p (sym (stands-last k p h) ∙ e) k (at + 1) h))
-    go true e false l = let h = eqb-false k middleLimit l in middle-back k at p [] (sym (stands-before k p h) ∙ e) h refl
+        rw (bare-written k true p e, append-nil p) (ap bytesOf (bare-read p (sym (stands-fifteenth k p h) ∙ e) k (at + 1) h))
+    go true e false l = let h = eqb-false k middleLimit l in middle-back k at p [] (sym (stands-other k p h) ∙ e) h refl
     go false e u l = rw (trailing-written k p e) (ap (λ (s : List ℕ). s ∷ []) (append-nil p))
 
 -- After k parameters there is room for these: none of them is the fifteenth, or the last is.
-abbrev pub Fits : ℕ → List (List ℕ) → Type 0
+abbrev Fits : ℕ → List (List ℕ) → Type 0
 Fits k ps = k ≤ middleLimit → k + length ps ≤ paramLimit
 
 params-back : (ps : List (List ℕ)) → goodParams ps ≡ true → (k at : ℕ) → Fits k ps → bytesOf (rest k at (writtenParams k ps)) ≡ ps

@@ -644,6 +644,34 @@ fn lines_that_are_taken() {
     }
 }
 
+/// A list of joins with SJOINs of many words among them, in every order: each of these is refused by 12, and
+/// the table is that of the others.
+#[test]
+fn among_joins() {
+    let joins = [
+        (line(":1AB SJOIN 5 #race +n :@1ABAAAAAA 1ABAAAAAB"), 0),
+        (line(&format!(":1AB {}", MORE[1].replace('X', "SJOIN"))), 12),
+        (line(":1AB SJOIN 4 #race +t :1ABAAAAAC"), 0),
+        (line(":1AB sjoin 3 #race +n 1ABAAAAAD 5 6 7 8 9 10 11 12 13 14 15 :16"), 12),
+    ];
+    let after = |order: &[usize]| {
+        let mut table = linked();
+        for &k in order {
+            let (line, number) = &joins[k];
+            let answer = take(&mut table, 3, line, &mut [0; 512]);
+            assert_eq!((answer.number, answer.place), (*number, 0), "{order:?} {k}");
+        }
+        table
+    };
+    let plain = after(&[0, 2]);
+    assert!(plain == after(&[2, 0]));
+    for order in
+        [[0, 1, 2, 3], [1, 3, 0, 2], [3, 2, 1, 0], [2, 3, 0, 1], [1, 0, 3, 2], [3, 1, 2, 0]]
+    {
+        assert!(after(&order) == plain, "{order:?}");
+    }
+}
+
 /// A replay stops at such a line with its number and the place of the record.
 #[test]
 fn in_a_log() {
