@@ -665,9 +665,11 @@ fn among_joins() {
     };
     let plain = after(&[0, 2]);
     assert!(plain == after(&[2, 0]));
-    for order in
-        [[0, 1, 2, 3], [1, 3, 0, 2], [3, 2, 1, 0], [2, 3, 0, 1], [1, 0, 3, 2], [3, 1, 2, 0]]
-    {
+    let orders = (0..256)
+        .map(|n| [n % 4, n / 4 % 4, n / 16 % 4, n / 64])
+        .filter(|order| (0..4).all(|k| order.contains(&k)));
+    assert_eq!(orders.clone().count(), 24);
+    for order in orders {
         assert!(after(&order) == plain, "{order:?}");
     }
 }
