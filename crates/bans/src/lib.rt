@@ -1,6 +1,8 @@
 // Ban lists (document 02, §2): masks in ascending order of their folds, each fold once in its first spelling, up to 32 of them. A list is a room of
 // BanList::LIST bytes: how many masks, then for each a byte with its length and 100 bytes, unused room zero. Sixteen lists stand one behind the other
 // in lent bytes. Any bytes are taken; where they are no list, the definitions that the contracts cite say what is answered.
+#![tactic(auto)]
+
 mod order;
 mod rooms;
 
@@ -21,7 +23,7 @@ use rooms::{good_rooms, inserted, mask_count, mask_in, room_at};
 
 // A list, held whole.
 #[repr(C)]
-#[derive(Drop)]
+#[derive(Clone, Copy)]
 pub struct BanList {
     pub room: [u8; BanList::LIST],
 }
@@ -49,7 +51,7 @@ impl BanList {
 
 // Whether more masks would result than a list has room for, and the list after, which is then the one given.
 #[repr(C)]
-#[derive(Drop)]
+#[derive(Clone, Copy)]
 pub struct Added {
     pub full: bool,
     pub list: BanList,
@@ -57,7 +59,7 @@ pub struct Added {
 
 // A channel's record with its ban list: what document 02 calls a record.
 #[repr(C)]
-#[derive(Drop)]
+#[derive(Clone, Copy)]
 pub struct WholeRecord {
     pub record: Record,
     pub bans: BanList,

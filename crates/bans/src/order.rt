@@ -16,7 +16,7 @@ use octets::{Order, lesser};
 const BLOCK: usize = 16;
 
 // A place among the masks of a list, and whether the mask is there.
-#[derive(Drop)]
+#[derive(Clone, Copy)]
 pub(crate) struct Place {
     pub at: usize,
     pub there: bool,

@@ -1,5 +1,7 @@
 // What a BMASK line says (document 02, §2): `:sid BMASK time name b list`, judged by the numbers 12 to 16 and 26; and the masks of its list added to
 // those of a channel.
+#![tactic(auto)]
+
 ghost use Rattle.std.specs.Prelude.{◌≡◌};
 ghost use Rattle.refusal.specs.Rules.{first_of};
 ghost use Rattle.laws.specs.Lists.{same};
@@ -25,7 +27,7 @@ const TYPE_AT: usize = 2;
 const LIST_AT: usize = 3;
 
 // The number of a refusal, or ACCEPTED, and the line's time, 0 with a refusal.
-#[derive(Drop)]
+#[derive(Clone, Copy)]
 pub struct Listing {
     pub number: u8,
     pub time: u32,

@@ -2,12 +2,14 @@
 // answer and the place of a channel, which are structs here, a record's text, which has its numbers here, and the choice of a key. The header include/relay.h
 // declares these functions and says what a caller must know. Structs go in and come back by value; the ban lists of a table, which are too large for that, are lent, as one pointer to an array of them all. An exported
 // function can't return a reference, so the header makes the parts of a line from `relay_parts`, and hands back the greater of two keys by `relay_key_less`.
+#![tactic(auto)]
+
 mod layout;
 
 ghost use Rattle.std.specs.Prelude.{◌≡◌, length, get_or};
 ghost use Rattle.refusal.specs.Rules.{emitted};
 ghost use Rattle.octets.specs.Room.{front};
-ghost use Rattle.octets.specs.Order.{compare as compareOf, is_less};
+ghost use Rattle.octets.specs.Order.{compare as compare_of, is_less};
 ghost use Rattle.message.specs.Reading.{count_of, message_of};
 ghost use Rattle.message.specs.Parts.{content_by};
 ghost use Rattle.feed.specs.Lines.{nothing};
@@ -25,7 +27,7 @@ ghost use Rattle.telling.specs.Telling.{described};
 ghost use Rattle.relay.specs.Arrival.{arrival};
 ghost use Rattle.relay.specs.Relay.{process_answer, taken_of, sent};
 ghost use Rattle.journal.specs.Journal.{log_rules, record_of, logged_answer};
-ghost use Rattle.journal.specs.Reading.{read_answer as recordAnswer};
+ghost use Rattle.journal.specs.Reading.{read_answer as record_answer};
 ghost use Rattle.wording.specs.Wording.{text_of};
 ghost use Rattle.capi.specs.Reading.{read_answer};
 ghost use Rattle.capi.specs.Finding.{held_at, find_answer};
@@ -48,7 +50,7 @@ use writer::Written;
 
 // The reader's answer for a caller that has no enums: the number of a refusal, or ACCEPTED, and the count of parameters, 0 with a refusal.
 #[repr(C)]
-#[derive(Drop)]
+#[derive(Clone, Copy)]
 pub struct LineRead {
     pub number: u8,
     pub count: usize,
@@ -56,7 +58,7 @@ pub struct LineRead {
 
 // The slot that holds a channel, for a caller that has no enums: the number of a refusal, or ACCEPTED, and the slot's place, 0 with a refusal.
 #[repr(C)]
-#[derive(Drop)]
+#[derive(Clone, Copy)]
 pub struct ChannelFound {
     pub number: u8,
     pub slot: usize,
@@ -136,7 +138,7 @@ pub extern "C" fn relay_match(mask: &[u8], text: &[u8]) -> Match
 // Whether the second of two keys is the greater one.
 #[unsafe(no_mangle)]
 pub extern "C" fn relay_key_less(a: &[u8], b: &[u8]) -> bool
-    ensures { result ≡ is_less (compareOf a.now b.now) }
+    ensures { result ≡ is_less (compare_of a.now b.now) }
 {
     match octets::compare(a, b) {
         Order::Less => true,
@@ -276,7 +278,7 @@ pub extern "C" fn relay_log(link: u32, line: &[u8], log: &mut [u8]) -> Logged
 // Reads what stands at a place of the log.
 #[unsafe(no_mangle)]
 pub extern "C" fn relay_read_record(log: &[u8], at: usize) -> RecordRead
-    ensures { result ≡ recordAnswer log.now at }
+    ensures { result ≡ record_answer log.now at }
 {
     journal::read_record(log, at)
 }

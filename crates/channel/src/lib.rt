@@ -1,5 +1,7 @@
 // A channel's record (document 01, 'The channel record'): its limits, its modes, its key, its members, and whether it is well formed. Any record is taken;
 // those that aren't well formed are answered by the definition that the contract cites.
+#![tactic(auto)]
+
 pub mod key;
 pub mod members;
 pub mod modes;
@@ -19,7 +21,7 @@ use well::{good_head, good_member, in_room, member_bits, precedes};
 
 // A member of a channel: its user id, held whole, and its status, VOICE plus OPERATOR.
 #[repr(C)]
-#[derive(Drop)]
+#[derive(Clone, Copy)]
 pub struct Member {
     pub id: [u8; USER_ID],
     pub status: u8,
@@ -41,7 +43,7 @@ impl Member {
 
 // A channel's record. Unused room is zero. Without k there is no key, without l no limit: 0.
 #[repr(C)]
-#[derive(Drop)]
+#[derive(Clone, Copy)]
 pub struct Record {
     pub name: [u8; Record::NAME],
     pub name_len: usize,
@@ -104,7 +106,7 @@ impl Record {
 }
 
 // Members in room for all that a record can have, those in use first, the unused places zero.
-#[derive(Drop)]
+#[derive(Clone, Copy)]
 pub struct Roster {
     pub list: [Member; Record::MEMBERS],
     pub count: usize,

@@ -4,10 +4,10 @@ ghost use Rattle.laws.specs.Lists.{same, padded};
 ghost use Rattle.octets.specs.Order.{compare, is_less};
 ghost use Rattle.ascending.specs.Ascending.{put};
 ghost use Rattle.channel.specs.Limits.{member_limit};
-ghost use Rattle.channel.specs.Record.{nobody as nobodyOf, decode};
+ghost use Rattle.channel.specs.Record.{nobody as nobody_of, decode};
 ghost use Rattle.channel.specs.Channel.{by_id};
 ghost use Rattle.channel.specs.Private.Rosters.{Sorted};
-ghost use Rattle.channel.specs.Members.{roster, ordered as orderedOf, has_member, others as othersOf, without as withoutOf};
+ghost use Rattle.channel.specs.Members.{roster, ordered as ordered_of, has_member, others as others_of, without as without_of};
 
 use crate::{Member, Record, Roster};
 use names::USER_ID;
@@ -15,7 +15,7 @@ use names::ids::{is_before, is_same};
 
 // An unused place.
 pub(crate) fn nobody() -> Member
-    ensures { result ≡ nobodyOf }
+    ensures { result ≡ nobody_of }
 {
     Member {
         id: [0u8; USER_ID],
@@ -25,7 +25,7 @@ pub(crate) fn nobody() -> Member
 
 // A list with every place unused.
 pub fn vacant() -> [Member; Record::MEMBERS]
-    ensures { result ≡ padded member_limit nobodyOf [] }
+    ensures { result ≡ padded member_limit nobody_of [] }
 {
     let none = nobody();
     [none; Record::MEMBERS]
@@ -73,7 +73,7 @@ pub fn has_member(r: Record, id: [u8; USER_ID]) -> bool
 
 // The record's members but for those with the id.
 fn others(r: Record, id: [u8; USER_ID]) -> Roster
-    ensures { result ≡ roster (othersOf id (decode r).members) }
+    ensures { result ≡ roster (others_of id (decode r).members) }
 {
     let mut list = vacant();
     let mut count = 0;
@@ -90,7 +90,7 @@ fn others(r: Record, id: [u8; USER_ID]) -> Roster
 
 // The record without the member that has the id: the rest moves up, and the freed place is zero. Where nobody is left, the empty record.
 pub fn without(r: Record, id: [u8; USER_ID]) -> Record
-    ensures { result ≡ withoutOf id r }
+    ensures { result ≡ without_of id r }
 {
     let left = others(r, id);
     if left.count == 0 {
@@ -142,7 +142,7 @@ fn with_member(list: [Member; Record::MEMBERS], count: usize, e: Member) -> Rost
 
 // Every id of the first n once, ascending, an id given twice having both statuses. One that comes behind all before it costs one comparison.
 pub fn ordered(entries: [Member; Record::MEMBERS], n: usize) -> Roster
-    ensures { result ≡ roster (orderedOf (take n entries)) }
+    ensures { result ≡ roster (ordered_of (take n entries)) }
 {
     let mut list = vacant();
     let mut count = 0;

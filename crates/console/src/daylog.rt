@@ -2,7 +2,7 @@
 // in groups, each of which is on the disk before it counts as kept.
 ghost use Rattle.std.specs.Prelude.{◌≡◌, true, false};
 ghost use Rattle.octets.specs.Private.Additions.{Adds};
-ghost use Rattle.console.specs.Daylog.{placed_text, refused_line, cut_line, unlinked as unlinkedOf, goes_on, OfSomeStart};
+ghost use Rattle.console.specs.Daylog.{placed_text, refused_line, cut_line, unlinked as unlinked_of, goes_on, OfSomeStart};
 
 use crate::answers::put_words;
 use bans::BanList;
@@ -21,7 +21,7 @@ const SAYING: usize = 4200;
 const LAST_PLACE: u64 = 9223372036854775807;
 
 // The file, where there is one. `ready` says that lines can be taken.
-#[derive(Drop)]
+#[derive(Clone, Copy)]
 pub(crate) struct Journal {
     pub(crate) ready: bool,
     used: bool,
@@ -29,7 +29,7 @@ pub(crate) struct Journal {
 }
 
 // The table that a day goes on with, and whether it can.
-#[derive(Drop)]
+#[derive(Clone, Copy)]
 pub(crate) struct Restored {
     pub(crate) head: Head,
     pub(crate) ready: bool,
@@ -231,7 +231,7 @@ fn is_sound(fd: i32, r: FileReplay) -> bool
 
 // The head with no link registered.
 fn unlinked(head: Head) -> Head
-    ensures { result ≡ unlinkedOf head }
+    ensures { result ≡ unlinked_of head }
 {
     let slots = head.slots;
     Head {

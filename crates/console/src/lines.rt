@@ -10,7 +10,7 @@ use octets::{lesser, part, place_of, put};
 pub(crate) const INPUT_LIMIT: usize = 573;
 
 // The line under way: what is kept of its bytes so far.
-#[derive(Drop)]
+#[derive(Clone, Copy)]
 pub(crate) struct Pending {
     pub(crate) bytes: [u8; INPUT_LIMIT],
     pub(crate) len: usize,

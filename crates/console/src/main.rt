@@ -6,6 +6,8 @@
 // With an argument, the file of that name is the day log. Its records are taken first, so that the day goes on where it was; then the records of each group's accepted
 // lines are added, and on the disk, before any line of the group is answered. What makes the program stop is said on standard error in a line that begins with
 // 'relay: ', by which bin/relay knows, since a program of this language has no exit status.
+#![tactic(auto)]
+
 mod answers;
 mod daylog;
 mod groups;
@@ -37,7 +39,7 @@ const TYPED: usize = 575;
 
 // What is kept from one line to the next, but for what is lent: the ban lists, and the records and answers of the group. The table's head, the line under way, the
 // journal, how many bytes of records and of answers the group has, whether the input is typed, and whether the program goes on.
-#[derive(Drop)]
+#[derive(Clone, Copy)]
 struct Session {
     head: Head,
     pending: Pending,

@@ -27,7 +27,7 @@ const NAME_ROOM: usize = 512;
 
 // What is asked, and of which link. The line that came from a link stands in the input line, from a place on; of a question, the name ends at the first
 // place, and the text begins at the second. Only a line that was typed asks for help, or for nothing.
-#[derive(Drop)]
+#[derive(Clone, Copy)]
 pub(crate) enum Request {
     Register(u32),
     Unregister(u32),

@@ -1,5 +1,7 @@
 // The customer's demands over the whole relay: predicates of any taking of lines and any merging of records in specs/, theorems in proofs/. The two functions
 // here are the relay's own, under the definitions that the demands speak of: so what is proved of specs/Ours.antt is proved of the code.
+#![tactic(auto)]
+
 ghost use Rattle.std.specs.Prelude.{◌≡◌};
 ghost use Rattle.table.specs.Network.{table_with};
 ghost use Rattle.relay.specs.Arrival.{arrival};

@@ -2,6 +2,8 @@
 // fault, or a line of it is refused, a line with the number and the place.
 // What keeps the program from an answer is said on standard error in a line that begins with 'replay: ', by which bin/replay knows, since a program of this language
 // has no exit status.
+#![tactic(auto)]
+
 mod printing;
 
 use bans::BanList;

@@ -1,11 +1,13 @@
 // The feeder (document 02, §1): bytes as the radio gives them, however they are cut, made into lines. LF ends a line. A state keeps the bytes of an unfinished
 // line; a line with a 513th byte is refused once, by LINE_TOO_LONG, and dropped up to and with its LF. A caller has a state for each link, and calls `feed` with
 // what came until it is used up.
+#![tactic(auto)]
+
 ghost use Rattle.std.specs.Prelude.{◌≡◌, [], ◌++◌, ◌+◌, ◌≤◌, length, drop};
 ghost use Rattle.laws.specs.Lists.{padded};
 ghost use Rattle.message.specs.Grammar.{line_limit};
 ghost use Rattle.feed.specs.Lines.{Unfinished, Dropping, nothing};
-ghost use Rattle.feed.specs.Feeder.{state_of, is_reached, fed as fedOf, answer_to, feed_answer};
+ghost use Rattle.feed.specs.Feeder.{state_of, is_reached, fed as fed_of, answer_to, feed_answer};
 ghost use Rattle.feed.specs.Private.Gathering.{is_clean, KeepsLine, held_bytes, past};
 
 use message::LINE_LIMIT;
@@ -14,7 +16,7 @@ use refusal::{ACCEPTED, LINE_TOO_LONG, NOT_WELL_FORMED};
 
 // What is kept of the line under way: the bytes of an unfinished line, unused room zero; or none, where the line is too long and is dropped up to and with its LF.
 #[repr(C)]
-#[derive(Drop)]
+#[derive(Clone, Copy)]
 pub struct Feeder {
     pub bytes: [u8; LINE_LIMIT],
     pub len: usize,
@@ -37,7 +39,7 @@ impl Feeder {
 // The answer to a call: the state after it, how many of the bytes were used, and what was yielded. A line, unused room zero, where its length isn't 0;
 // LINE_TOO_LONG, where a line is too long; or nothing. NOT_WELL_FORMED: no bytes reach the state, and it is as given.
 #[repr(C)]
-#[derive(Drop)]
+#[derive(Clone, Copy)]
 pub struct Fed {
     pub state: Feeder,
     pub used: usize,
@@ -85,7 +87,7 @@ fn dropping() -> Feeder
 
 // The answer that has no line.
 fn unlined(state: Feeder, used: usize, number: u8) -> Fed
-    ensures { result ≡ fedOf state used [] number }
+    ensures { result ≡ fed_of state used [] number }
 {
     Fed {
         state,

@@ -2,9 +2,11 @@
 // A match goes in steps, each of which is given one mask byte and one text byte at most. Where they don't match, it steps back only to the last star
 // passed, whose run then takes one byte more. As many steps as the product of the two lengths, each plus 1, always reach the answer
 // (proofs/Claim.antt).
+#![tactic(auto)]
+
 ghost use Rattle.std.specs.Prelude.{◌≡◌, ◌≤◌, length};
-ghost use Rattle.glob.specs.Mask.{text_limit, matches_byte, matches as matchesOf, match_answer};
-ghost use Rattle.glob.specs.Stepping.{look as look_of, start, passed as passedOf, taken as taken_of, longer as longerOf, back as backOf, mask_ended, step as step_of, steps as steps_of};
+ghost use Rattle.glob.specs.Mask.{text_limit, matches_byte, matches as matches_of, match_answer};
+ghost use Rattle.glob.specs.Stepping.{look as look_of, start, passed as passed_of, taken as taken_of, longer as longer_of, back as back_of, mask_ended, step as step_of, steps as steps_of};
 ghost use Rattle.glob.specs.Private.Growing.{Growing};
 
 use names::is_alike;
@@ -15,7 +17,7 @@ pub const TEXT_LIMIT: usize = 512;
 
 // The number of a refusal, or ACCEPTED, and whether the mask matches the text: a refused match is no.
 #[repr(C)]
-#[derive(Drop)]
+#[derive(Clone, Copy)]
 pub struct Match {
     pub number: u8,
     pub yes: bool,
@@ -23,7 +25,7 @@ pub struct Match {
 
 // What a step is given of a mask or of a text: the byte at a place, or that this is its end. This type and the next two are public, since what is claimed
 // of steps speaks of them (specs/Stepping.antt).
-#[derive(Drop)]
+#[derive(Clone, Copy)]
 pub enum Seen {
     Byte(u8),
     End,
@@ -31,7 +33,7 @@ pub enum Seen {
 
 // A match in progress: the place in the mask and in the text; the place after the last star passed, 0 where none was; and where that star's run
 // ends in the text.
-#[derive(Drop)]
+#[derive(Clone, Copy)]
 pub struct State {
     pub mask: usize,
     pub text: usize,
@@ -40,7 +42,7 @@ pub struct State {
 }
 
 // What a step comes to: another state, or the answer.
-#[derive(Drop)]
+#[derive(Clone, Copy)]
 pub enum Progress {
     On(State),
     Done(bool),
@@ -69,7 +71,7 @@ fn takes(m: u8, b: u8) -> bool
 // A star is passed; its run is empty so far.
 fn passed(s: State) -> Progress
     requires { Growing s }
-    ensures { result ≡ passedOf s }
+    ensures { result ≡ passed_of s }
 {
     let after = s.mask + 1;
     Progress::On(State {
@@ -96,7 +98,7 @@ fn taken(s: State) -> Progress
 // The last star's run takes one byte more, and the match goes on behind both.
 fn longer(s: State) -> Progress
     requires { Growing s }
-    ensures { result ≡ longerOf s }
+    ensures { result ≡ longer_of s }
 {
     let run = s.run + 1;
     Progress::On(State {
@@ -110,7 +112,7 @@ fn longer(s: State) -> Progress
 // Back to the last star passed; where there is none, there is no match.
 fn back(s: State) -> Progress
     requires { Growing s }
-    ensures { result ≡ backOf s }
+    ensures { result ≡ back_of s }
 {
     if s.after == 0 {
         return Progress::Done(false);
@@ -184,7 +186,7 @@ fn steps(mask: &[u8], text: &[u8], count: usize) -> Progress
 // Whether a mask and a text within the limit match, by as many steps as always suffice.
 fn decide(mask: &[u8], text: &[u8]) -> bool
     requires { (length mask.now ≤ text_limit) × (length text.now ≤ text_limit) }
-    ensures { result ≡ matchesOf mask.now text.now }
+    ensures { result ≡ matches_of mask.now text.now }
 {
     let Progress::Done(yes) = steps(mask, text, (mask.len() + 1) * (text.len() + 1)) else {
         // Not reached.

@@ -11,7 +11,7 @@ use message::LINE_LIMIT;
 use refusal::{ACCEPTED, BAD_LOG_LENGTH, BAD_LOG_LINK, LOG_CUT, NO_MARK};
 
 // The number of a fault, or ACCEPTED, and the place of its byte, from the record's first one.
-#[derive(Drop)]
+#[derive(Clone, Copy)]
 pub(crate) struct Verdict {
     pub(crate) number: u8,
     pub(crate) place: usize,

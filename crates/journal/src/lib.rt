@@ -1,5 +1,7 @@
 // The day log (document 01, 'What goes out'; document 02, §5): a record of one line, as it was received, and the link that it came by, written and read
 // back. Any bytes up to a line's limit are taken; whether they read as a line isn't asked.
+#![tactic(auto)]
+
 mod faults;
 
 ghost use Rattle.std.specs.Prelude.{◌≡◌};
@@ -28,7 +30,7 @@ pub(crate) const SECOND_MARK: u8 = 82;
 
 // The number of a refusal, or ACCEPTED, and the size of the record.
 #[repr(C)]
-#[derive(Drop)]
+#[derive(Clone, Copy)]
 pub struct Logged {
     pub number: u8,
     pub size: usize,
@@ -74,7 +76,7 @@ pub fn write_record(link: u32, line: &[u8], log: &mut [u8]) -> Logged
 // What stands at a place of a log. A record: the link, and the part of the log that is the line, behind which the next record begins. Else, by the number, the
 // log's end or a fault, with the place of the first byte at fault. What isn't told of is zero.
 #[repr(C)]
-#[derive(Drop)]
+#[derive(Clone, Copy)]
 pub struct RecordRead {
     pub line: Span,
     pub place: usize,

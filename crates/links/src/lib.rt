@@ -1,12 +1,14 @@
 // The registered links, numbered 0 to 31 (document 01, 'What the relay holds' and 'What goes out'): a set of them as 32 bits, link i being bit i, the
 // relay set, and how many links a set has. Every set is well formed, and any number is taken: one above 31 is no link.
+#![tactic(auto)]
+
 ghost use Rattle.std.specs.Prelude.{◌≡◌, length};
 ghost use Rattle.laws.specs.Bits.{has_bit};
 ghost use Rattle.links.specs.Links.{link_count, no_links, all_links, with_link, without_link, less_link, relay_set, links_in};
 
 // The registered links.
 #[repr(C)]
-#[derive(Drop)]
+#[derive(Clone, Copy)]
 pub struct Links {
     pub set: u32,
 }

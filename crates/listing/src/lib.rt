@@ -1,4 +1,6 @@
 // The table as text, two lines for each used slot (document 02, §5): what an SJOIN tells of the channel, and its masks.
+#![tactic(auto)]
+
 ghost use Rattle.std.specs.Prelude.{◌≡◌, cond, [], ◌∷◌, ◌++◌, ◌≤◌, length, ltb};
 ghost use Rattle.refusal.specs.Rules.{emitted};
 ghost use Rattle.laws.specs.Lists.{separated};

@@ -1,4 +1,6 @@
 // The replay of a day log that is read from a file (document 02, §5), for the programs: piece by piece, so that a log of any size takes the same room.
+#![tactic(auto)]
+
 mod progress;
 
 ghost use Rattle.std.specs.Prelude.{◌≡◌, true, ◌+◌, ◌≤◌};
@@ -11,7 +13,7 @@ use table::Head;
 
 // The table's head after, all links being registered; the place behind the last record that was taken; the number of what ended the replay, and its place in the log,
 // or zeros. Where reading failed, the log wasn't read to its end, and these say nothing.
-#[derive(Drop)]
+#[derive(Clone, Copy)]
 pub struct FileReplay {
     pub head: Head,
     pub used: u64,

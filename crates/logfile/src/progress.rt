@@ -19,7 +19,7 @@ const ROOM: usize = RECORD_LIMIT + PIECE;
 
 // The table's head so far, its ban lists being lent; what is left of the last piece, and its place in the log; whether more is to come. Where none is, the number and
 // the place of what ended the replay, or zeros, unless reading failed.
-#[derive(Drop)]
+#[derive(Clone, Copy)]
 pub(crate) struct Progress {
     pub(crate) head: Head,
     left: [u8; RECORD_LIMIT],

@@ -1,12 +1,14 @@
 // Two records of one channel merged by the rules of SJOIN (document 01, 'SJOIN'), with their ban lists (document 02, §2), and the greater of two keys. Any records
 // are taken: `merge` refuses those that aren't well formed, and `combine`, which doesn't test them and leaves lists out, answers them by the definition that its
 // contract cites.
+#![tactic(auto)]
+
 mod lists;
 mod sides;
 mod uniting;
 
 ghost use Rattle.std.specs.Prelude.{◌≡◌, cond};
-ghost use Rattle.octets.specs.Order.{compare as compareOf, is_less};
+ghost use Rattle.octets.specs.Order.{compare as compare_of, is_less};
 ghost use Rattle.merging.specs.Merging.{answer_of, merge_answer, combined};
 ghost use Rattle.merging.specs.Private.Answers.{refused_by};
 
@@ -22,14 +24,14 @@ use uniting::united;
 
 // The number of a refusal, or ACCEPTED, and the merged record with its list, or the first one as given.
 #[repr(C)]
-#[derive(Drop)]
+#[derive(Clone, Copy)]
 pub struct Merged {
     pub number: u8,
     pub result: WholeRecord,
 }
 
 // The number of a refusal, or ACCEPTED, and the merged record, or the first one as given.
-#[derive(Drop)]
+#[derive(Clone, Copy)]
 pub struct Combined {
     pub number: u8,
     pub result: Record,
@@ -115,7 +117,7 @@ pub fn combine(a: Record, b: Record) -> Combined
 
 // The greater of two keys, compared as unsigned bytes, a proper beginning being smaller; the first where they are equal. Any bytes are taken.
 pub fn greater_key<'a>(a: &'a [u8], b: &'a [u8]) -> &'a [u8]
-    ensures { result ≡ cond (is_less (compareOf a.now b.now)) b.entry a.entry }
+    ensures { result ≡ cond (is_less (compare_of a.now b.now)) b.entry a.entry }
 {
     match compare(a, b) {
         Order::Less => b,

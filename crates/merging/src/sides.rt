@@ -8,7 +8,7 @@ use channel::Record;
 use octets::{part, put};
 
 // The modes, the key's length and the limit that a side gives.
-#[derive(Drop)]
+#[derive(Clone, Copy)]
 pub(crate) struct Given {
     pub(crate) modes: u8,
     pub(crate) key_len: usize,
@@ -16,14 +16,14 @@ pub(crate) struct Given {
 }
 
 // A key in its room.
-#[derive(Drop)]
+#[derive(Clone, Copy)]
 pub(crate) struct Key {
     pub(crate) bytes: [u8; Record::KEY],
     pub(crate) len: usize,
 }
 
 // A name in its room.
-#[derive(Drop)]
+#[derive(Clone, Copy)]
 pub(crate) struct Name {
     pub(crate) bytes: [u8; Record::NAME],
     pub(crate) len: usize,

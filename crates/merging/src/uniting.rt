@@ -12,7 +12,7 @@ use names::compare_ids;
 use octets::Order;
 
 // What two lists give next: a member, and how many of each it uses up.
-#[derive(Drop)]
+#[derive(Clone, Copy)]
 struct Next {
     member: Member,
     first: usize,

@@ -1,5 +1,7 @@
 // Reads one line of the server protocol (RFC 1459, section 2.3.1; document 01, 'Reading one line'; the fifteenth parameter as in RFC 2812, document 02, §7): prefix,
 // command and parameters, each as a part of the caller's line. Any bytes are taken; a line that isn't read is refused by a number of crate `refusal`.
+#![tactic(auto)]
+
 mod scan;
 pub mod spans;
 
@@ -10,7 +12,7 @@ ghost use Rattle.message.specs.Grammar.{is_command};
 ghost use Rattle.message.specs.Parts.{empty_at};
 ghost use Rattle.message.specs.Reading.{ends_line, number_of, count_of, number_for, reading_of, content_of, message_of, parsed_of};
 ghost use Rattle.message.specs.Words.{next_word};
-ghost use Rattle.message.specs.Private.Scan.{unread as unreadOf, body_parsed};
+ghost use Rattle.message.specs.Private.Scan.{unread as unread_of, body_parsed};
 
 use octets::{Class, all_in, part};
 use refusal::{
@@ -30,7 +32,7 @@ pub const MIDDLE_LIMIT: usize = 14;
 
 // A part of a line: the bytes from start up to, not including, end.
 #[repr(C)]
-#[derive(Drop)]
+#[derive(Clone, Copy)]
 pub struct Span {
     pub start: usize,
     pub end: usize,
@@ -39,7 +41,7 @@ pub struct Span {
 // A message as parts of a text: of a line that was read, or of one that is to be written. The spans past `count`, and that of the
 // prefix where there is none, are no parts.
 #[repr(C)]
-#[derive(Drop)]
+#[derive(Clone, Copy)]
 pub struct Message {
     pub has_prefix: bool,
     pub prefix: Span,
@@ -49,7 +51,7 @@ pub struct Message {
 }
 
 // The reader's answer: the count of parameters of a line that is read, or the number of its refusal.
-#[derive(Drop)]
+#[derive(Clone, Copy)]
 pub enum Reading {
     Line(usize),
     Refused(u8),
@@ -68,7 +70,7 @@ impl Reading {
 }
 
 // What a line comes to that is read once: the reader's answer, and the parts.
-#[derive(Drop)]
+#[derive(Clone, Copy)]
 pub struct Parsed {
     pub reading: Reading,
     pub message: Message,
@@ -118,7 +120,7 @@ fn empty_prefix(m: Message) -> bool
 
 // What a line of n bytes comes to that is refused: no part at all.
 fn unread(k: u8, n: usize) -> Parsed
-    ensures { result ≡ unreadOf k n }
+    ensures { result ≡ unread_of k n }
 {
     Parsed {
         reading: Reading::Refused(k),

@@ -1,7 +1,7 @@
 // The scan of a line's body, the bytes before CR LF: prefix, command, and the two rules of the parameters, which call each other.
 ghost use Rattle.std.specs.Prelude.{◌≡◌, ◌+◌, ◌≤◌, ◌<◌, length, drop};
 ghost use Rattle.message.specs.Grammar.{param_limit, middle_limit, word, spaces, has_prefix, rest as rest_of, after_middle};
-ghost use Rattle.message.specs.Parts.{span, blank as blankOf, message_in};
+ghost use Rattle.message.specs.Parts.{span, blank as blank_of, message_in};
 ghost use Rattle.message.specs.Private.Scan.{opened as opened_of, with_param, with_params, from_command};
 
 use crate::{MIDDLE_LIMIT, Message, PARAM_LIMIT, Span};
@@ -52,7 +52,7 @@ fn opened(has_prefix: bool, prefix: Span, command: Span, end: usize) -> Message
 
 // No part at all.
 pub(crate) fn blank(end: usize) -> Message
-    ensures { result ≡ blankOf end }
+    ensures { result ≡ blank_of end }
 {
     let none = Span { start: end, end };
     opened(false, none, none, end)

@@ -1,11 +1,13 @@
 // Channel names, server ids and user ids (document 01, 'Names and ids'; document 02, §4): the fold that makes names equal, a test for each kind, and the order
 // of user ids. Any bytes are taken and nothing is refused.
+#![tactic(auto)]
+
 ghost use Rattle.std.specs.Prelude.{◌≡◌, cond};
 ghost use Rattle.laws.specs.Lists.{padded};
 ghost use Rattle.octets.specs.Order.{compare};
 ghost use Rattle.names.specs.Fold.{fold as fold_of, alike, same_name};
 ghost use Rattle.names.specs.Names.{user_id_length, is_channel, is_server_id, is_user_id};
-ghost use Rattle.names.specs.Private.Likeness.{likeness as likenessOf};
+ghost use Rattle.names.specs.Private.Likeness.{likeness as likeness_of};
 
 use octets::{Class, Order, all_in, part, put};
 
@@ -37,7 +39,7 @@ pub fn fold(b: u8) -> u8
 // What bytes that are alike have in common. Those that change lie side by side, so that it is two comparisons and an addition. Of '^'
 // and '~' it is '~', and so not the fold.
 fn likeness(b: u8) -> u8
-    ensures { result ≡ likenessOf b }
+    ensures { result ≡ likeness_of b }
 {
     if b < b'A' {
         return b;

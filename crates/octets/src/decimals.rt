@@ -2,7 +2,7 @@
 ghost use Rattle.std.specs.Prelude.{◌≡◌, true, not, cond, ◌<◌};
 ghost use Rattle.octets.specs.Bytes.{is_digit};
 ghost use Rattle.laws.specs.Lists.{all};
-ghost use Rattle.octets.specs.Decimals.{leads_with_zero, value_of, value_up_to, decimal_up_to, is_malformed, value_in, is_up_to, digit as digitOf, digits_of};
+ghost use Rattle.octets.specs.Decimals.{leads_with_zero, value_of, value_up_to, decimal_up_to, is_malformed, value_in, is_up_to, digit as digit_of, digits_of};
 ghost use Rattle.octets.specs.Room.{put_at, end_of};
 
 use crate::{Class, Decimal, all_in, put};
@@ -59,7 +59,7 @@ pub fn decimal(s: &[u8], limit: u32) -> Decimal
 // The digit of a number below ten.
 fn digit(n: u64) -> u8
     requires { n < 10 }
-    ensures { result ≡ digitOf n }
+    ensures { result ≡ digit_of n }
 {
     n as u8 + b'0'
 }

@@ -1,12 +1,14 @@
 // Bytes: their classes, zero bytes, the place of one, byte strings compared, numbers in decimal, a part of a lent slice, bytes put into lent room, and capital letters.
 // Every function takes any bytes and refuses nothing.
+#![tactic(auto)]
+
 ghost use Rattle.std.specs.Prelude.{◌≡◌, cond, ◌+◌, ◌≤◌, min, length, take, drop, eqb};
 ghost use Rattle.std.proofs.Math.Seq.{paste};
-ghost use Rattle.octets.specs.Bytes.{is_zero, within, is_plain, is_letter, is_id_byte, is_name_byte, is_key_byte, in_class, capital as capitalOf};
+ghost use Rattle.octets.specs.Bytes.{is_zero, within, is_plain, is_letter, is_id_byte, is_name_byte, is_key_byte, in_class, capital as capital_of};
 ghost use Rattle.laws.specs.Lists.{all};
 ghost use Rattle.octets.specs.Search.{differs, before};
 ghost use Rattle.octets.specs.Private.Blocks.{block_length, Clear};
-ghost use Rattle.octets.specs.Order.{compare as compareOf};
+ghost use Rattle.octets.specs.Order.{compare as compare_of};
 ghost use Rattle.octets.specs.Room.{part as part_of, place_in, put_at, end_of};
 
 pub mod decimals;
@@ -18,7 +20,7 @@ const BELL: u8 = 7;
 const BLOCK: usize = 32;
 
 // What a byte may be, for `all_in`.
-#[derive(Drop)]
+#[derive(Clone, Copy)]
 pub enum Class {
     // any but NUL, CR and LF
     Plain,
@@ -39,7 +41,7 @@ pub enum Class {
 }
 
 // How two byte strings stand to each other.
-#[derive(Drop)]
+#[derive(Clone, Copy)]
 pub enum Order {
     Less,
     Same,
@@ -228,7 +230,7 @@ pub fn place_of(s: &[u8], b: u8) -> usize
 
 // How a stands to b: by the first byte that differs, a proper beginning being smaller.
 pub fn compare(a: &[u8], b: &[u8]) -> Order
-    ensures { result ≡ compareOf a.now b.now }
+    ensures { result ≡ compare_of a.now b.now }
 {
     let mut same = 0;
     while same < a.len() {
@@ -252,7 +254,7 @@ pub fn compare(a: &[u8], b: &[u8]) -> Order
 }
 
 // What bytes are as a number in decimal, up to a limit.
-#[derive(Drop)]
+#[derive(Clone, Copy)]
 pub enum Decimal {
     Value(u32),
     // no number in decimal, or one past the limit
@@ -309,7 +311,7 @@ pub fn put(out: &mut [u8], at: usize, p: &[u8]) -> usize
 
 // The byte, or its capital where it is a small letter.
 pub fn capital(b: u8) -> u8
-    ensures { result ≡ capitalOf b }
+    ensures { result ≡ capital_of b }
 {
     if between(b, b'a', b'z') {
         return b - 32;

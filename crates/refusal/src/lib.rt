@@ -2,6 +2,8 @@
 // No other source file writes such a number as a literal. The definitions have the same names in specs/Numbers.antt.
 
 // Nothing is refused: this one isn't in the table.
+#![tactic(auto)]
+
 pub const ACCEPTED: u8 = 0;
 
 // table or record not well formed; a feeder's state that no bytes reach

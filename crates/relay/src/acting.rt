@@ -2,7 +2,7 @@
 ghost use Rattle.std.specs.Prelude.{◌≡◌, map, ◌<◌, length, set};
 ghost use Rattle.octets.specs.Room.{front};
 ghost use Rattle.channel.specs.Limits.{slot_count};
-ghost use Rattle.channel.specs.Members.{without as withoutOf};
+ghost use Rattle.channel.specs.Members.{without as without_of};
 ghost use Rattle.message.specs.Parts.{content_by};
 ghost use Rattle.bans.specs.Slots.{stored};
 ghost use Rattle.bmask.specs.Masks.{mask_list_in};
@@ -49,7 +49,7 @@ fn with_record(t: Head, bans: &mut [u8; BanList::BANS], k: usize, r: Record, emp
 // The head without a user; where it was the last one of a slot, the ban list is emptied. A free slot isn't looked through: whatever it holds, the empty record is
 // left.
 fn without_user(t: Head, bans: &mut [u8; BanList::BANS], user: [u8; USER_ID]) -> Head
-    ensures answer { result ≡ head_with t (map (withoutOf user) t.slots) }
+    ensures answer { result ≡ head_with t (map (without_of user) t.slots) }
     ensures lists { bans.new ≡ left_lists user 0 t.slots bans.old }
 {
     let mut next = t;

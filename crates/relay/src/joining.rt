@@ -1,6 +1,6 @@
 // SJOIN: what its line asks for, and what that comes to in the slot that its channel uses. Nothing is written.
 ghost use Rattle.std.specs.Prelude.{◌≡◌, ◌≤◌, length};
-ghost use Rattle.channel.specs.Standing.{bare as bareOf};
+ghost use Rattle.channel.specs.Standing.{bare as bare_of};
 ghost use Rattle.message.specs.Grammar.{line_limit};
 ghost use Rattle.relay.specs.declared.Command.TheVariants.{Sjoin};
 ghost use Rattle.relay.specs.Private.Commands.{asked_by};
@@ -42,7 +42,7 @@ pub(crate) fn join_request(line: &[u8], m: Message) -> Asked
 
 // The members without status.
 fn bare(members: [Member; Record::MEMBERS]) -> [Member; Record::MEMBERS]
-    ensures { result ≡ bareOf members }
+    ensures { result ≡ bare_of members }
 {
     let mut list = members;
     for i in 0..Record::MEMBERS {

@@ -1,5 +1,7 @@
 // Taking a line (document 01, 'SJOIN', 'What goes out'; document 02, §2 and §6): SJOIN, PART, QUIT and BMASK judged, folded into the table and relayed. Any bytes, on
 // any link, with any table and any lent output, get one answer.
+#![tactic(auto)]
+
 mod acting;
 mod joining;
 mod judging;
@@ -27,7 +29,7 @@ use requests::requested;
 use table::{Head, is_well_formed};
 
 // The commands that the relay takes, and any other.
-#[derive(Drop)]
+#[derive(Clone, Copy)]
 enum Command {
     Sjoin,
     Part,
@@ -39,7 +41,7 @@ enum Command {
 // What a message asks for by itself: the number of its refusal, or ACCEPTED, its command, the name of the channel that it is about, as a part of the
 // line, the user who leaves, and the time of masks; and the place in the line of what is wrong with its modes. What doesn't belong to the command is zero: the name of
 // no channel is empty.
-#[derive(Drop)]
+#[derive(Clone, Copy)]
 struct Request {
     name: Span,
     user: [u8; USER_ID],
@@ -50,14 +52,14 @@ struct Request {
 }
 
 // A request, and the record that came with it; else the empty one.
-#[derive(Drop)]
+#[derive(Clone, Copy)]
 struct Asked {
     request: Request,
     incoming: Record,
 }
 
 // What is done: nothing; a slot set to another record; a user dropped from every slot; the masks that the line lists added to those of a slot.
-#[derive(Drop)]
+#[derive(Clone, Copy)]
 enum Deed {
     Nothing,
     Set,
@@ -66,7 +68,7 @@ enum Deed {
 }
 
 // What goes out: nothing; the line as read; an SJOIN that tells of a record anew.
-#[derive(Drop)]
+#[derive(Clone, Copy)]
 enum Sending {
     Silent,
     AsRead,
@@ -75,7 +77,7 @@ enum Sending {
 
 // What a request comes to: the number of its refusal, or ACCEPTED; what is done, with the slot, whether its ban list is emptied, and its record, or the user;
 // and what goes out, with the record that is told of. What isn't needed is zero.
-#[derive(Drop)]
+#[derive(Clone, Copy)]
 struct Change {
     number: u8,
     deed: Deed,
@@ -91,7 +93,7 @@ struct Change {
 // §6); the links that the line goes to, and how many they are; and the number of a refusal, or ACCEPTED. The head comes first: behind a smaller field it is copied twice
 // more.
 #[repr(C)]
-#[derive(Drop)]
+#[derive(Clone, Copy)]
 pub struct Taken {
     pub head: Head,
     pub len: usize,

@@ -1,10 +1,10 @@
 // What a line asks for by itself: its command, and the channel and the user that it is about, or the number of its refusal. No table is looked at, and
 // nothing is written.
 ghost use Rattle.std.specs.Prelude.{◌≡◌, map};
-ghost use Rattle.octets.specs.Bytes.{capital as capitalOf};
+ghost use Rattle.octets.specs.Bytes.{capital as capital_of};
 ghost use Rattle.laws.specs.Lists.{same};
 ghost use Rattle.message.specs.Reading.{parsed_of};
-ghost use Rattle.relay.specs.Private.Work.{nothing as nothingOf};
+ghost use Rattle.relay.specs.Private.Work.{nothing as nothing_of};
 ghost use Rattle.relay.specs.Private.Commands.{asked_of};
 
 use crate::joining::join_request;
@@ -21,7 +21,7 @@ use refusal::UNKNOWN_COMMAND;
 
 // Whether a word is the name in capitals, letters compared without case.
 fn is_word(word: &[u8], name: &[u8]) -> bool
-    ensures { result ≡ same (map capitalOf word.now) name.now }
+    ensures { result ≡ same (map capital_of word.now) name.now }
 {
     if word.len() != name.len() {
         return false;
@@ -38,7 +38,7 @@ fn is_word(word: &[u8], name: &[u8]) -> bool
 
 // Nothing is asked for: the number of a refusal, and its place in the line, or 0.
 pub(crate) fn nothing(number: u8, place: usize) -> Asked
-    ensures { result ≡ nothingOf number place }
+    ensures { result ≡ nothing_of number place }
 {
     let request = Request {
         name: Span { start: 0, end: 0 },

@@ -1,5 +1,7 @@
 // Replaying a day log (document 02, §5): its records taken in order into an empty table with all 32 links registered. The log comes in pieces of any size; what
 // of a piece isn't used belongs before the next one, and the place of a piece in the log is the caller's to add.
+#![tactic(auto)]
+
 ghost use Rattle.std.specs.Prelude.{◌≡◌};
 ghost use Rattle.message.specs.Grammar.{line_limit};
 ghost use Rattle.table.specs.Network.{head_of, table_with};
@@ -18,7 +20,7 @@ use relay::{Taken, process};
 use table::Head;
 
 // The head after; how many bytes of the piece are records that were taken; and the number of what stopped the replay, with its place in the piece, or zeros.
-#[derive(Drop)]
+#[derive(Clone, Copy)]
 pub struct Replayed {
     pub head: Head,
     pub used: usize,

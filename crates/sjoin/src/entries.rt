@@ -13,14 +13,14 @@ use names::{USER_ID, user_id};
 use octets::part;
 
 // A word of the list: whether it is an entry, and the member that it names then.
-#[derive(Drop)]
+#[derive(Clone, Copy)]
 struct Entry {
     good: bool,
     member: Member,
 }
 
 // What a list says: whether it is good, and the members that it names then.
-#[derive(Drop)]
+#[derive(Clone, Copy)]
 pub(crate) struct Entries {
     pub(crate) good: bool,
     pub(crate) members: Roster,

@@ -1,5 +1,7 @@
 // What an SJOIN line says (document 01, 'SJOIN'; document 02, §6): its time, name, modes with key and limit, and members, judged by the numbers 12 to 18, with 32 to 36 in
 // the place of 17, and put into a record of their own.
+#![tactic(auto)]
+
 mod arguments;
 mod entries;
 mod letters;
@@ -43,7 +45,7 @@ const NAME_AT: usize = 1;
 
 // The number of a refusal, or ACCEPTED; the place in the line of what is wrong with its modes, 0 with any other number; and the record that the line tells of, or the
 // empty one.
-#[derive(Drop)]
+#[derive(Clone, Copy)]
 pub struct Told {
     pub number: u8,
     pub place: usize,
@@ -51,7 +53,7 @@ pub struct Told {
 }
 
 // The number of a refusal, or ACCEPTED, and its place, or 0.
-#[derive(Drop)]
+#[derive(Clone, Copy)]
 struct Verdict {
     number: u8,
     place: usize,

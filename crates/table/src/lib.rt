@@ -1,14 +1,16 @@
 // The table: sixteen channel slots, the registered links, and a ban list for each slot (document 01, 'What the relay holds'; document 02, §2). Its head, which is
 // the slots and the links, goes in and comes back by value; the ban lists are lent beside it.
+#![tactic(auto)]
+
 mod slots;
 
 ghost use Rattle.std.specs.Prelude.{◌≡◌};
 ghost use Rattle.refusal.specs.Rules.{first_of};
 ghost use Rattle.table.specs.Network.{head_of, table_with};
-ghost use Rattle.table.specs.Table.{empty_table, good_table, relinked as relinkedOf, register_answer, unregister_answer, registered_of};
+ghost use Rattle.table.specs.Table.{empty_table, good_table, relinked as relinked_of, register_answer, unregister_answer, registered_of};
 ghost use Rattle.table.specs.Slots.{found_for, slot_number, slot_rules};
 ghost use Rattle.table.specs.Banned.{banned_answer};
-ghost use Rattle.table.specs.Private.Parts.{unbanned as unbannedOf};
+ghost use Rattle.table.specs.Private.Parts.{unbanned as unbanned_of};
 
 use bans::{BanList, clear_all, is_good, list_at, some_matches};
 use channel::Record;
@@ -21,14 +23,14 @@ use slots::{alike, good_record, lowest_free};
 
 // What of a table goes by value: sixteen channel slots, a free one being the empty record, and the links.
 #[repr(C)]
-#[derive(Drop)]
+#[derive(Clone, Copy)]
 pub struct Head {
     pub slots: [Record; Record::SLOTS],
     pub links: Links,
 }
 
 // The slot that a name uses: the one that holds it, else the lowest free one; or every slot holds another name.
-#[derive(Drop)]
+#[derive(Clone, Copy)]
 pub enum Slot {
     Held(usize),
     Free(usize),
@@ -36,7 +38,7 @@ pub enum Slot {
 }
 
 // The slot that a name uses, and the record in it that has the name: the empty one where no slot has it.
-#[derive(Drop)]
+#[derive(Clone, Copy)]
 pub struct Found {
     pub record: Record,
     pub slot: Slot,
@@ -44,7 +46,7 @@ pub struct Found {
 
 // The head after, or as given, and the number of a refusal, or ACCEPTED.
 #[repr(C)]
-#[derive(Drop)]
+#[derive(Clone, Copy)]
 pub struct Registered {
     pub head: Head,
     pub number: u8,
@@ -52,7 +54,7 @@ pub struct Registered {
 
 // Whether a text is banned: the number of a refusal, and no; or ACCEPTED, and the answer.
 #[repr(C)]
-#[derive(Drop)]
+#[derive(Clone, Copy)]
 pub struct Banned {
     pub number: u8,
     pub yes: bool,
@@ -111,7 +113,7 @@ pub fn is_well_formed(t: Head, bans: &[u8; BanList::BANS]) -> bool
 
 // The head with other links, unless the table isn't well formed or the link is none.
 fn relinked(t: Head, bans: &[u8; BanList::BANS], link: u32, links: Links) -> Registered
-    ensures { result ≡ registered_of (relinkedOf (table_with t bans.now) link links) }
+    ensures { result ≡ registered_of (relinked_of (table_with t bans.now) link links) }
 {
     if !is_well_formed(t, bans) {
         return Registered {
@@ -178,7 +180,7 @@ pub fn find(t: Head, name: &[u8]) -> Found
 
 // A question that is refused is answered no.
 fn unbanned(number: u8) -> Banned
-    ensures { result ≡ unbannedOf number }
+    ensures { result ≡ unbanned_of number }
 {
     Banned { number, yes: false }
 }

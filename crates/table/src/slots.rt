@@ -1,6 +1,6 @@
 // The slots of a table, each judged as the record that it holds, and two by their names.
 ghost use Rattle.std.specs.Prelude.{◌≡◌};
-ghost use Rattle.table.specs.Table.{holds as holds_of, alike as alikeOf};
+ghost use Rattle.table.specs.Table.{holds as holds_of, alike as alike_of};
 ghost use Rattle.table.specs.Slots.{free_slot};
 ghost use Rattle.table.specs.Private.Parts.{good_record};
 
@@ -32,7 +32,7 @@ fn holds(r: Record, name: &[u8]) -> bool
 
 // Whether two slots are used and hold equal names.
 pub(crate) fn alike(r: Record, s: Record) -> bool
-    ensures { result ≡ alikeOf r s }
+    ensures { result ≡ alike_of r s }
 {
     if r.count == 0 {
         return false;

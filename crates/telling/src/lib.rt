@@ -1,4 +1,6 @@
 // What is told of a record (document 01, 'SJOIN'): the line by which a server tells of it, and the same as a text of its own.
+#![tactic(auto)]
+
 mod pieces;
 
 ghost use Rattle.std.specs.Prelude.{◌≡◌, ◌≤◌, length};

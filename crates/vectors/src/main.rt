@@ -2,6 +2,8 @@
 // and prints what comes of each, then an empty line.
 // A record is a word of five bytes, which says what is tried, and then what it is tried on, up to and including LF.
 // The relay's table goes from record to record, and is empty at the start. Bytes after the last LF are no record.
+#![tactic(auto)]
+
 mod printing;
 mod showing;
 mod steps;
@@ -25,7 +27,7 @@ const ROOM: usize = 1024;
 
 // What stands between two reads, the ban lists apart, which are lent: the bytes so far of the record that is under way, the table's head after the last one, and
 // whether more input may come.
-#[derive(Drop)]
+#[derive(Clone, Copy)]
 struct Input {
     record: [u8; ROOM],
     len: usize,

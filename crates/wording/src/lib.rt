@@ -1,5 +1,7 @@
 // The words of refusals: those of documents 01 and 02, shortened, for people to read beside the number. Each text stands once here, and once in specs/Wording.antt with
 // the number that it belongs to; a function that answers one where its contract says the other isn't proved. Any later number adds its text to both.
+#![tactic(auto)]
+
 ghost use Rattle.std.specs.Prelude.{◌≡◌, ◌≤◌, length};
 ghost use Rattle.wording.specs.Wording.{text_limit, holding, text_of};
 
@@ -18,7 +20,7 @@ pub const TEXT_LIMIT: usize = 48;
 
 // A text at the front of its room, the rest of which is zero.
 #[repr(C)]
-#[derive(Drop)]
+#[derive(Clone, Copy)]
 pub struct Text {
     pub bytes: [u8; TEXT_LIMIT],
     pub len: usize,

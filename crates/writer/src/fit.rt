@@ -3,7 +3,7 @@
 ghost use Rattle.std.specs.Prelude.{◌≡◌, ◌≤◌, take};
 ghost use Rattle.message.specs.Grammar.{param_limit, is_middle};
 ghost use Rattle.writer.specs.Form.{lies_in};
-ghost use Rattle.writer.specs.Private.Fit.{good_param, fit_prefix, fit_command, fit_param, fit_params, fit as fitOf};
+ghost use Rattle.writer.specs.Private.Fit.{good_param, fit_prefix, fit_command, fit_param, fit_params, fit as fit_of};
 
 use message::{Message, PARAM_LIMIT, Span};
 use octets::{Class, all_in, part};
@@ -105,7 +105,7 @@ fn fit_params(text: &[u8], m: Message) -> bool
 
 // Whether the message can be written, its length apart.
 pub(crate) fn fit(text: &[u8], m: Message) -> bool
-    ensures { result ≡ fitOf text.now m }
+    ensures { result ≡ fit_of text.now m }
 {
     if PARAM_LIMIT < m.count {
         return false;

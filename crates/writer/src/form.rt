@@ -2,7 +2,7 @@
 // no room, so nothing more is put and no length is reckoned beforehand.
 ghost use Rattle.std.specs.Prelude.{◌≡◌, cond, ◌∷◌, map, ◌≤◌, take};
 ghost use Rattle.std.proofs.Math.Option.{some, none};
-ghost use Rattle.octets.specs.Bytes.{space, capital as capitalOf};
+ghost use Rattle.octets.specs.Bytes.{space, capital as capital_of};
 ghost use Rattle.octets.specs.Private.Additions.{Adds};
 ghost use Rattle.message.specs.Grammar.{param_limit, is_bare};
 ghost use Rattle.message.specs.Parts.{bytes_at, content_by};
@@ -83,7 +83,7 @@ fn put_prefix(text: &[u8], m: Message, line: &mut [u8]) -> usize
 
 // Adds the bytes, every small letter in capitals.
 fn put_capitals(line: &mut [u8], at: usize, p: &[u8]) -> usize
-    ensures { Adds line.old at line.new result (map capitalOf p.now) }
+    ensures { Adds line.old at line.new result (map capital_of p.now) }
 {
     let mut next = at;
     let mut i = 0;
@@ -97,7 +97,7 @@ fn put_capitals(line: &mut [u8], at: usize, p: &[u8]) -> usize
 
 // Adds the command, in capitals if they are asked for.
 fn put_command(line: &mut [u8], at: usize, p: &[u8], capitals: bool) -> usize
-    ensures { Adds line.old at line.new result (cond capitals (map capitalOf p.now) p.now) }
+    ensures { Adds line.old at line.new result (cond capitals (map capital_of p.now) p.now) }
 {
     if capitals {
         return put_capitals(line, at, p);

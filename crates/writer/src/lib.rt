@@ -1,6 +1,8 @@
 // Writes a message in the one fixed form (document 01, 'Reading one line'; document 02, §7): one SPACE between parts, ':' before the last parameter exactly if
 // it is empty, starts with ':' or holds a SPACE, before a fifteenth exactly if it is empty or starts with ':' or SPACE, CR LF at the end. A line is put together
 // apart, and goes to the front of the lent output only if nothing refuses it.
+#![tactic(auto)]
+
 mod fit;
 pub mod form;
 
@@ -20,7 +22,7 @@ use refusal::{ACCEPTED, NO_ROOM, OUTPUT_TOO_SHORT, UNWRITABLE};
 
 // The number of a refusal, or ACCEPTED, and how many bytes were written.
 #[repr(C)]
-#[derive(Drop)]
+#[derive(Clone, Copy)]
 pub struct Written {
     pub number: u8,
     pub len: usize,

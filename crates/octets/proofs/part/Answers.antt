@@ -7,11 +7,9 @@ use native.Mathlib.Omega.{arith}
 use lib.ListN.{length, take, drop, length-drop, drop_of_length-le}
 use lib.Seq.{take_all, take-nil}
 use lib.Dec.{leb}
-use borrow.Author.Rules.{rules}
 use borrow.Author.Tests.{leb-true, leb-false}
 use Rattle.octets.specs.Room.{part, place_in}
-use Rattle.octets.proofs.part.Statement.{statement}
-use Rattle.octets.proofs.part.Tie as tie
+use Rattle.octets.proofs.part.Goals as goal
 
 -- start and end, each cut back
 module _ (s : List ℕ) (start end stop from : ℕ) (is : stop ≡ min end (length s)) (fr : from ≡ min start stop) where
@@ -38,29 +36,8 @@ module _ (s : List ℕ) (start end stop from : ℕ) (is : stop ≡ min end (leng
           none true g = let z : end - start ≡ 0 = omega (arith, leb-false start stop e, leb-true end (length s) g) in rw z
           none false g = rw (drop_of_length-le s {i = start} (omega (arith, leb-false start stop e, leb-false end (length s) g))) (take-nil (end - start))
 
-lesser-requires : tie.Need-lesser-requires
-lesser-requires c κs = search rules
-
-lesser-requires-2 : tie.Need-lesser-requires-2
-lesser-requires-2 c κs = search rules
-
-sub-result : tie.Need-overflow-sub-result
-sub-result c = search rules
-
-part-result-start : tie.Need-slice-bounds-result-start
-part-result-start c = search rules
-
-part-result-end : tie.Need-slice-bounds-result-end
-part-result-end c = search rules
-
-returns : tie.Need-returns
+pub returns : goal.returns
 returns c =
-    let a = c.before.before.before.before.args in
-    let stop = c.before.before.lesser.ensures in
-    let from = c.before.lesser2.ensures in (
-      same_bytes a.s.now a.start a.end c.before.before.lesser.result c.before.lesser2.result stop from,
-      ap (place_in a.s) (from ∙ ap (min a.start) stop),
-    )
-
-pub part-spec : {M : Type 1} → statement M
-part-spec = tie.close (tie.spec lesser-requires lesser-requires-2 sub-result part-result-start part-result-end returns)
+    let a = c.args in
+    let stop = c.lesser-stop.ensures in
+    let from = c.lesser-from.ensures in record { bytes = same_bytes a.s.now a.start a.end c.lesser-stop.result c.lesser-from.result stop from; place = ap (place_in a.s) (from ∙ ap (min a.start) stop) }
