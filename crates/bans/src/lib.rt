@@ -41,7 +41,7 @@ impl BanList {
     // The list without masks. The sizes of the code are those of the definitions.
     pub fn empty() -> BanList
         ensures value { result ≡ empty_list }
-        ensures* fact { do ⌜ ((← (⟦BanList::ROOM⟧).entry) ≡ room_size) × ((← (⟦BanList::LIST⟧).entry) ≡ list_size) × ((← (⟦BanList::BANS⟧).entry) ≡ bans_size) ⌝ }
+        ensures sizes { (BanList.ROOM ≡ room_size) × (BanList.LIST ≡ list_size) × (BanList.BANS ≡ bans_size) }
     {
         BanList {
             room: [0u8; BanList::LIST],

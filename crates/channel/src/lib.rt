@@ -84,11 +84,11 @@ impl Record {
     // No channel: a free slot. The limits and statuses of the code are those of the definitions.
     pub fn empty() -> Record
         ensures value { result ≡ empty_record }
-        ensures* fact { do ⌜ ((← (⟦Record::MEMBERS⟧).entry) ≡ member_limit) × ((← (⟦Record::NAME⟧).entry) ≡ name_limit) × ((← (⟦Record::KEY⟧).entry) ≡ key_limit) × ((← (⟦Record::SLOTS⟧).entry) ≡ slot_count) ⌝ }
-        ensures* fact_2 { do ⌜ ((← (⟦Record::TIME⟧).entry) ≡ time_limit) × ((← (⟦Record::LIMIT⟧).entry) ≡ limit_limit) ⌝ }
-        ensures* fact_3 { do ⌜ ((← (⟦Record::MASKS⟧).entry) ≡ ban_limit) × ((← (⟦Record::MASK⟧).entry) ≡ mask_limit) ⌝ }
-        ensures* fact_4 { do ⌜ ((← (⟦Member::VOICE⟧).entry) ≡ voice) × ((← (⟦Member::OPERATOR⟧).entry) ≡ operator) ⌝ }
-        ensures* fact_5 { do ⌜ ((← (⟦Member::VOICE_PLACE⟧).entry) ≡ voice_place) × ((← (⟦Member::OPERATOR_PLACE⟧).entry) ≡ operator_place) ⌝ }
+        ensures sizes { (Record.MEMBERS ≡ member_limit) × (Record.NAME ≡ name_limit) × (Record.KEY ≡ key_limit) × (Record.SLOTS ≡ slot_count) }
+        ensures numbers { (Record.TIME ≡ time_limit) × (Record.LIMIT ≡ limit_limit) }
+        ensures bans { (Record.MASKS ≡ ban_limit) × (Record.MASK ≡ mask_limit) }
+        ensures statuses { (Member.VOICE ≡ voice) × (Member.OPERATOR ≡ operator) }
+        ensures places { (Member.VOICE_PLACE ≡ voice_place) × (Member.OPERATOR_PLACE ≡ operator_place) }
     {
         let members = vacant();
         Record {

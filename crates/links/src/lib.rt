@@ -20,7 +20,7 @@ impl Links {
     // No link is registered. The count of the code is that of the definitions.
     pub fn none() -> Links
         ensures value { result ≡ no_links }
-        ensures* do_value { do ⌜ (← (⟦Links::COUNT⟧).entry) ≡ link_count ⌝ }
+        ensures count { Links.COUNT ≡ link_count }
     {
         Links { set: 0 }
     }

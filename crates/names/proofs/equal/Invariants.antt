@@ -1,0 +1,19 @@
+-- `equal` meets its contract. The invariant: what follows the first i bytes of each is equal exactly if the whole names are.
+-- Assumes nothing.
+use mathlib.Core.Path.{◌≡◌, refl, sym, ◌∙◌}
+use Prim.Native.Nat.{◌-◌, ◌≤◌}
+use native.Mathlib.Omega.{arith}
+use lib.ListN.{length, drop}
+use borrow.Author.Rules.{rules}
+use borrow.Author.Tests.{eqb-true, eqb-false, not-true, not-false}
+use Rattle.names.specs.Fold.{same_name}
+use Rattle.names.proofs.Folds.{lengths_differ, name-past, name-stop, name-go}
+use Rattle.names.proofs.equal.Given as goal
+
+abbrev pub invariant-loop-i : goal.invariant-loop-i
+invariant-loop-i l =
+    (l.i ≤ length l.a) × (length l.a ≡ length l.b) × (same_name (drop l.i l.a) (drop l.i l.b) ≡ same_name l.a l.b)
+
+abbrev pub decreases-loop-i : goal.decreases-loop-i
+decreases-loop-i l =
+    length l.a - l.i
