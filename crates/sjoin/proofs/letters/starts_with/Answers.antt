@@ -8,8 +8,7 @@ use lib.ListN.{length, get_or}
 use lib.Dec.{eqb}
 use borrow.Author.Rules.{rules}
 use Rattle.laws.specs.Lists.{starts_with}
-use Rattle.sjoin.proofs.letters.starts_with.Statement.{statement}
-use Rattle.sjoin.proofs.letters.starts_with.Tie as tie
+use Rattle.sjoin.proofs.letters.starts_with.Goals as goal
 
 starts_none : (s : List ℕ) (b : ℕ) → length s ≡ 0 → starts_with b s ≡ false
 unfolding starts_with
@@ -21,14 +20,10 @@ unfolding starts_with
 starts-some [] b = λ h. absurd (h refl)
 starts-some (x ∷ s) b = λ h. refl
 
-returns : tie.Need-returns
-returns c = sym (starts_none c.before.args.s.now c.before.args.mark c.if1.true)
+pub returns-then-s-eq0 : goal.returns-then-s-eq0
+returns-then-s-eq0 c =
+    sym (starts_none c.args.s.now c.args.mark c.if-s-eq0.true)
 
-shared-slice-read-result : tie.Need-shared-slice-read-result
-shared-slice-read-result c = search rules
-
-returns-2 : tie.Need-returns-2
-returns-2 c = starts-some c.before.before.args.s.now c.before.before.args.mark c.before.if1.false
-
-pub starts-with-spec : {M : Type 1} → statement M
-starts-with-spec = tie.close (tie.spec returns shared-slice-read-result returns-2)
+pub returns : goal.returns
+returns c =
+    starts-some c.args.s.now c.args.mark c.if-s-eq0.false
