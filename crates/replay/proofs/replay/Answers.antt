@@ -54,7 +54,7 @@ loop-read-smaller c =
     c.args.log.now in
     let whole : ReadsWhole (log) c.loop-read.at c.loop-read.read =
     let h = c in reads-record (log) h.loop-read.at h.loop-read.read h.loop-read.invariant.0 h.loop-read-test.true in
-    let t = c in omega (arith, (whole).next, (whole).ranges)
+    let t = c in omega (arith, (whole).next, (whole).fits)
 
 pub loop-read-preserved : goal.loop-read-preserved
 loop-read-preserved c =
