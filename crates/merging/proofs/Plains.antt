@@ -1,7 +1,7 @@
 -- Laws of the plain record of lines. At a time no later than its own it gives what its lines give, since at an earlier time none of them counts;
 -- so merging plain records gives the plain record of all the lines, and order and repeats don't matter. Assumes nothing.
 use Prim.Native.Nat.{ℕ, ◌≤◌, ◌<◌, min}
-use mathlib.Core.Path.{◌≡◌, refl, sym, ap, ap₂, ◌∙◌}
+use mathlib.Core.Path.{◌≡◌, refl, sym, ap, ap₂, subst, ◌∙◌}
 use mathlib.Core.Bool.{Bool, true, false, ◌||◌, cond, or-false}
 use mathlib.Core.List.Memᴰ
 use mathlib.Core.List.{List, [], ◌∷◌, ◌++◌, append_assoc, Memᴰ}
@@ -143,7 +143,7 @@ module _ {A : Type 0} (join : A → A → A) (none : A) (J : Joining join none) 
     share l s time h = go (eqb time (earliest l s)) refl
       where
         go : (b : Bool) → eqb time (earliest l s) ≡ b → g time (plain l s) ≡ total join none (g time) (l ∷ s)
-        go true e = rw (eqb-true time (earliest l s) e) (made l s)
+        go true e = subst (λ (n : ℕ). g n (plain l s) ≡ total join none (g n) (l ∷ s)) (sym (eqb-true time (earliest l s) e)) (made l s)
         go false e =
             let k : time < earliest l s = omega (arith, eqb-false time (earliest l s) e) in
             late time (plain l s) (omega (arith, plain-time l s)) ∙ sym (total-none join none J (g time) (l ∷ s) (λ c i. late time c (omega (arith, earliest-le l s c i))))

@@ -1,0 +1,17 @@
+-- `argument_place` meets its contract. The invariant: the letters counted, and the place among those from i on, come to the place among all. Assumes nothing.
+use mathlib.Core.Path.{◌≡◌, sym, ◌∙◌}
+use Prim.Native.Nat.{◌+◌, ◌-◌, ◌≤◌}
+use native.Mathlib.Omega.{arith}
+use lib.ListN.{length}
+use borrow.Author.Rules.{rules}
+use borrow.Author.Tests.{not-true, not-false}
+use Rattle.sjoin.proofs.Parameters.{Place, place-past, place-skip, place-stop, place-go}
+use Rattle.sjoin.proofs.arguments.argument_place.Given as goal
+
+abbrev pub invariant-loop-i : goal.invariant-loop-i
+invariant-loop-i l =
+    (l.place ≤ l.i) × (l.place + Place l.modes l.letter l.i l.i ≡ Place l.modes l.letter 1 1)
+
+abbrev pub decreases-loop-i : goal.decreases-loop-i
+decreases-loop-i l =
+    length l.modes - l.i

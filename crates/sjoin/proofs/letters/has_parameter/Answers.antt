@@ -1,0 +1,12 @@
+-- `has_parameter` meets its contract: the letter is k or l. Assumes nothing.
+use borrow.Author.Tests.{eq-eqb, ne_eqb}
+use Rattle.sjoin.specs.Modes.{key_letter}
+use Rattle.sjoin.proofs.letters.has_parameter.Goals as goal
+
+pub returns-then-letter-eq107 : goal.returns-then-letter-eq107
+returns-then-letter-eq107 c =
+    rw (eq-eqb c.args.letter key_letter c.if-letter-eq107.true)
+
+pub returns : goal.returns
+returns c =
+    rw (ne_eqb c.args.letter key_letter c.if-letter-eq107.false)

@@ -1,0 +1,12 @@
+-- `register` meets its contract: the links are those that `with_link` answers. Assumes nothing.
+use mathlib.Core.Path.{ap, ◌∙◌}
+use borrow.Author.Rules.{rules}
+use Rattle.links.specs.declared.Links.{Links}
+use Rattle.table.specs.Network.{table_with}
+use Rattle.table.specs.Table.{relinked, registered_of}
+use Rattle.table.proofs.register.Goals as goal
+
+pub returns : goal.returns
+returns c =
+    let a = c.args in
+    c.relinked.ensures ∙ ap (λ (l : Links). registered_of (relinked (table_with a.t a.bans.now) a.link l)) c.with_link.ensures

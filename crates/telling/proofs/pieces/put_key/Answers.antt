@@ -1,0 +1,15 @@
+-- `put_key` meets its contract: the key is added exactly with its mode. Assumes nothing.
+use mathlib.Core.Path.{sym, ◌∙◌}
+use borrow.Author.Rules.{rules}
+use Rattle.octets.proofs.Room.{adds-nothing}
+use Rattle.telling.proofs.pieces.put_key.Goals as goal
+
+pub returns-then-has_mode : goal.returns-then-has_mode
+returns-then-has_mode c =
+    let keyed = c in
+    let test = c in
+    rw (sym test.has_mode.ensures ∙ test.if-has_mode.true) keyed.put_spaced.ensures
+
+pub returns : goal.returns
+returns c =
+    rw (sym c.has_mode.ensures ∙ c.if-has_mode.false) (adds-nothing _ _)

@@ -1,0 +1,9 @@
+-- `write` meets its contract: it is `write_cased`, the command as it is. Assumes nothing.
+use borrow.Author.Rules.{rules}
+use Rattle.writer.specs.Form.{with_command}
+use Rattle.writer.proofs.write.Goals as goal
+
+pub returns : goal.returns
+unfolding with_command
+returns c =
+    record { answer = c.write_cased.ensures.answer; output = c.write_cased.ensures.output }
