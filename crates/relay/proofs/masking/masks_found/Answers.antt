@@ -1,0 +1,15 @@
+-- `masks_found` meets its contract: each slot has its own judgement. Assumes nothing.
+use borrow.Author.Rules.{rules}
+use Rattle.relay.proofs.masking.masks_found.Goals as goal
+
+pub returns-in-Held : goal.returns-in-Held
+returns-in-Held c =
+    rw c.in-Held.is c.masks_held.ensures
+
+pub returns-in-Free : goal.returns-in-Free
+returns-in-Free c =
+    rw c.in-Free.is c.refusal.ensures
+
+pub returns-in-Full : goal.returns-in-Full
+returns-in-Full c =
+    rw c.in-Full.is c.refusal-in-Full.ensures
