@@ -200,14 +200,14 @@ after-masks = ap (λ (n : Network). masks (list_at n.bans 0)) network-is ∙ ap 
 one-mask : x ∷ [] ≡ [] → ⊥
 one-mask e = let n : length (x ∷ []) ≡ length {A = List ℕ} [] = ap (λ (l : List (List ℕ)). length l) e in omega (arith, n)
 
-has_word : has_word bmask (arrival 3 mask) ≡ true
-has_word = ap (λ (w : List ℕ). same w bmask) (in-capitals mask (49 ∷ 48 ∷ 48 ∷ 48 ∷ []) says.0 own.0) ∙ same_refl bmask
+has-bmask : has_word bmask (arrival 3 mask) ≡ true
+has-bmask = ap (λ (w : List ℕ). same w bmask) (in-capitals mask (49 ∷ 48 ∷ 48 ∷ 48 ∷ []) says.0 own.0) ∙ same_refl bmask
 
 -- A relay that never adds a mask doesn't meet demand 2.
 pub unmasking-fails : Demand2 unmasking → ⊥
 unmasking-fails d =
     let left : after ≡ before =
-    sym (d before (arrival 3 mask) room ruled-mask).table ∙ ap (λ (b : Bool). (cond b (unaltering before (arrival 3 mask) room) (ours before (arrival 3 mask) room)).0.table) has_word in
+    sym (d before (arrival 3 mask) room ruled-mask).table ∙ ap (λ (b : Bool). (cond b (unaltering before (arrival 3 mask) room) (ours before (arrival 3 mask) room)).0.table) has-bmask in
     one-mask (sym after-masks ∙ ap (λ (u : Table). masks (list_at u.bans 0)) left ∙ no-masks)
 
 -- ---- a relay that keeps the list
