@@ -1,9 +1,5 @@
 -- `take_piece` is safe and ends: every part has a byte, and none lies past the end. Assumes nothing.
-use Prim.Native.Nat.{◌-◌, ◌≤◌}
-use mathlib.Core.Path.{◌≡◌}
 use native.Mathlib.Omega.{arith}
-use lib.ListN.{length}
-use borrow.Author.Rules.{rules}
 use Rattle.console.proofs.Splitting.{first_some, first-in}
 use Rattle.console.proofs.take_piece.Goals as goal
 

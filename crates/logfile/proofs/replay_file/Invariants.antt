@@ -1,9 +1,6 @@
 -- `replay_file` meets its contract: what has been read at each turn is read after it, and so many reads take no place past 64 bits. Assumes nothing.
 use Prim.Native.Nat.{◌+◌, ◌*◌, ◌≤◌}
-use native.Mathlib.Omega.{arith}
-use borrow.Author.Rules.{rules}
 use Rattle.logfile.specs.Private.Progress.{room, ReadSoFar}
-use Rattle.logfile.proofs.Reading.{read_none, answers-none, answers-whole}
 use Rattle.logfile.proofs.replay_file.Given as goal
 
 abbrev pub invariant-loop-turns : goal.invariant-loop-turns

@@ -1,8 +1,6 @@
 -- `put_link` meets its contract: a comma and the digits are added one after the other, or nothing. Assumes nothing.
 use mathlib.Core.Path.{sym, ◌∙◌}
 use mathlib.Core.List.{[], ◌∷◌}
-use borrow.Author.Rules.{rules}
-use borrow.Author.Tests.{not-true, not-false}
 use Rattle.octets.specs.Bytes.{comma}
 use Rattle.octets.proofs.Room.{added, adds-nothing, adds_then}
 use Rattle.console.proofs.answers.put_link.Goals as goal

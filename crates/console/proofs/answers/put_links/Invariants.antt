@@ -1,14 +1,12 @@
 -- `put_links` meets its contract. The invariant: what was put, with the links that are left from here on, is the text of all. The measure: the links left. Assumes nothing.
 use Prim.Native.Nat.{◌-◌}
 use mathlib.Core.List.{map}
-use native.Mathlib.Omega.{arith}
-use borrow.Author.Rules.{rules}
 use Rattle.octets.specs.Bytes.{comma}
 use Rattle.laws.specs.Lists.{prefixed}
 use Rattle.octets.specs.Decimals.{digits_of}
-use Rattle.octets.proofs.Room.{Begun, begun, begun-step, begun-end}
+use Rattle.octets.proofs.Room.{Begun}
 use Rattle.links.specs.Links.{link_count, links_in}
-use Rattle.console.proofs.Answering.{prefixed_links, prefixed-links-step, prefixed-links-past}
+use Rattle.console.proofs.Answering.{prefixed_links}
 use Rattle.console.proofs.answers.put_links.Given as goal
 
 abbrev pub invariant-loop-link : goal.invariant-loop-link

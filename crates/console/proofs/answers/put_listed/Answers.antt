@@ -1,7 +1,6 @@
 -- `put_listed` meets its contract: links, SPACE and line are added one after the other, and have room. Assumes nothing.
 use mathlib.Core.List.{[], ◌∷◌}
 use native.Mathlib.Omega.{arith}
-use borrow.Author.Rules.{rules}
 use Rattle.octets.specs.Bytes.{space}
 use Rattle.octets.proofs.Room.{added-at-front, added, adds_then}
 use Rattle.console.specs.Answers.{relayed_text}

@@ -1,6 +1,5 @@
 -- `put_numbered` meets its contract: mark, number, place, words and LF are added one after the other. Assumes nothing.
 use mathlib.Core.List.{[], ◌∷◌}
-use borrow.Author.Rules.{rules}
 use Rattle.octets.specs.Bytes.{lf, space}
 use Rattle.octets.proofs.Room.{added, adds_then}
 use Rattle.console.specs.Answers.{numbered_text}

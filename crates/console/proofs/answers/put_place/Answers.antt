@@ -1,6 +1,5 @@
 -- `put_place` meets its contract: a SPACE and the digits are added one after the other, or nothing. Assumes nothing.
 use mathlib.Core.List.{[], ◌∷◌}
-use borrow.Author.Rules.{rules}
 use borrow.Author.Tests.{eq-eqb, ne_eqb}
 use Rattle.octets.specs.Bytes.{space}
 use Rattle.octets.proofs.Room.{added, adds-nothing, adds_then}

@@ -1,9 +1,7 @@
 -- `put_refused` meets its contract: number and place are added, and behind them the line where there is a place and words are asked for. Assumes nothing.
 use native.Mathlib.Omega.{arith}
-use borrow.Author.Tests.{not-true, not-false}
 use Rattle.octets.proofs.Room.{adds_then}
 use Rattle.console.proofs.Answering.{refused-plain, refused-wordless, refused-pointed, refused-few}
-use borrow.Author.Rules.{rules}
 use Rattle.console.proofs.answers.put_refused.Goals as goal
 
 pub returns-then-place-eq0 : goal.returns-then-place-eq0

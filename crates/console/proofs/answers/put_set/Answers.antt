@@ -1,6 +1,5 @@
 -- `put_set` meets its contract: a set without links is told by '-', any other by its links. Assumes nothing.
 use mathlib.Core.Path.{sym, ◌∙◌}
-use borrow.Author.Rules.{rules}
 use Rattle.octets.proofs.Room.{added}
 use Rattle.console.proofs.Answering.{set-none, set-some}
 use Rattle.console.proofs.answers.put_set.Goals as goal

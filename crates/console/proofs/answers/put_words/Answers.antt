@@ -1,10 +1,8 @@
 -- `put_words` meets its contract: a SPACE and the words are added one after the other, or nothing. Assumes nothing.
 use mathlib.Core.List.{[], ◌∷◌}
-use borrow.Author.Tests.{not-true, not-false}
 use Rattle.octets.specs.Bytes.{space}
 use Rattle.octets.proofs.Room.{added, adds-nothing, adds_then}
 use Rattle.console.proofs.Answering.{spaced-none, spaced-some}
-use borrow.Author.Rules.{rules}
 use Rattle.console.proofs.answers.put_words.Goals as goal
 
 pub returns-then-not-worded : goal.returns-then-not-worded

@@ -1,7 +1,6 @@
 -- `folder_len` is safe and ends: what is left of the path falls. Assumes nothing.
 use Prim.Native.Nat.{◌≤◌}
 use lib.ListN.{length}
-use borrow.Author.Rules.{rules}
 use Rattle.console.proofs.daylog.folder_len.Given as goal
 
 abbrev pub invariant-loop-n : goal.invariant-loop-n

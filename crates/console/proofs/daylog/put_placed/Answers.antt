@@ -2,7 +2,6 @@
 use Rattle.octets.proofs.Room.{added, adds_then}
 use Rattle.wording.specs.Wording.{bytes_of}
 use Rattle.console.specs.Daylog.{placed_text}
-use borrow.Author.Rules.{rules}
 use Rattle.console.proofs.daylog.put_placed.Goals as goal
 
 pub returns : goal.returns

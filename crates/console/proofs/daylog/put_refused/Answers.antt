@@ -4,7 +4,6 @@ use Rattle.octets.specs.Bytes.{lf}
 use Rattle.octets.proofs.Room.{added, adds_then}
 use Rattle.wording.specs.Wording.{bytes_of}
 use Rattle.console.specs.Daylog.{refused_line}
-use borrow.Author.Rules.{rules}
 use Rattle.console.proofs.daylog.put_refused.Goals as goal
 
 pub returns : goal.returns

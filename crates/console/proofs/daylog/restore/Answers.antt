@@ -1,6 +1,5 @@
 -- `restore` meets its contract: without a log the table is empty, with one it is what the log leaves. Assumes nothing.
 use Rattle.console.proofs.Restoring.{starts-new, starts-read}
-use borrow.Author.Rules.{rules}
 use Rattle.console.proofs.daylog.restore.Goals as goal
 
 pub returns-in_default : goal.returns-in_default

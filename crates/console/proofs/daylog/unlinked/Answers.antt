@@ -1,6 +1,5 @@
 -- `unlinked` meets its contract. Assumes nothing.
 use mathlib.Core.Path.{ap}
-use borrow.Author.Rules.{rules}
 use Rattle.links.specs.declared.Links.{Links}
 use Rattle.console.proofs.daylog.unlinked.Goals as goal
 

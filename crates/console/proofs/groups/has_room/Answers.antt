@@ -1,7 +1,6 @@
 -- `has_room` meets its contract. Assumes nothing.
 use Prim.Native.Nat.{◌+◌}
 use native.Mathlib.Omega.{arith}
-use borrow.Author.Rules.{rules}
 use borrow.Author.Tests.{le-leb, lt-leb}
 use Rattle.journal.specs.Reading.{record_limit}
 use Rattle.console.specs.Buffers.{answer_room, records_room, answers_room}

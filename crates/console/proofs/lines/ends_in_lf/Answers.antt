@@ -1,5 +1,4 @@
 -- `ends_in_lf` meets its contract: nothing ends no line, and else the last byte decides. Assumes nothing.
-use borrow.Author.Rules.{rules}
 use Rattle.console.proofs.Splitting.{ends-nothing}
 use Rattle.console.proofs.lines.ends_in_lf.Goals as goal
 

@@ -4,7 +4,6 @@ use mathlib.Core.Path.{◌≡◌, ap, ◌∙◌}
 use mathlib.Core.List.{List}
 use native.Mathlib.Omega.{arith}
 use lib.ListN.{length, drop, length-drop}
-use borrow.Author.Rules.{rules}
 use Rattle.octets.specs.Bytes.{lf}
 use Rattle.octets.specs.Search.{before}
 use Rattle.octets.proofs.Room.{part-back}

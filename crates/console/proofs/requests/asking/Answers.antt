@@ -1,5 +1,4 @@
 -- `asking` meets its contract: the tests are the definition's, of the bytes behind the word. Assumes nothing.
-use borrow.Author.Rules.{rules}
 use Rattle.console.proofs.Asking.{question-open, question-long, question-asks}
 use Rattle.console.proofs.requests.asking.Goals as goal
 

@@ -1,6 +1,5 @@
 -- `ended` meets its contract: each test decides one of the definition's. Assumes nothing.
 use mathlib.Core.Path.{◌∙◌}
-use borrow.Author.Rules.{rules}
 use Rattle.console.proofs.Asking.{ended-nothing, ended-open, ended-alone, ended-cr, ended-lf}
 use Rattle.console.proofs.requests.ended.Goals as goal
 

@@ -2,7 +2,6 @@
 use mathlib.Core.Path.{ap, ◌∙◌}
 use native.Mathlib.Omega.{arith}
 use lib.ListN.{length, take}
-use borrow.Author.Rules.{rules}
 use Rattle.octets.proofs.Room.{part-front, part-back}
 use Rattle.console.specs.Requests.{line_from}
 use Rattle.console.proofs.requests.line_from.Goals as goal

@@ -1,5 +1,4 @@
 -- `name_in` meets its contract: it is the part that the definition names. Assumes nothing.
-use borrow.Author.Rules.{rules}
 use Rattle.console.specs.Requests.{name_in}
 use Rattle.console.proofs.requests.name_in.Goals as goal
 

@@ -3,7 +3,6 @@ use mathlib.Core.Path.{◌≡◌, sym, ◌∙◌}
 use mathlib.Core.List.{[], ◌∷◌}
 use native.Mathlib.Omega.{arith}
 use lib.ListN.{length}
-use borrow.Author.Tests.{not-true, not-false}
 use Rattle.octets.specs.Bytes.{cr, lf}
 use Rattle.octets.proofs.Room.{added-at-front, added, adds_then}
 use Rattle.console.specs.Lines.{input_limit}

@@ -1,6 +1,5 @@
 -- `registering` meets its contract: the number that is read is that of the request. Assumes nothing.
 use mathlib.Core.Path.{sym, ◌∙◌}
-use borrow.Author.Rules.{rules}
 use Rattle.console.specs.declared.requests.Request.TheVariants.{Register}
 use Rattle.console.proofs.Asking.{asks-link, asks_none}
 use Rattle.console.proofs.requests.registering.Goals as goal

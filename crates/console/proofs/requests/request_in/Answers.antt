@@ -3,7 +3,6 @@ use Prim.Native.Nat.{ℕ}
 use mathlib.Core.Path.{ap, ◌∙◌}
 use mathlib.Core.Bool.{cond}
 use mathlib.Core.List.{List}
-use borrow.Author.Rules.{rules}
 use Rattle.laws.specs.Lists.{is_nil}
 use Rattle.console.specs.declared.requests.Request.TheVariants.{Register, Unregister, Channels, Unknown}
 use Rattle.console.specs.Requests.{ended, link_in, numbered}

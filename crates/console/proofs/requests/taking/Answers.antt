@@ -1,7 +1,6 @@
 -- `taking` meets its contract: the word found is what stands before the first SPACE; where a SPACE stands first, no number does. Assumes nothing.
 use mathlib.Core.Path.{sym, ap, ◌∙◌}
 use native.Mathlib.Omega.{arith}
-use borrow.Author.Rules.{rules}
 use Rattle.console.specs.Requests.{link_in}
 use Rattle.console.proofs.Asking.{end-in, asks-end, asks-take, asks-other}
 use Rattle.console.proofs.requests.taking.Goals as goal

@@ -2,7 +2,6 @@
 use mathlib.Core.Path.{ap, ◌∙◌}
 use native.Mathlib.Omega.{arith}
 use lib.ListN.{length}
-use borrow.Author.Rules.{rules}
 use Rattle.octets.proofs.Room.{part-back}
 use Rattle.console.specs.Requests.{ended, text_in}
 use Rattle.console.proofs.requests.text_in.Goals as goal

@@ -2,7 +2,6 @@
 use mathlib.Core.Path.{sym, ◌∙◌}
 use Rattle.octets.specs.declared.Order.TheVariants.{Less, Same, More}
 use Rattle.console.proofs.Typing.{typed_nothing, typed-asks}
-use borrow.Author.Rules.{rules}
 use Rattle.console.proofs.requests.typed_request.Goals as goal
 
 pub returns-then-text-eq0 : goal.returns-then-text-eq0

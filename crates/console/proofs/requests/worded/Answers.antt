@@ -1,6 +1,5 @@
 -- `worded` meets its contract: each order to `banned` is told as the definition tells it. Assumes nothing.
 use mathlib.Core.Path.{sym, ◌∙◌}
-use borrow.Author.Rules.{rules}
 use Rattle.octets.specs.declared.Order.TheVariants.{Less, Same, More}
 use Rattle.console.proofs.Asking.{worded-asks}
 use Rattle.console.proofs.requests.worded.Goals as goal

@@ -4,7 +4,6 @@ use Rattle.octets.specs.Bytes.{lf}
 use Rattle.octets.proofs.Room.{added, adds_then}
 use Rattle.console.specs.Showing.{caret}
 use Rattle.console.proofs.Pointing.{pointed-parts}
-use borrow.Author.Rules.{rules}
 use Rattle.console.proofs.showing.put_pointed.Goals as goal
 
 pub returns : goal.returns

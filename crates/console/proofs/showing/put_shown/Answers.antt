@@ -1,12 +1,6 @@
 -- `put_shown` meets its contract. The invariant: what was put, with the bytes that are left from here on, is all of them as they are shown. The measure: the bytes left.
 -- Assumes nothing.
-use Prim.Native.Nat.{◌-◌}
-use mathlib.Core.List.{map}
-use native.Mathlib.Omega.{arith}
-use lib.ListN.{length, drop}
-use borrow.Author.Rules.{rules}
-use Rattle.octets.proofs.Room.{Begun, added, begun, begun-step, begun-end}
-use Rattle.console.specs.Showing.{shown_byte}
+use Rattle.octets.proofs.Room.{added, begun, begun-step, begun-end}
 use Rattle.console.proofs.Pointing.{shown-step, shown-past}
 use Rattle.console.proofs.showing.put_shown.Goals as goal
 

@@ -2,12 +2,9 @@
 -- Assumes nothing.
 use Prim.Native.Nat.{◌-◌}
 use mathlib.Core.List.{map}
-use native.Mathlib.Omega.{arith}
 use lib.ListN.{length, drop}
-use borrow.Author.Rules.{rules}
-use Rattle.octets.proofs.Room.{Begun, added, begun, begun-step, begun-end}
+use Rattle.octets.proofs.Room.{Begun}
 use Rattle.console.specs.Showing.{shown_byte}
-use Rattle.console.proofs.Pointing.{shown-step, shown-past}
 use Rattle.console.proofs.showing.put_shown.Given as goal
 
 abbrev pub invariant-loop-i : goal.invariant-loop-i

@@ -1,9 +1,6 @@
 -- `put_spaces` meets its contract. The invariant: what was put, with the SPACEs that are left, is all of them. The measure: the SPACEs left. Assumes nothing.
 use native.Mathlib.Omega.{arith}
-use lib.ListN.{replicate}
-use borrow.Author.Rules.{rules}
-use Rattle.octets.specs.Bytes.{space}
-use Rattle.octets.proofs.Room.{Begun, added, begun, begun-step, begun-end}
+use Rattle.octets.proofs.Room.{added, begun, begun-step, begun-end}
 use Rattle.console.proofs.Pointing.{spaces-step, spaces-past}
 use Rattle.console.proofs.showing.put_spaces.Goals as goal
 

@@ -1,10 +1,7 @@
 -- `put_spaces` meets its contract. The invariant: what was put, with the SPACEs that are left, is all of them. The measure: the SPACEs left. Assumes nothing.
-use native.Mathlib.Omega.{arith}
 use lib.ListN.{replicate}
-use borrow.Author.Rules.{rules}
 use Rattle.octets.specs.Bytes.{space}
-use Rattle.octets.proofs.Room.{Begun, added, begun, begun-step, begun-end}
-use Rattle.console.proofs.Pointing.{spaces-step, spaces-past}
+use Rattle.octets.proofs.Room.{Begun}
 use Rattle.console.proofs.showing.put_spaces.Given as goal
 
 abbrev pub invariant-loop-left : goal.invariant-loop-left

@@ -1,6 +1,5 @@
 -- `put_day` meets its contract: the lines of the slots have room, and that of a refusal behind them. Assumes nothing.
 use native.Mathlib.Omega.{arith}
-use borrow.Author.Rules.{rules}
 use Rattle.table.specs.Network.{network_of, table_with}
 use Rattle.day.proofs.Printed.{day-at-front}
 use Rattle.day.proofs.printing.put_day.Goals as goal

@@ -1,7 +1,6 @@
 -- `put_refusal` meets its contract: nothing is added, or number, SPACE, place and LF one after the other. Assumes nothing.
 use mathlib.Core.List.{[], ◌∷◌}
 use borrow.Author.Tests.{eq-eqb, ne_eqb}
-use borrow.Author.Rules.{rules}
 use Rattle.refusal.specs.Numbers.{accepted}
 use Rattle.octets.specs.Bytes.{lf, space}
 use Rattle.octets.proofs.Room.{adds-nothing, added, adds_then}

@@ -1,6 +1,5 @@
 -- `place_in` meets its contract, by whether there is a number. Assumes nothing.
 use borrow.Author.Tests.{eq-eqb, ne_eqb}
-use borrow.Author.Rules.{rules}
 use Rattle.refusal.specs.Numbers.{accepted}
 use Rattle.logfile.proofs.progress.place_in.Goals as goal
 

@@ -1,6 +1,5 @@
 -- `Progress::begin` meets its contract: the table is that of an empty log, and nothing is left. Assumes nothing.
 use mathlib.Core.Path.{refl, ap₂}
-use borrow.Author.Rules.{rules}
 use Rattle.table.specs.Network.{table_with}
 use Rattle.logfile.proofs.Pieces.{begins}
 use Rattle.logfile.proofs.progress.Progress.begin.Goals as goal
