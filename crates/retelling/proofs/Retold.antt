@@ -1,10 +1,10 @@
 -- What a line told, told again under a name as long and at a time that is no later, reads as the message that it is and is never longer than the line, since it
 -- is a good message (`Writable`) and takes up no more room (`Shorter`). Assumes nothing.
-use Prim.Native.Nat.{ℕ, ◌-◌, ◌≤◌}
+use Prim.Native.Nat.{ℕ, ◌≤◌}
 use mathlib.Core.Path.{◌≡◌, sym, ap, ◌∙◌}
 use mathlib.Core.Bool.{true}
 use mathlib.Core.List.{List, [], map}
-use mathlib.Core.Option.{none, get_or}
+use mathlib.Core.Option.{get_or}
 use native.Mathlib.Omega.{arith}
 use lib.ListN.{length, length-map}
 use Rattle.refusal.specs.Numbers.{accepted}

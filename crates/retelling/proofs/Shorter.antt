@@ -1,6 +1,6 @@
 -- What is told of a channel that a line told of is no longer than the line's own message: every letter, argument and id stands in the line at least once, an id that
 -- the line names twice takes up the room of both entries there, and where entries are parted here they were parted there. Assumes nothing.
-use Prim.Native.Nat.{ℕ, suc, ◌+◌, ◌-◌, ◌≤◌}
+use Prim.Native.Nat.{ℕ, suc, ◌+◌, ◌≤◌}
 use mathlib.Core.Path.{◌≡◌, refl, sym, ap, ◌∙◌}
 use mathlib.Core.Bool.{Bool, true, false, not, cond, ◌&&◌, true≢false}
 use mathlib.Core.Logic.{inl, inr}

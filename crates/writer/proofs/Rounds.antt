@@ -19,7 +19,7 @@ use Rattle.laws.proofs.Lists.{at_all}
 use Rattle.octets.proofs.Bytes.{capitals-twice}
 use Rattle.message.specs.declared.Span.{Span}
 use Rattle.message.specs.declared.Message.{Message}
-use Rattle.message.specs.Grammar.{line_limit, param_limit, prefix, command, is_command, params}
+use Rattle.message.specs.Grammar.{line_limit, param_limit, command, is_command}
 use Rattle.message.specs.Content.{Content, content_in}
 use Rattle.message.specs.Parts.{empty_at, content_by}
 use Rattle.message.specs.Reading.{crlf, body_of, is_read, content_of, message_of}

@@ -1,6 +1,5 @@
 -- `clear` meets its contract: what is stored is the empty list. Assumes nothing.
 use mathlib.Core.Path.{ap, ◌∙◌}
-use borrow.Author.Rules.{rules}
 use Rattle.bans.specs.Slots.{stored}
 use Rattle.bans.proofs.clear.Goals as goal
 

@@ -1,6 +1,5 @@
 -- `count` meets its contract: a list has as many masks as are counted. Assumes nothing.
 use mathlib.Core.Path.{sym, ◌∙◌}
-use borrow.Author.Rules.{rules}
 use Rattle.bans.proofs.Places.{length-masks}
 use Rattle.bans.proofs.count.Goals as goal
 

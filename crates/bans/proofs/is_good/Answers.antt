@@ -1,7 +1,6 @@
 -- `is_good` meets its contract. Assumes nothing.
 use mathlib.Core.Path.{ap, ◌∙◌}
 use borrow.Author.Tests.{eq-eqb, ne_eqb}
-use borrow.Author.Rules.{rules}
 use Rattle.bans.specs.Limits.{list_size}
 use Rattle.bans.specs.WellFormed.{well_formed_list, is_unused, good_list}
 use Rattle.bans.proofs.is_good.Goals as goal

@@ -4,8 +4,7 @@ use mathlib.Core.Bool.{and-true}
 use Prim.Native.Nat.{ℕ, ◌+◌, ◌*◌}
 use native.Mathlib.Omega.{arith}
 use lib.ListN.{length, take, drop, get_or}
-use borrow.Author.Tests.{not-true, not-false, eq-eqb, ne_eqb, le-leb, lt-leb}
-use borrow.Author.Rules.{rules}
+use borrow.Author.Tests.{eq-eqb, ne_eqb, le-leb, lt-leb}
 use Rattle.laws.specs.Lists.{all}
 use Rattle.octets.specs.Bytes.{is_zero}
 use Rattle.ascending.specs.Ascending.{ascends}

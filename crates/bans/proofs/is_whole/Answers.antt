@@ -1,7 +1,5 @@
 -- `is_whole` meets its contract: the test of the record, then that of its list. Assumes nothing.
 use mathlib.Core.Path.{sym, ◌∙◌}
-use borrow.Author.Tests.{not-true, not-false}
-use borrow.Author.Rules.{rules}
 use Rattle.bans.specs.Records.{well_formed_whole}
 use Rattle.bans.proofs.is_whole.Goals as goal
 

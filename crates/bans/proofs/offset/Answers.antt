@@ -1,7 +1,6 @@
 -- `offset` meets its contract. Assumes nothing.
 use mathlib.Core.Path.{ap}
 use Prim.Native.Nat.{ℕ, ◌*◌}
-use borrow.Author.Rules.{rules}
 use Rattle.bans.specs.Limits.{list_size}
 use Rattle.bans.specs.Slots.{offset}
 use Rattle.bans.proofs.offset.Goals as goal

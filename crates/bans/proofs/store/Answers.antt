@@ -1,7 +1,6 @@
 -- `store` meets its contract. Assumes nothing.
 use mathlib.Core.Path.{ap, ◌∙◌}
 use Prim.Native.Nat.{ℕ}
-use borrow.Author.Rules.{rules}
 use Rattle.octets.specs.Room.{put_at}
 use Rattle.bans.specs.Slots.{stored}
 use Rattle.bans.proofs.store.Goals as goal

@@ -4,7 +4,6 @@ use mathlib.Core.Bool.{Bool, true, false, cond}
 use mathlib.Core.List.{List, ◌∷◌}
 use Prim.Native.Nat.{ℕ}
 use lib.ListN.{length}
-use borrow.Author.Rules.{rules}
 use Rattle.octets.specs.Room.{part}
 use Rattle.bans.specs.declared.BanList.{BanList}
 use Rattle.bans.specs.declared.Added.{Added}
@@ -12,7 +11,7 @@ use Rattle.bans.specs.Putting.{addition, put_answer, put_all, add_answer}
 use Rattle.message.specs.declared.Span.{Span}
 use Rattle.message.proofs.Splits.{words_from, left, left-none, left-some}
 use Rattle.bmask.specs.Masks.{listed}
-use Rattle.bmask.proofs.Listed.{Inside, inside-first, left-first, inside-next, left_step, left-fewer}
+use Rattle.bmask.proofs.Listed.{inside-first, left-first, inside-next, left_step, left-fewer}
 use Rattle.bmask.proofs.add_listed.Goals as goal
 
 all-step : (l : List (List ℕ)) (b : BanList) (m : List ℕ) (r : Added) → r ≡ put_answer m b → put_all (m ∷ l) b ≡ cond r.full (addition true b.room) (put_all l r.list)

@@ -1,5 +1,4 @@
 -- `is_ban` meets its contract: another length decides, and else the one byte. Assumes nothing.
-use borrow.Author.Rules.{rules}
 use mathlib.Core.Path.{sym}
 use lib.Dec.{eqb}
 use Rattle.laws.proofs.Lists.{same_by-differ}

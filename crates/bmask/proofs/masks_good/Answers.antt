@@ -3,13 +3,10 @@ use mathlib.Core.Path.{◌≡◌, sym, ap, ◌∙◌}
 use mathlib.Core.List.{List}
 use Prim.Native.Nat.{ℕ}
 use lib.ListN.{length}
-use borrow.Author.Rules.{rules}
-use borrow.Author.Tests.{not-true, not-false}
 use Rattle.octets.specs.Room.{part}
 use Rattle.bans.specs.Masks.{is_mask}
 use Rattle.message.specs.declared.Span.{Span}
-use Rattle.message.proofs.Splits.{left}
-use Rattle.bmask.proofs.Listed.{left-fewer, good_none, Before, before-first, before-good, before-odd, before-next}
+use Rattle.bmask.proofs.Listed.{left-fewer, good_none, before-first, before-good, before-odd, before-next}
 use Rattle.bmask.proofs.masks_good.Goals as goal
 
 pub returns-then-word-list : goal.returns-then-word-list

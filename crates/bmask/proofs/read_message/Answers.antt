@@ -1,5 +1,4 @@
 -- `read_message` meets its contract: a rule applies, or the time is the one that is told. Assumes nothing.
-use borrow.Author.Rules.{rules}
 use Rattle.bmask.proofs.Rules.{in-refused, in_taken}
 use Rattle.bmask.proofs.read_message.Goals as goal
 

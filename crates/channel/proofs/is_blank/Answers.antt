@@ -1,12 +1,10 @@
 -- `is_blank` meets its contract: each return is the first test that fails, after those that passed. The invariant: all places are vacant exactly if there are no
 -- bits so far and those from i on are. Assumes nothing.
-use mathlib.Core.Path.{◌≡◌, refl, sym, ◌∙◌}
-use mathlib.Core.Bool.{◌&&◌}
-use Prim.Native.Nat.{◌-◌}
+use mathlib.Core.Path.{◌≡◌, sym, ◌∙◌}
 use native.Mathlib.Omega.{arith}
 use lib.ListN.{length, drop}
 use borrow.Author.Rules.{rules}
-use borrow.Author.Tests.{eq-eqb, ne_eqb, not-true, not-false}
+use borrow.Author.Tests.{eq-eqb, ne_eqb}
 use Rattle.laws.specs.Lists.{all}
 use Rattle.laws.proofs.Lists.{unmapped}
 use Rattle.laws.proofs.Bitwise.{or_step, or-past}

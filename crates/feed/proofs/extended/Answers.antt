@@ -1,6 +1,5 @@
 -- `extended` meets its contract: what is put behind the bytes that are kept stands there padded. Assumes nothing.
 use mathlib.Core.Path.{◌∙◌}
-use borrow.Author.Rules.{rules}
 use Rattle.feed.proofs.Rooms.{put-behind-held}
 use Rattle.feed.proofs.extended.Goals as goal
 

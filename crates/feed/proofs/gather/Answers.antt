@@ -4,7 +4,6 @@ use mathlib.Core.List.{List, [], ◌++◌}
 use Prim.Native.Nat.{ℕ, ◌+◌, ◌-◌, ◌≤◌, ◌<◌, min}
 use native.Mathlib.Omega.{arith}
 use lib.ListN.{length, take, drop, length-append, length-drop, length-take}
-use borrow.Author.Rules.{rules}
 use Rattle.refusal.specs.Numbers.{accepted, line_too_long}
 use Rattle.octets.specs.Bytes.{lf}
 use Rattle.octets.specs.Search.{before}

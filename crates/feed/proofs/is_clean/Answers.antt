@@ -1,8 +1,6 @@
 -- `is_clean` meets its contract: the bytes in use are tested first, and then the others. Assumes nothing.
 use mathlib.Core.Path.{◌≡◌, sym, ap, ◌∙◌}
 use lib.ListN.{take}
-use borrow.Author.Rules.{rules}
-use borrow.Author.Tests.{not-true, not-false}
 use Rattle.octets.specs.Bytes.{is_non_lf}
 use Rattle.octets.proofs.Room.{part-front}
 use Rattle.laws.specs.Lists.{all}

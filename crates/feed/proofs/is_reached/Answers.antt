@@ -4,7 +4,6 @@ use mathlib.Core.Bool.{true}
 use Prim.Native.Nat.{◌≤◌}
 use lib.ListN.{length}
 use borrow.Author.Rules.{rules}
-use borrow.Author.Tests.{not-true, not-false}
 use Rattle.message.specs.Grammar.{line_limit}
 use Rattle.feed.specs.declared.Feeder.{Feeder}
 use Rattle.feed.specs.Private.Gathering.{is_clean}

@@ -1,5 +1,4 @@
 -- `back` meets its contract: each return is the test that led there. Assumes nothing.
-use borrow.Author.Rules.{rules}
 use borrow.Author.Tests.{eq-eqb, ne_eqb}
 use Rattle.glob.specs.Stepping.{back}
 use Rattle.glob.proofs.back.Goals as goal

@@ -3,7 +3,6 @@ use Prim.Native.Nat.{ℕ}
 use mathlib.Core.Path.{◌≡◌, sym, ◌∙◌}
 use native.Mathlib.Nat.{mul-le-mul}
 use native.Mathlib.Omega.{arith}
-use borrow.Author.Rules.{rules}
 use Rattle.glob.specs.declared.Progress.TheVariants.{On, Done}
 use Rattle.glob.specs.Mask.{matches}
 use Rattle.glob.proofs.Claim.{steps-enough}

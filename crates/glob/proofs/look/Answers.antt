@@ -1,6 +1,5 @@
 -- `look` meets its contract: each return is the test that led there. Assumes nothing.
 use mathlib.Core.Path.{sym}
-use borrow.Author.Rules.{rules}
 use Rattle.glob.proofs.Looks.{look-byte, look-end}
 use Rattle.glob.proofs.look.Goals as goal
 

@@ -1,5 +1,4 @@
 -- `mask_ended` meets its contract: each return is the tests that led there. Assumes nothing.
-use borrow.Author.Rules.{rules}
 use borrow.Author.Tests.{eq-eqb, ne_eqb}
 use Rattle.glob.specs.Stepping.{mask_ended}
 use Rattle.glob.proofs.mask_ended.Goals as goal

@@ -1,7 +1,6 @@
 -- `matches` meets its contract: it is refused exactly by the two tests. Assumes nothing.
 use lib.ListN.{length}
 use native.Mathlib.Omega.{arith}
-use borrow.Author.Rules.{rules}
 use borrow.Author.Tests.{lt-ltb, le-ltb}
 use Rattle.glob.specs.Mask.{text_limit}
 use Rattle.glob.proofs.Masks.{answers-long, answers-within}

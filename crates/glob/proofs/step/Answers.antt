@@ -1,6 +1,5 @@
 -- `step` meets its contract: each return is the tests that led there. Assumes nothing.
 use mathlib.Core.Path.{sym, ◌∙◌}
-use borrow.Author.Rules.{rules}
 use borrow.Author.Tests.{eq-eqb, ne_eqb}
 use Rattle.glob.specs.Stepping.{compared, step}
 use Rattle.glob.proofs.step.Goals as goal

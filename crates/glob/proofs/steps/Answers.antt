@@ -4,11 +4,10 @@ use Prim.Native.Nat.{ℕ}
 use mathlib.Core.Path.{◌≡◌, refl, sym, ◌∙◌}
 use mathlib.Core.List.{List}
 use native.Mathlib.Omega.{arith}
-use borrow.Author.Rules.{rules}
 use Rattle.glob.specs.declared.State.{State}
 use Rattle.glob.specs.declared.Progress.TheVariants.{On}
-use Rattle.glob.specs.Stepping.{start, step_in, steps}
-use Rattle.glob.proofs.Sound.{Sound, run_in, start-sound, step-leads}
+use Rattle.glob.specs.Stepping.{step_in}
+use Rattle.glob.proofs.Sound.{run_in, start-sound, step-leads}
 use Rattle.glob.proofs.Stepwise.{steps-none, steps_on, steps-done}
 use Rattle.glob.proofs.steps.Goals as goal
 

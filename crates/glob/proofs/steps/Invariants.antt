@@ -1,15 +1,8 @@
 -- `steps` meets its contract. The invariant: as many steps as are left come from the state to what all of them come to from the start; and the state is
 -- sound, so that its places lie in mask and text. Assumes nothing.
-use Prim.Native.Nat.{ℕ}
-use mathlib.Core.Path.{◌≡◌, refl, sym, ◌∙◌}
-use mathlib.Core.List.{List}
-use native.Mathlib.Omega.{arith}
-use borrow.Author.Rules.{rules}
-use Rattle.glob.specs.declared.State.{State}
-use Rattle.glob.specs.declared.Progress.TheVariants.{On}
-use Rattle.glob.specs.Stepping.{start, step_in, steps}
-use Rattle.glob.proofs.Sound.{Sound, run_in, start-sound, step-leads}
-use Rattle.glob.proofs.Stepwise.{steps-none, steps_on, steps-done}
+use mathlib.Core.Path.{◌≡◌}
+use Rattle.glob.specs.Stepping.{start, steps}
+use Rattle.glob.proofs.Sound.{Sound}
 use Rattle.glob.proofs.steps.Given as goal
 
 abbrev pub invariant-loop-left : goal.invariant-loop-left

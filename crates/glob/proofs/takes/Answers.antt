@@ -1,5 +1,4 @@
 -- `takes` meets its contract: '?' takes any byte, every other one those of its fold. Assumes nothing.
-use borrow.Author.Rules.{rules}
 use borrow.Author.Tests.{eq-eqb, ne_eqb}
 use Rattle.glob.specs.Mask.{matches_byte}
 use Rattle.glob.proofs.takes.Goals as goal

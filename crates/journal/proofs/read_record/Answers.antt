@@ -4,7 +4,6 @@ use mathlib.Core.Path.{◌≡◌, refl, sym, ap, ◌∙◌}
 use mathlib.Core.List.{List}
 use native.Mathlib.Omega.{arith}
 use lib.ListN.{length, drop, length-drop}
-use borrow.Author.Rules.{rules}
 use Rattle.octets.proofs.Room.{part-back}
 use Rattle.journal.specs.Journal.{head_length, link_in, length_in}
 use Rattle.refusal.specs.Faults.{first_fault}

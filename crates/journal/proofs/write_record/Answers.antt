@@ -1,6 +1,5 @@
 -- `write_record` meets its contract: each refusal is the first rule that applies, and head and line together are the record. Assumes nothing.
 use native.Mathlib.Omega.{arith}
-use borrow.Author.Rules.{rules}
 use Rattle.journal.specs.Journal.{head_of}
 use Rattle.journal.proofs.Records.{logs-no-link, logs-long, logs-no-room, logs}
 use Rattle.journal.proofs.write_record.Goals as goal

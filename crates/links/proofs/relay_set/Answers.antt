@@ -1,5 +1,4 @@
 -- `relay_set` meets its contract: the relay set is the set less the source. Assumes nothing.
-use borrow.Author.Rules.{rules}
 use Rattle.links.specs.Links.{relay_set}
 use Rattle.links.proofs.relay_set.Goals as goal
 

@@ -2,7 +2,6 @@
 use mathlib.Core.Path.{sym, ap, ◌∙◌}
 use Prim.Native.Nat.{ℕ}
 use lib.Bits.{bit_or}
-use borrow.Author.Rules.{rules}
 use Rattle.laws.proofs.Bitwise.{shifted_one}
 use Rattle.links.specs.Links.{link_count, links}
 use Rattle.links.proofs.Sets.{with-is, with_none}

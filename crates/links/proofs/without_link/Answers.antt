@@ -1,6 +1,5 @@
 -- `without_link` meets its contract: the links left are the set less the one dropped. Assumes nothing.
 use mathlib.Core.Path.{ap}
-use borrow.Author.Rules.{rules}
 use Rattle.links.specs.Links.{links, without_link}
 use Rattle.links.proofs.without_link.Goals as goal
 

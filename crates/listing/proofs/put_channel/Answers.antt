@@ -1,7 +1,6 @@
 -- `put_channel` meets its contract: what is told of the record, whose limit is the room for it, LF, the masks and LF are added one after the other. Assumes nothing.
 use mathlib.Core.List.{[], ◌∷◌}
 use native.Mathlib.Omega.{arith}
-use borrow.Author.Rules.{rules}
 use Rattle.octets.specs.Bytes.{lf}
 use Rattle.octets.proofs.Room.{added, adds_then}
 use Rattle.channel.specs.Record.{decode}

@@ -1,7 +1,6 @@
 -- `put_mask` meets its contract: a SPACE, unless the mask is the first, and the mask are added one after the other. Assumes nothing.
 use mathlib.Core.List.{[], ◌∷◌}
 use native.Mathlib.Omega.{arith}
-use borrow.Author.Rules.{rules}
 use borrow.Author.Tests.{lt-ltb, le-ltb}
 use Rattle.octets.specs.Bytes.{space}
 use Rattle.octets.proofs.Room.{added, adds_then}

@@ -1,17 +1,12 @@
 -- `put_masks` meets its contract. The invariant: what was put, with the masks that are left from here on, is the text of all. The measure: the masks left. Assumes nothing.
-use Prim.Native.Nat.{ℕ, ◌+◌, ◌-◌, ◌≤◌}
-use mathlib.Core.Path.{◌≡◌, sym, ap, ◌∙◌}
-use mathlib.Core.Bool.{cond}
-use mathlib.Core.List.{List, [], ◌∷◌, ◌++◌}
-use native.Mathlib.Omega.{arith}
+use Prim.Native.Nat.{◌-◌, ◌≤◌}
+use mathlib.Core.Path.{◌≡◌}
 use lib.ListN.{length}
-use lib.Dec.{ltb}
-use borrow.Author.Rules.{rules}
 use Rattle.octets.specs.Bytes.{space}
 use Rattle.laws.specs.Lists.{separated}
-use Rattle.octets.proofs.Room.{Begun, begun, begun-step, begun-end}
+use Rattle.octets.proofs.Room.{Begun}
 use Rattle.bans.specs.Masks.{masks}
-use Rattle.listing.proofs.Lines.{masks_from, masks-step, masks-past}
+use Rattle.listing.proofs.Lines.{masks_from}
 use Rattle.listing.proofs.put_masks.Given as goal
 
 abbrev pub invariant-loop-i : goal.invariant-loop-i

@@ -1,6 +1,5 @@
 -- `put_slot` meets its contract: a free slot adds nothing, a used one the lines of its channel. Assumes nothing.
 use native.Mathlib.Omega.{arith}
-use borrow.Author.Rules.{rules}
 use borrow.Author.Tests.{eq-eqb, ne_eqb}
 use Rattle.octets.proofs.Room.{adds-nothing}
 use Rattle.bans.specs.Records.{whole}

@@ -1,17 +1,11 @@
 -- `put_slots` meets its contract. The invariant: what was put, with the lines of the slots from k on, is all of them; and all are no longer than those, and as much as
 -- the slots before k may have. The measure: the slots left. Assumes nothing.
-use Prim.Native.Nat.{ℕ, ◌+◌, ◌-◌, ◌*◌, ◌≤◌, ◌<◌}
-use mathlib.Core.Path.{◌≡◌, ap}
-use mathlib.Core.List.{List}
-use native.Mathlib.Omega.{arith}
+use Prim.Native.Nat.{◌+◌, ◌-◌, ◌*◌, ◌≤◌}
 use lib.ListN.{length}
-use borrow.Author.Rules.{rules}
-use Rattle.laws.proofs.Lists.{unmapped}
-use Rattle.octets.proofs.Room.{Begun, begun, begun-step, begun-end}
+use Rattle.octets.proofs.Room.{Begun}
 use Rattle.channel.specs.Limits.{slot_count}
-use Rattle.listing.specs.Listing.{listing}
 use Rattle.listing.specs.Private.Slots.{slot_limit}
-use Rattle.listing.proofs.Lines.{lines_from, lines_step, lines-past, lines-few}
+use Rattle.listing.proofs.Lines.{lines_from}
 use Rattle.listing.proofs.put_slots.Given as goal
 
 abbrev pub invariant-loop-k : goal.invariant-loop-k

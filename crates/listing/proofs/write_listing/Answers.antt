@@ -4,7 +4,6 @@ use mathlib.Core.Path.{◌≡◌, refl, ap, ◌∙◌}
 use native.Mathlib.Omega.{arith}
 use Prim.Native.Nat.{◌≤◌}
 use lib.ListN.{length}
-use borrow.Author.Rules.{rules}
 use Rattle.refusal.specs.Numbers.{no_room}
 use Rattle.octets.specs.Room.{put_at}
 use Rattle.octets.proofs.Room.{part-front, put_front, added-end, added-front}

@@ -1,7 +1,6 @@
 -- `greater_key` meets its contract: the second key is handed back exactly where the first is smaller. Assumes nothing.
 use mathlib.Core.Path.{◌≡◌, sym, ap, ◌∙◌}
 use mathlib.Core.Bool.{Bool, true, false, cond}
-use borrow.Author.Rules.{rules}
 use Rattle.octets.specs.Order.{is_less}
 use Rattle.merging.proofs.greater_key.Goals as goal
 

@@ -1,8 +1,6 @@
 -- `merge` meets its contract: the refusals come in the order of the rules, and what is left needs no test. Assumes nothing.
 use mathlib.Core.Path.{◌≡◌, sym, ap₂, ◌∙◌}
 use mathlib.Core.Bool.{true, ◌&&◌}
-use borrow.Author.Rules.{rules}
-use borrow.Author.Tests.{not-true, not-false}
 use Rattle.octets.proofs.Room.{part-front}
 use Rattle.names.specs.Fold.{same_name}
 use Rattle.channel.specs.Record.{decode}

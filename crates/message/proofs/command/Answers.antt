@@ -1,6 +1,5 @@
 -- `command` meets its contract: the span that `parts` gives lies in the line and has the command's bytes there. Assumes nothing.
 use mathlib.Core.Path.{ap, ◌∙◌}
-use borrow.Author.Rules.{rules}
 use Rattle.message.specs.Content.{Content}
 use Rattle.message.specs.Parts.{content_by}
 use Rattle.message.proofs.SpanContents.{message-holds, command-start}

@@ -1,5 +1,4 @@
 -- `empty_prefix` meets its contract: both tests of the definition are made. Assumes nothing.
-use borrow.Author.Rules.{rules}
 use Rattle.message.proofs.empty_prefix.Goals as goal
 
 pub returns-then-m : goal.returns-then-m

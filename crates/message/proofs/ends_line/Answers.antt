@@ -1,5 +1,4 @@
 -- `ends_line` meets its contract: the tests are of the last two bytes. Assumes nothing.
-use borrow.Author.Rules.{rules}
 use borrow.Author.Tests.{eq-eqb, ne_eqb}
 use Rattle.message.proofs.Readings.{ends-short, ends_by}
 use Rattle.message.proofs.ends_line.Goals as goal

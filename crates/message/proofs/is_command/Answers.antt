@@ -4,7 +4,6 @@ use native.Mathlib.Omega.{arith}
 use lib.ListN.{length}
 use borrow.Author.Tests.{eq-eqb, ne_eqb, le-leb}
 use Rattle.message.specs.Grammar.{is_command}
-use borrow.Author.Rules.{rules}
 use Rattle.message.proofs.is_command.Goals as goal
 
 pub returns-then-n-eq0 : goal.returns-then-n-eq0

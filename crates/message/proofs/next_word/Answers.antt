@@ -1,5 +1,4 @@
 -- `next_word` meets its contract: past the SPACEs at the place stands the word, or nothing. Assumes nothing.
-use borrow.Author.Rules.{rules}
 use Prim.Native.Nat.{◌≤◌}
 use native.Mathlib.Omega.{arith}
 use lib.ListN.{length}

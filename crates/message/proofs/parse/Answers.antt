@@ -5,8 +5,6 @@ use mathlib.Core.List.{List}
 use Prim.Native.Nat.{ℕ, ◌≤◌}
 use native.Mathlib.Omega.{arith}
 use lib.ListN.{length}
-use borrow.Author.Rules.{rules}
-use borrow.Author.Tests.{not-true, not-false}
 use Rattle.refusal.specs.Numbers.{line_too_long, no_line_end, forbidden_byte, empty_line}
 use Rattle.message.specs.Grammar.{line_limit}
 use Rattle.message.specs.Reading.{ends_line, body_of}

@@ -5,8 +5,6 @@ use mathlib.Core.List.{List}
 use Prim.Native.Nat.{ℕ}
 use native.Mathlib.Omega.{arith}
 use lib.Dec.{eqb}
-use borrow.Author.Rules.{rules}
-use borrow.Author.Tests.{not-true, not-false}
 use Rattle.refusal.specs.Numbers.{empty_prefix, bad_command}
 use Rattle.message.specs.declared.Message.{Message}
 use Rattle.message.specs.Grammar.{command, is_command}

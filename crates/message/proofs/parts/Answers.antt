@@ -1,6 +1,5 @@
 -- `parts` meets its contract: it is a part of what `parse` gives. Assumes nothing.
 use mathlib.Core.Path.{ap}
-use borrow.Author.Rules.{rules}
 use Rattle.message.specs.declared.Parsed.{Parsed}
 use Rattle.message.proofs.parts.Goals as goal
 

@@ -2,7 +2,6 @@
 use mathlib.Core.Path.{ap, ◌∙◌}
 use mathlib.Core.List.{[]}
 use mathlib.Core.Option.{get_or}
-use borrow.Author.Rules.{rules}
 use Rattle.message.specs.Content.{Content}
 use Rattle.message.specs.Parts.{content_by}
 use Rattle.message.proofs.SpanContents.{message-holds, prefix-start}

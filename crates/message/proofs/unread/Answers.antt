@@ -1,6 +1,5 @@
 -- `unread` meets its contract: it is the refusal and no part. Assumes nothing.
 use mathlib.Core.Path.{ap}
-use borrow.Author.Rules.{rules}
 use Rattle.message.specs.declared.Message.{Message}
 use Rattle.message.specs.declared.Reading.TheVariants.{Refused}
 use Rattle.message.proofs.unread.Goals as goal

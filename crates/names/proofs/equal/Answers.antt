@@ -1,12 +1,9 @@
 -- `equal` meets its contract. The invariant: what follows the first i bytes of each is equal exactly if the whole names are.
 -- Assumes nothing.
-use mathlib.Core.Path.{◌≡◌, refl, sym, ◌∙◌}
-use Prim.Native.Nat.{◌-◌, ◌≤◌}
+use mathlib.Core.Path.{refl, sym, ◌∙◌}
 use native.Mathlib.Omega.{arith}
-use lib.ListN.{length, drop}
 use borrow.Author.Rules.{rules}
-use borrow.Author.Tests.{eqb-true, eqb-false, not-true, not-false}
-use Rattle.names.specs.Fold.{same_name}
+use borrow.Author.Tests.{eqb-true, eqb-false}
 use Rattle.names.proofs.Folds.{lengths_differ, name-past, name-stop, name-go}
 use Rattle.names.proofs.equal.Goals as goal
 

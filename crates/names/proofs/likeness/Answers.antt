@@ -1,6 +1,5 @@
 -- `likeness` meets its contract: below, above and inside the range. Assumes nothing.
 use native.Mathlib.Omega.{arith}
-use borrow.Author.Rules.{rules}
 use Rattle.octets.proofs.Bytes.{bounds-within, below-within, above_within}
 use Rattle.names.specs.Fold.{caret}
 use Rattle.names.specs.Private.Likeness.{likeness}

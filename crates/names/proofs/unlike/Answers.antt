@@ -1,7 +1,6 @@
 -- `unlike` meets its contract: bytes are alike exactly if they have the same likeness. Assumes nothing.
 use mathlib.Core.Path.{sym, ◌∙◌}
 use borrow.Author.Tests.{eq-eqb, ne_eqb}
-use borrow.Author.Rules.{rules}
 use Rattle.names.proofs.Folds.{alike-likeness}
 use Rattle.names.proofs.unlike.Goals as goal
 

@@ -4,7 +4,6 @@ use mathlib.Core.List.{List}
 use Prim.Native.Nat.{ℕ}
 use native.Mathlib.Omega.{arith}
 use lib.ListN.{length, take, length-take}
-use borrow.Author.Rules.{rules}
 use Rattle.laws.specs.Lists.{padded}
 use Rattle.laws.proofs.Lists.{padded-cut}
 use Rattle.octets.proofs.Room.{part-front, put-padded}

@@ -1,7 +1,6 @@
 -- `start` meets its contract: the empty table, with all links registered. Assumes nothing.
 use mathlib.Core.Path.{ap, ap₂}
 use mathlib.Core.List.{List}
-use borrow.Author.Rules.{rules}
 use Rattle.links.specs.declared.Links.{Links}
 use Rattle.channel.specs.declared.Record.{Record}
 use Rattle.table.specs.declared.Head.{Head}

@@ -1,5 +1,4 @@
 -- `stopped` meets its contract, by the tests that led to each answer. Assumes nothing.
-use borrow.Author.Rules.{rules}
 use borrow.Author.Tests.{eq-eqb, ne_eqb}
 use Rattle.replay.proofs.stopped.Goals as goal
 

@@ -1,8 +1,6 @@
 -- `head_number` meets its contract: each return is the first rule of time and name that applies, after the tests that led there. Assumes nothing.
 use mathlib.Core.Path.{◌≡◌, sym, ap, ◌∙◌}
 use mathlib.Core.Bool.{true}
-use borrow.Author.Rules.{rules}
-use borrow.Author.Tests.{not-true, not-false}
 use Rattle.octets.specs.declared.Decimal.TheVariants.{Value}
 use Rattle.octets.specs.Decimals.{value_of, decimal_up_to}
 use Rattle.names.specs.Names.{is_channel}

@@ -1,6 +1,5 @@
 -- `key_room` meets its contract: the bytes are put into room that is zero. Assumes nothing.
 use mathlib.Core.Path.{◌∙◌}
-use borrow.Author.Rules.{rules}
 use Rattle.channel.specs.Limits.{key_limit}
 use Rattle.octets.proofs.Room.{put-padded}
 use Rattle.sjoin.proofs.key_room.Goals as goal

@@ -1,7 +1,6 @@
 -- `lead_verdict` meets its contract: the number of time and name, which has no place, or that of the modes with its own. Assumes nothing.
 use mathlib.Core.Path.{refl, sym, ap, ◌∙◌}
 use Prim.Native.Nat.{ℕ}
-use borrow.Author.Rules.{rules}
 use Rattle.refusal.specs.Numbers.{is_mode_number}
 use Rattle.refusal.proofs.Rules.{first_plain}
 use Rattle.refusal.specs.Faults.{number_of}

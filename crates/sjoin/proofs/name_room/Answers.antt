@@ -1,6 +1,5 @@
 -- `name_room` meets its contract: the bytes are put into room that is zero. Assumes nothing.
 use mathlib.Core.Path.{◌∙◌}
-use borrow.Author.Rules.{rules}
 use Rattle.names.specs.Names.{name_limit}
 use Rattle.octets.proofs.Room.{put-padded}
 use Rattle.sjoin.proofs.name_room.Goals as goal

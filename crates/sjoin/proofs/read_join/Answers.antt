@@ -1,6 +1,5 @@
 -- `read_join` meets its contract: the reader refuses, or what the line's spans say is what it says. Assumes nothing.
 use mathlib.Core.Path.{sym, ap, ◌∙◌}
-use borrow.Author.Rules.{rules}
 use Rattle.message.specs.declared.Message.{Message}
 use Rattle.message.specs.declared.Parsed.{Parsed}
 use Rattle.message.proofs.Readings.{reading-line, reading-refused}

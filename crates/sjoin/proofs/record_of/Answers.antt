@@ -5,7 +5,6 @@ use mathlib.Core.List.{List}
 use Prim.Native.Nat.{ℕ}
 use native.Mathlib.Omega.{arith}
 use lib.ListN.{length}
-use borrow.Author.Rules.{rules}
 use Rattle.message.specs.Content.{Content}
 use Rattle.message.specs.Parts.{content_by}
 use Rattle.names.proofs.Channels.{channel-length}

@@ -1,5 +1,4 @@
 -- `refused` meets its contract: the number, and the empty record. Assumes nothing.
-use borrow.Author.Rules.{rules}
 use Rattle.sjoin.proofs.refused.Goals as goal
 
 pub returns : goal.returns

@@ -5,7 +5,6 @@ use Prim.Native.Nat.{min}
 use native.Mathlib.Omega.{arith}
 use lib.ListN.{length}
 use borrow.Author.Rules.{rules}
-use borrow.Author.Tests.{not-true, not-false}
 use Rattle.laws.proofs.Lists.{unmapped}
 use Rattle.names.specs.Names.{is_server_id}
 use Rattle.names.proofs.UserIds.{no-server-id}

@@ -1,6 +1,5 @@
 -- `time_of` meets its contract: a good time is read as its number, and no other text is read. Assumes nothing.
 use mathlib.Core.Path.{sym, ap, ◌∙◌}
-use borrow.Author.Rules.{rules}
 use Rattle.octets.specs.Decimals.{decimal_up_to}
 use Rattle.channel.specs.Limits.{time_limit}
 use Rattle.sjoin.proofs.Judged.{time-value, time-none, time-said, time-unsaid}

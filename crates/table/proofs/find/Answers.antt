@@ -3,12 +3,10 @@
 use mathlib.Core.Path.{◌≡◌, refl, sym, ap, ◌∙◌}
 use mathlib.Core.Bool.{Bool, true, false}
 use mathlib.Core.List.{List, []}
-use Prim.Native.Nat.{ℕ, ◌+◌, ◌-◌, ◌≤◌, ◌<◌}
+use Prim.Native.Nat.{ℕ, ◌+◌, ◌≤◌, ◌<◌}
 use native.Mathlib.Omega.{arith}
-use lib.ListN.{length, drop, get_or, length-map}
+use lib.ListN.{length, drop, get_or}
 use borrow.Author.Rules.{rules}
-use denote.Struct.Struct.{Struct}
-use denote.Struct.Declared.{shape}
 use Rattle.laws.proofs.Elements.{each_at}
 use Rattle.laws.proofs.Lists.{unmapped, get_d_any}
 use Rattle.names.specs.Fold.{same_name}

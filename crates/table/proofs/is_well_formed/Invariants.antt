@@ -1,18 +1,12 @@
 -- `is_well_formed` meets its contract. The invariants: all slots are good, each with its list, exactly if those from k on are; and, all being good, they are
 -- distinct exactly if what is left of the pairs is. Assumes nothing.
-use mathlib.Core.Path.{◌≡◌, refl, sym, ◌∙◌}
-use mathlib.Core.Bool.{true, ◌&&◌}
+use mathlib.Core.Path.{◌≡◌}
+use mathlib.Core.Bool.{true}
 use Prim.Native.Nat.{◌+◌, ◌-◌, ◌*◌, ◌≤◌, ◌<◌}
-use native.Mathlib.Omega.{arith}
-use lib.ListN.{length}
-use borrow.Author.Rules.{rules}
-use borrow.Author.Tests.{not-true, not-false}
-use Rattle.laws.proofs.Lists.{unmapped}
 use Rattle.channel.specs.Limits.{slot_count}
-use Rattle.table.specs.Network.{Table, table_with, network_of}
-use Rattle.table.specs.Table.{distinct, good_table}
-use Rattle.table.proofs.WellFormed.{all_from, record-stops, list-stops, slot-passes, slots-past, network-slots}
-use Rattle.table.proofs.Pairs.{left, distinct-past, row-begins, row_ends, row-free, pair-alike, pair-unlike}
+use Rattle.table.specs.Table.{distinct}
+use Rattle.table.proofs.WellFormed.{all_from}
+use Rattle.table.proofs.Pairs.{left}
 use Rattle.table.proofs.is_well_formed.Given as goal
 
 abbrev pub invariant-loop-k : goal.invariant-loop-k

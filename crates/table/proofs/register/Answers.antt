@@ -1,6 +1,5 @@
 -- `register` meets its contract: the links are those that `with_link` answers. Assumes nothing.
 use mathlib.Core.Path.{ap, ◌∙◌}
-use borrow.Author.Rules.{rules}
 use Rattle.links.specs.declared.Links.{Links}
 use Rattle.table.specs.Network.{table_with}
 use Rattle.table.specs.Table.{relinked, registered_of}

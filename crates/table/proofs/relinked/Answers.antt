@@ -1,7 +1,5 @@
 -- `relinked` meets its contract: each return is the first rule that applies, or none. Assumes nothing.
 use mathlib.Core.Path.{sym, ap, ◌∙◌}
-use borrow.Author.Rules.{rules}
-use borrow.Author.Tests.{not-true, not-false}
 use Rattle.table.specs.Table.{registered_of}
 use Rattle.table.proofs.Registering.{links-ill-formed, links-no-link, links-changed}
 use Rattle.table.proofs.relinked.Goals as goal

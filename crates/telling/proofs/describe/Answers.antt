@@ -3,10 +3,8 @@
 use Prim.Native.Nat.{suc, ◌≤◌}
 use mathlib.Core.Path.{◌≡◌, refl, ap, ◌∙◌}
 use native.Mathlib.Omega.{arith}
-use lib.ListN.{length, length-map, length-take}
+use lib.ListN.{length, length-take}
 use borrow.Author.Rules.{rules}
-use denote.Struct.Struct.{Struct}
-use denote.Struct.Declared.{shape}
 use Rattle.octets.specs.Room.{put_at}
 use Rattle.laws.proofs.Elements.{each_at}
 use Rattle.laws.proofs.Lists.{unmapped}

@@ -1,7 +1,6 @@
 -- `write_join` meets its contract: each refusal is the first rule that applies, and what is copied out is the written form. Assumes nothing.
 use mathlib.Core.Path.{refl}
 use native.Mathlib.Omega.{arith}
-use borrow.Author.Rules.{rules}
 use Rattle.refusal.specs.Numbers.{output_too_short, no_room}
 use Rattle.channel.specs.Record.{decode}
 use Rattle.writer.specs.Form.{written}

@@ -1,6 +1,5 @@
 -- `held` meets its contract: the words are put into room that is zero. Assumes nothing.
 use mathlib.Core.Path.{◌∙◌}
-use borrow.Author.Rules.{rules}
 use Rattle.octets.proofs.Room.{put-padded}
 use Rattle.wording.specs.Wording.{text_limit}
 use Rattle.wording.proofs.held.Goals as goal

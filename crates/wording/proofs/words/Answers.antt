@@ -1,7 +1,6 @@
 -- `words` meets its contract: each arm has the words of its number in the table, which are computed, and a number that is none of them passes all. Assumes nothing.
 use mathlib.Core.Path.{sym, ap, ◌∙◌}
 use borrow.Author.Tests.{ne_eqb}
-use borrow.Author.Rules.{rules}
 use Rattle.wording.specs.Wording.{bytes_of, table, words_in, text_of}
 use Rattle.wording.proofs.words.Goals as goal
 

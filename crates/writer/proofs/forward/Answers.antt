@@ -5,7 +5,6 @@ use mathlib.Core.List.{List}
 use Prim.Native.Nat.{ℕ, ◌≤◌}
 use native.Mathlib.Omega.{arith}
 use lib.ListN.{length}
-use borrow.Author.Rules.{rules}
 use Rattle.refusal.specs.Numbers.{output_too_short}
 use Rattle.message.specs.declared.Parsed.{Parsed}
 use Rattle.message.specs.Grammar.{line_limit}

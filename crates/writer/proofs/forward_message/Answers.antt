@@ -1,5 +1,4 @@
 -- `forward_message` meets its contract: it is `write_cased`, the command in capitals. Assumes nothing.
-use borrow.Author.Rules.{rules}
 use Rattle.writer.specs.Form.{with_command}
 use Rattle.writer.proofs.forward_message.Goals as goal
 

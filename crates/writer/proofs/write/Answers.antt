@@ -1,5 +1,4 @@
 -- `write` meets its contract: it is `write_cased`, the command as it is. Assumes nothing.
-use borrow.Author.Rules.{rules}
 use Rattle.writer.specs.Form.{with_command}
 use Rattle.writer.proofs.write.Goals as goal
 

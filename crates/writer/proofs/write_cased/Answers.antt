@@ -5,8 +5,6 @@ use mathlib.Core.List.{List}
 use Prim.Native.Nat.{ℕ, ◌≤◌}
 use native.Mathlib.Omega.{arith}
 use lib.ListN.{length, replicate}
-use borrow.Author.Rules.{rules}
-use borrow.Author.Tests.{not-true, not-false}
 use Rattle.refusal.specs.Numbers.{output_too_short, unwritable, no_room}
 use Rattle.octets.specs.Private.Additions.{Adds}
 use Rattle.message.specs.declared.Message.{Message}

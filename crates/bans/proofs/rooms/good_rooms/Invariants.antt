@@ -1,17 +1,10 @@
 -- `good_rooms` meets its contract. The invariant: the first n are good exactly if those from i on are. Assumes nothing.
-use mathlib.Core.Path.{◌≡◌, refl, sym, ap, ◌∙◌}
-use mathlib.Core.Bool.{Bool, ◌&&◌}
-use mathlib.Core.List.{List}
-use Prim.Native.Nat.{ℕ, ◌-◌, ◌+◌, ◌≤◌}
-use native.Mathlib.Omega.{arith}
+use mathlib.Core.Path.{◌≡◌}
+use Prim.Native.Nat.{◌-◌, ◌≤◌}
 use lib.ListN.{take, drop}
-use borrow.Author.Tests.{not-true, not-false}
-use borrow.Author.Rules.{rules}
 use Rattle.laws.specs.Lists.{all}
-use Rattle.laws.proofs.Lists.{all_past}
 use Rattle.bans.specs.Masks.{rooms}
 use Rattle.bans.specs.WellFormed.{good_room}
-use Rattle.bans.proofs.Places.{all-front, length_front}
 use Rattle.bans.proofs.rooms.good_rooms.Given as goal
 
 abbrev pub invariant-loop-i : goal.invariant-loop-i

@@ -1,7 +1,6 @@
 -- `mask_count` meets its contract. Assumes nothing.
 use mathlib.Core.Path.{ap, ◌∙◌}
 use Prim.Native.Nat.{ℕ, min}
-use borrow.Author.Rules.{rules}
 use Rattle.channel.specs.Limits.{ban_limit}
 use Rattle.bans.specs.Masks.{mask_count}
 use Rattle.bans.proofs.Places.{count_none}

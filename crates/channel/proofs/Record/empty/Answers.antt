@@ -2,7 +2,6 @@
 use mathlib.Core.Path.{◌≡◌, refl, sym}
 use mathlib.Core.List.{List, []}
 use lib.ListN.{replicate}
-use borrow.Author.Rules.{rules}
 use Rattle.names.specs.Names.{name_limit}
 use Rattle.laws.specs.Lists.{padded}
 use Rattle.laws.proofs.Lists.{padded-none}

@@ -1,8 +1,7 @@
 -- `has_member` meets its contract. The invariant: one of the members from i on has the id exactly if one of all has it. Assumes nothing.
 use mathlib.Core.Path.{◌≡◌, refl, sym, ap, ◌∙◌}
-use Prim.Native.Nat.{◌-◌, ◌≤◌}
 use native.Mathlib.Omega.{arith}
-use lib.ListN.{length, take, drop, length-take}
+use lib.ListN.{length, take, length-take}
 use lib.Seq.{get_or-take}
 use borrow.Author.Rules.{rules}
 use Rattle.laws.specs.Lists.{same}

@@ -1,18 +1,8 @@
 -- `has_member` meets its contract. The invariant: one of the members from i on has the id exactly if one of all has it. Assumes nothing.
-use mathlib.Core.Path.{◌≡◌, refl, sym, ap, ◌∙◌}
+use mathlib.Core.Path.{◌≡◌}
 use Prim.Native.Nat.{◌-◌, ◌≤◌}
-use native.Mathlib.Omega.{arith}
-use lib.ListN.{length, take, drop, length-take}
-use lib.Seq.{get_or-take}
-use borrow.Author.Rules.{rules}
-use Rattle.laws.specs.Lists.{same}
-use Rattle.laws.proofs.Lists.{unmapped, take_within}
-use Rattle.channel.specs.declared.Member.{Member}
-use Rattle.channel.specs.declared.Record.{Record}
-use Rattle.channel.specs.Limits.{member_limit}
+use lib.ListN.{take, drop}
 use Rattle.channel.specs.Members.{has_member}
-use Rattle.channel.specs.Record.{decode}
-use Rattle.channel.proofs.Others.{has-stop, has-go, has-past}
 use Rattle.channel.proofs.members.has_member.Given as goal
 
 abbrev pub invariant-loop-i : goal.invariant-loop-i

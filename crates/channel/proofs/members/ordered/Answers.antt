@@ -2,7 +2,7 @@
 -- Assumes nothing.
 use mathlib.Core.Path.{◌≡◌, sym, ap, ◌∙◌}
 use mathlib.Core.List.{List}
-use Prim.Native.Nat.{◌+◌, ◌-◌, ◌≤◌, ◌<◌}
+use Prim.Native.Nat.{◌+◌, ◌≤◌, ◌<◌}
 use native.Mathlib.Omega.{arith}
 use lib.ListN.{length}
 use borrow.Author.Rules.{rules}
@@ -11,7 +11,7 @@ use Rattle.channel.specs.declared.Member.{Member}
 use Rattle.channel.specs.Limits.{member_limit}
 use Rattle.channel.specs.Members.{roster, ordered}
 use Rattle.channel.proofs.Gathering.{gathers-roster}
-use Rattle.channel.proofs.Ordering.{Inserted, inserted-none, inserted-sorted, inserted-last, inserted-count, inserted-put}
+use Rattle.channel.proofs.Ordering.{inserted-none, inserted-sorted, inserted-last, inserted-count, inserted-put}
 use Rattle.channel.proofs.members.ordered.Goals as goal
 
 pub loop-i-init : goal.loop-i-init

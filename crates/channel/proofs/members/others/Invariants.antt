@@ -1,17 +1,8 @@
 -- `others` meets its contract. The invariant: the list gathers those of the first i that stay. Assumes nothing.
-use mathlib.Core.Path.{◌≡◌, refl, sym, ap, ◌∙◌}
-use mathlib.Core.List.{List}
 use Prim.Native.Nat.{◌-◌, ◌≤◌}
-use native.Mathlib.Omega.{arith}
-use lib.ListN.{length, take}
-use borrow.Author.Rules.{rules}
-use Rattle.laws.proofs.Lists.{unmapped, take_within}
-use Rattle.channel.specs.declared.Member.{Member}
-use Rattle.channel.specs.Limits.{member_limit}
-use Rattle.channel.specs.Members.{roster, others}
-use Rattle.channel.specs.Record.{decode}
-use Rattle.channel.proofs.Gathering.{Gathers, gathers-more, gathers-roster}
-use Rattle.channel.proofs.Others.{others-gone, others-stay}
+use lib.ListN.{take}
+use Rattle.channel.specs.Members.{others}
+use Rattle.channel.proofs.Gathering.{Gathers}
 use Rattle.channel.proofs.members.others.Given as goal
 
 abbrev pub invariant-loop-i : goal.invariant-loop-i

@@ -1,7 +1,6 @@
 -- `vacant` meets its contract: nothing padded is all padding. Assumes nothing.
 use mathlib.Core.Path.{ap}
 use lib.ListN.{replicate}
-use borrow.Author.Rules.{rules}
 use Rattle.laws.specs.Lists.{padded}
 use Rattle.channel.specs.declared.Member.{Member}
 use Rattle.channel.specs.Limits.{member_limit}

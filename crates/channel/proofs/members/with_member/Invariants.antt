@@ -1,14 +1,9 @@
 -- `with_member` meets its contract. The invariant: those from p on are greater, and moved up by one, and those before p are as they were. Assumes nothing.
-use mathlib.Core.Path.{sym, ◌∙◌}
-use mathlib.Core.Logic.{⊎_elim}
 use Prim.Native.Nat.{◌≤◌}
-use native.Mathlib.Omega.{arith}
 use lib.ListN.{take, drop}
-use borrow.Author.Rules.{rules}
-use borrow.Author.Tests.{not-true, not-false}
 use Rattle.ascending.proofs.Ascends.{Above}
 use Rattle.channel.specs.Channel.{by_id}
-use Rattle.channel.proofs.Placing.{Shifted, nothing-moved, moved_on, put_first, put-behind, put-equal}
+use Rattle.channel.proofs.Placing.{Shifted}
 use Rattle.channel.proofs.members.with_member.Given as goal
 
 abbrev pub invariant-loop-p : goal.invariant-loop-p

@@ -1,6 +1,5 @@
 -- `without` meets its contract: the roster of those that stay tells whether anyone is left. Assumes nothing.
 use mathlib.Core.Path.{sym, ◌∙◌}
-use borrow.Author.Rules.{rules}
 use Rattle.channel.proofs.Others.{without_all, without-some}
 use Rattle.channel.proofs.members.without.Goals as goal
 

@@ -4,8 +4,7 @@ use mathlib.Core.Bool.{Bool, false, not, ◌&&◌, beq, and-true}
 use mathlib.Core.List.{List}
 use Prim.Native.Nat.{ℕ}
 use lib.ListN.{length}
-use borrow.Author.Rules.{rules}
-use borrow.Author.Tests.{eq-eqb, ne_eqb, not-true, not-false}
+use borrow.Author.Tests.{eq-eqb, ne_eqb}
 use Rattle.laws.proofs.Lists.{nil-length}
 use Rattle.channel.specs.Modes.{has_mode, key_mode}
 use Rattle.channel.specs.Key.{is_key}

@@ -1,7 +1,5 @@
 -- `good_member` meets its contract: each return is the tests that led there. Assumes nothing.
 use mathlib.Core.Path.{sym, ◌∙◌}
-use borrow.Author.Rules.{rules}
-use borrow.Author.Tests.{not-true, not-false}
 use Rattle.channel.specs.WellFormed.{good_member}
 use Rattle.channel.proofs.well.good_member.Goals as goal
 

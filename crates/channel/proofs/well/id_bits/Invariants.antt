@@ -1,11 +1,9 @@
 -- `id_bits` meets its contract. The invariant: all bytes are zero exactly if there are no bits so far and the bytes from i on are. Assumes nothing.
-use mathlib.Core.Path.{◌≡◌, refl, sym, ◌∙◌}
+use mathlib.Core.Path.{◌≡◌}
 use mathlib.Core.Bool.{◌&&◌}
 use Prim.Native.Nat.{◌-◌}
 use lib.ListN.{drop}
-use borrow.Author.Rules.{rules}
 use Rattle.laws.specs.Lists.{all}
-use Rattle.laws.proofs.Bitwise.{or_step, or-past}
 use Rattle.octets.specs.Bytes.{is_zero}
 use Rattle.names.specs.Names.{user_id_length}
 use Rattle.channel.proofs.well.id_bits.Given as goal

@@ -1,7 +1,6 @@
 -- `member_bits` meets its contract: an id's bits and a status's are none exactly if both are zero. Assumes nothing.
 use mathlib.Core.Path.{ap, ◌∙◌}
 use mathlib.Core.Bool.{Bool, ◌&&◌}
-use borrow.Author.Rules.{rules}
 use Rattle.laws.proofs.Bitwise.{or-zero}
 use Rattle.octets.specs.Bytes.{is_zero}
 use Rattle.channel.proofs.well.member_bits.Goals as goal

@@ -1,7 +1,5 @@
 -- `precedes` meets its contract: its tests are the definition's. Assumes nothing.
 use mathlib.Core.Path.{sym, ◌∙◌}
-use borrow.Author.Rules.{rules}
-use borrow.Author.Tests.{not-true, not-false}
 use Rattle.channel.proofs.well.precedes.Goals as goal
 
 pub returns-then-not-good_member : goal.returns-then-not-good_member

@@ -2,7 +2,6 @@
 use mathlib.Core.Path.{sym}
 use native.Mathlib.Omega.{arith}
 use lib.ListN.{get_or-eq_default}
-use borrow.Author.Rules.{rules}
 use Rattle.journal.proofs.faults.byte_at.Goals as goal
 
 pub returns-then-s-k : goal.returns-then-s-k

@@ -4,7 +4,6 @@ use mathlib.Core.Path.{sym, ◌∙◌}
 use native.Mathlib.Omega.{arith}
 use lib.ListN.{length}
 use borrow.Author.Tests.{lt-ltb, le-ltb}
-use borrow.Author.Rules.{rules}
 use Rattle.journal.specs.Journal.{head_length, length_in}
 use Rattle.refusal.specs.Faults.{first_fault}
 use Rattle.journal.specs.Reading.{checks_of}

@@ -2,7 +2,6 @@
 use native.Mathlib.Omega.{arith}
 use lib.ListN.{length}
 use borrow.Author.Tests.{lt-ltb, le-ltb}
-use borrow.Author.Rules.{rules}
 use Rattle.journal.proofs.faults.is_length_over.Goals as goal
 
 pub returns-then-s-le4 : goal.returns-then-s-le4

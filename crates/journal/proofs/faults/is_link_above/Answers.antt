@@ -6,7 +6,6 @@ use native.Mathlib.Omega.{arith}
 use lib.ListN.{length}
 use lib.Dec.{leb, ltb}
 use borrow.Author.Tests.{lt-ltb, le-ltb, le-leb, lt-leb, ltb-true, ltb-false}
-use borrow.Author.Rules.{rules}
 use Rattle.journal.proofs.faults.is_link_above.Goals as goal
 
 -- a number that isn't less

@@ -2,7 +2,6 @@
 use native.Mathlib.Omega.{arith}
 use lib.ListN.{length}
 use borrow.Author.Tests.{lt-ltb, le-ltb}
-use borrow.Author.Rules.{rules}
 use Rattle.journal.proofs.faults.is_other.Goals as goal
 
 pub returns-then-s-k : goal.returns-then-s-k

@@ -1,5 +1,4 @@
 -- `merged_list` meets its contract: the tests of the two times are those of the definition. Assumes nothing.
-use borrow.Author.Rules.{rules}
 use borrow.Author.Tests.{eq-eqb, ne_eqb, lt-ltb, le-ltb}
 use Rattle.merging.specs.Private.Answers.{merged_lists}
 use Rattle.merging.proofs.lists.merged_list.Goals as goal

@@ -1,6 +1,5 @@
 -- `next_of` meets its contract: each arm is a case of the comparison. Assumes nothing.
 use mathlib.Core.Path.{sym, ◌∙◌}
-use borrow.Author.Rules.{rules}
 use Rattle.merging.specs.Private.Uniting.{next_from}
 use Rattle.merging.proofs.uniting.next_of.Goals as goal
 

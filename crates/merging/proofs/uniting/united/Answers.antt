@@ -1,17 +1,12 @@
 -- `united` meets its contract. The invariant: what the list has, with the pass over those from i and j on, comes to the whole pass.
 -- Assumes nothing.
 use mathlib.Core.Path.{refl}
-use mathlib.Core.Logic.{⊎_elim}
-use Prim.Native.Nat.{◌-◌, ◌+◌, ◌≤◌, ◌<◌}
+use Prim.Native.Nat.{◌+◌, ◌≤◌, ◌<◌}
 use native.Mathlib.Omega.{arith}
-use lib.ListN.{length, drop}
+use lib.ListN.{length}
 use borrow.Author.Rules.{rules}
-use borrow.Author.Tests.{ltb-true, ltb-false}
-use Rattle.ascending.specs.Ascending.{one_pass}
-use Rattle.channel.specs.Limits.{member_limit}
-use Rattle.channel.specs.Channel.{by_id}
 use Rattle.channel.specs.Record.{nobody}
-use Rattle.merging.proofs.OnePass.{Begun, begun-none, begun-packs, begun-step, begun-over, begun-rest, side, both_left, first-left, second-left, next-some}
+use Rattle.merging.proofs.OnePass.{begun-none, begun-packs, begun-step, begun-over, begun-rest, both_left, first-left, second-left, next-some}
 use Rattle.merging.proofs.uniting.united.Goals as goal
 use Rattle.merging.proofs.uniting.united.Goals.{then-loop-i-test+else-j-n, else-loop-i-test}
 

@@ -1,17 +1,11 @@
 -- `united` meets its contract. The invariant: what the list has, with the pass over those from i and j on, comes to the whole pass.
 -- Assumes nothing.
-use mathlib.Core.Path.{refl}
-use mathlib.Core.Logic.{⊎_elim}
-use Prim.Native.Nat.{◌-◌, ◌+◌, ◌≤◌, ◌<◌}
-use native.Mathlib.Omega.{arith}
-use lib.ListN.{length, drop}
-use borrow.Author.Rules.{rules}
-use borrow.Author.Tests.{ltb-true, ltb-false}
+use Prim.Native.Nat.{◌-◌, ◌+◌, ◌≤◌}
+use lib.ListN.{drop}
 use Rattle.ascending.specs.Ascending.{one_pass}
 use Rattle.channel.specs.Limits.{member_limit}
 use Rattle.channel.specs.Channel.{by_id}
-use Rattle.channel.specs.Record.{nobody}
-use Rattle.merging.proofs.OnePass.{Begun, begun-none, begun-packs, begun-step, begun-over, begun-rest, side, both_left, first-left, second-left, next-some}
+use Rattle.merging.proofs.OnePass.{Begun, side}
 use Rattle.merging.proofs.uniting.united.Given as goal
 
 abbrev pub invariant-loop-i : goal.invariant-loop-i

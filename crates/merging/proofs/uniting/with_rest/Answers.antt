@@ -1,15 +1,14 @@
 -- `with_rest` meets its contract. The invariant: what the list has, with those from j on, comes to the whole. Assumes nothing.
 use mathlib.Core.Path.{sym, ap, ◌∙◌}
-use mathlib.Core.List.{◌∷◌, ◌++◌, map}
-use Prim.Native.Nat.{◌-◌, ◌+◌, ◌≤◌}
+use mathlib.Core.List.{◌∷◌, map}
+use Prim.Native.Nat.{◌+◌, ◌≤◌}
 use native.Mathlib.Omega.{arith}
 use lib.ListN.{length, take, drop}
 use borrow.Author.Rules.{rules}
 use Rattle.channel.specs.declared.Member.{Member}
-use Rattle.channel.specs.Limits.{member_limit}
 use Rattle.channel.specs.Record.{nobody}
 use Rattle.merging.specs.Private.Uniting.{as_given}
-use Rattle.merging.proofs.OnePass.{Begun, begun-packed, begun-step, begun-end, begun-over, side-step, side-past}
+use Rattle.merging.proofs.OnePass.{begun-packed, begun-step, begun-end, begun-over, side-step, side-past}
 use Rattle.merging.proofs.uniting.with_rest.Goals as goal
 
 pub loop-j-init : goal.loop-j-init

@@ -1,5 +1,4 @@
 -- `blank` meets its contract: a message opened with no part. Assumes nothing.
-use borrow.Author.Rules.{rules}
 use Rattle.message.specs.Parts.{blank}
 use Rattle.message.specs.Private.Scan.{opened}
 use Rattle.message.proofs.scan.blank.Goals as goal

@@ -2,11 +2,9 @@
 use mathlib.Core.Path.{ap}
 use native.Mathlib.Omega.{arith}
 use Rattle.message.specs.declared.Message.{Message}
-use Rattle.message.specs.Grammar.{rest}
 use Rattle.message.specs.Private.Scan.{opened}
 use Rattle.message.proofs.Runs.{stop-in}
 use Rattle.message.proofs.Gathered.{found-command}
-use borrow.Author.Rules.{rules}
 use Rattle.message.proofs.scan.from_command.Goals as goal
 
 pub rest-requires : goal.rest-requires

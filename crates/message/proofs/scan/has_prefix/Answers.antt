@@ -8,7 +8,6 @@ use lib.Dec.{eqb}
 use lib.ListN.{length, get_or}
 use Rattle.laws.specs.Lists.{starts_with}
 use Rattle.message.specs.Grammar.{has_prefix}
-use borrow.Author.Rules.{rules}
 use Rattle.message.proofs.scan.has_prefix.Goals as goal
 
 bare : (s : List ℕ) → length s ≡ 0 → false ≡ has_prefix s

@@ -4,7 +4,6 @@ use mathlib.Core.Bool.{true}
 use mathlib.Core.List.{List}
 use Prim.Native.Nat.{ℕ, ◌≤◌}
 use lib.ListN.{length}
-use borrow.Author.Rules.{rules}
 use Rattle.message.specs.Grammar.{has_prefix}
 use Rattle.message.proofs.Runs.{start-in, stop-in}
 use Rattle.message.proofs.Places.{prefix-long}

@@ -1,11 +1,8 @@
 -- `spaces_end` meets its contract. The invariant: what is left of the SPACEs from i on ends where they do. Assumes nothing.
 use mathlib.Core.Path.{◌≡◌}
 use Prim.Native.Nat.{◌+◌, ◌-◌, ◌≤◌}
-use native.Mathlib.Omega.{arith}
 use lib.ListN.{length, drop}
-use borrow.Author.Rules.{rules}
 use Rattle.message.specs.Grammar.{spaces}
-use Rattle.message.proofs.Runs.{spaces-past, spaces-stop, spaces-go}
 use Rattle.message.proofs.scan.spaces_end.Given as goal
 
 abbrev pub invariant-loop-i : goal.invariant-loop-i

@@ -1,5 +1,4 @@
 -- `with_param` meets its contract. Assumes nothing.
-use borrow.Author.Rules.{rules}
 use mathlib.Core.Path.{refl}
 use Rattle.message.specs.Private.Scan.{with_param}
 use Rattle.message.proofs.scan.with_param.Goals as goal

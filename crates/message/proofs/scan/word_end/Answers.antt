@@ -1,10 +1,5 @@
 -- `word_end` meets its contract. The invariant: what is left of the word from i on ends where the word does. Assumes nothing.
-use mathlib.Core.Path.{◌≡◌}
-use Prim.Native.Nat.{◌+◌, ◌-◌, ◌≤◌}
 use native.Mathlib.Omega.{arith}
-use lib.ListN.{length, drop}
-use borrow.Author.Rules.{rules}
-use Rattle.message.specs.Grammar.{word}
 use Rattle.message.proofs.Runs.{word-past, word-stop, word-go}
 use Rattle.message.proofs.scan.word_end.Goals as goal
 

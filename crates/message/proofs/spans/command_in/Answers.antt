@@ -1,5 +1,4 @@
 -- `command_in` meets its contract: the span's own part is handed back. Assumes nothing.
-use borrow.Author.Rules.{rules}
 use Rattle.message.specs.Parts.{content_by}
 use Rattle.message.proofs.spans.command_in.Goals as goal
 

@@ -1,7 +1,6 @@
 -- `prefix_in` meets its contract: the prefix's span, or the empty one at the text's end, is the part handed back. Assumes nothing.
 use mathlib.Core.Path.{◌≡◌, ap, ◌∙◌}
 use lib.ListN.{length}
-use borrow.Author.Rules.{rules}
 use borrow.Author.Tests.{not-true, not-false}
 use Rattle.octets.specs.Room.{place_in}
 use Rattle.message.specs.declared.Span.{Span}

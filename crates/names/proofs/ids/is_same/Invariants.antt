@@ -1,12 +1,8 @@
 -- `is_same` meets its contract. The invariant: what stands from i on is the same exactly if the whole is. Assumes nothing.
-use mathlib.Core.Path.{◌≡◌, refl, sym, ◌∙◌}
+use mathlib.Core.Path.{◌≡◌}
 use Prim.Native.Nat.{◌-◌, ◌≤◌}
 use lib.ListN.{drop}
-use lib.Dec.{eqb}
-use borrow.Author.Rules.{rules}
-use borrow.Author.Tests.{eq-eqb, ne_eqb}
 use Rattle.laws.specs.Lists.{same}
-use Rattle.laws.proofs.Lists.{same_by-past, same_by-stop, same_by-go}
 use Rattle.names.specs.Names.{user_id_length}
 use Rattle.names.proofs.ids.is_same.Given as goal
 

@@ -1,15 +1,9 @@
 -- `odd_bytes` meets its contract. The invariant: all bytes behind the first may stand in an id exactly if there are no bits so far and those from i on
 -- may. Assumes nothing.
-use mathlib.Core.Path.{◌≡◌, refl, sym, ◌∙◌}
-use mathlib.Core.Bool.{◌&&◌}
-use Prim.Native.Nat.{◌-◌}
-use lib.ListN.{drop}
-use lib.Dec.{eqb}
+use mathlib.Core.Path.{sym, ◌∙◌}
 use borrow.Author.Rules.{rules}
 use Rattle.octets.specs.Bytes.{is_id_byte}
-use Rattle.laws.specs.Lists.{all}
 use Rattle.laws.proofs.Bitwise.{or_step, or-past}
-use Rattle.names.specs.Names.{user_id_length}
 use Rattle.names.proofs.ids.odd_bytes.Goals as goal
 
 pub loop-i-preserved : goal.loop-i-preserved

@@ -2,7 +2,6 @@
 use mathlib.Core.Path.{ap, ap₂, ◌∙◌}
 use mathlib.Core.List.{List}
 use Prim.Native.Nat.{ℕ}
-use borrow.Author.Rules.{rules}
 use Rattle.bans.specs.declared.BanList.{BanList}
 use Rattle.bans.specs.declared.Added.{Added}
 use Rattle.bans.specs.Putting.{add_answer}

@@ -1,6 +1,5 @@
 -- `changed` meets its contract: each deed is done by its own function. Assumes nothing.
 use mathlib.Core.Path.{◌≡◌, refl}
-use borrow.Author.Rules.{rules}
 use Rattle.relay.specs.declared.Deed.{Deed}
 use Rattle.relay.specs.declared.Deed.TheVariants.{Nothing, Set, Drop, Add}
 use Rattle.relay.proofs.acting.changed.Goals as goal

@@ -1,5 +1,4 @@
 -- `empty_if` meets its contract: the list is emptied, or nothing is done. Assumes nothing.
-use borrow.Author.Rules.{rules}
 use Rattle.relay.proofs.acting.empty_if.Goals as goal
 
 pub returns-then-emptied : goal.returns-then-emptied

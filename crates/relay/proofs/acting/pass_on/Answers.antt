@@ -1,6 +1,5 @@
 -- `pass_on` meets its contract, which is that of `forward_message`. Assumes nothing.
 use mathlib.Core.Path.{ap}
-use borrow.Author.Rules.{rules}
 use Rattle.writer.specs.declared.Written.{Written}
 use Rattle.writer.specs.Writing.{written_answer}
 use Rattle.relay.proofs.acting.pass_on.Goals as goal

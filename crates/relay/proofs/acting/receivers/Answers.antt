@@ -1,6 +1,5 @@
 -- `receivers` meets its contract: a line that goes out goes to the relay set. Assumes nothing.
 use mathlib.Core.Path.{◌≡◌}
-use borrow.Author.Rules.{rules}
 use Rattle.relay.specs.declared.Sending.TheVariants.{AsRead, Anew}
 use Rattle.relay.proofs.acting.receivers.Goals as goal
 

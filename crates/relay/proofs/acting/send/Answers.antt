@@ -1,6 +1,5 @@
 -- `send` meets its contract: what goes out is written by its own function, or nothing is. Assumes nothing.
 use mathlib.Core.Path.{◌≡◌, refl}
-use borrow.Author.Rules.{rules}
 use Rattle.relay.specs.declared.Change.{Change}
 use Rattle.relay.specs.declared.Sending.TheVariants.{Silent, AsRead, Anew}
 use Rattle.relay.proofs.acting.send.Goals as goal

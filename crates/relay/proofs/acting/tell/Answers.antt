@@ -1,6 +1,5 @@
 -- `tell` meets its contract, which is that of `write_join`, the source being the message's prefix. Assumes nothing.
 use mathlib.Core.Path.{sym, ap}
-use borrow.Author.Rules.{rules}
 use Rattle.writer.specs.declared.Written.{Written}
 use Rattle.writer.specs.Writing.{written_answer}
 use Rattle.relay.proofs.acting.tell.Goals as goal

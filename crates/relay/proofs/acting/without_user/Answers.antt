@@ -3,13 +3,13 @@
 use mathlib.Core.Path.{◌≡◌, sym, ap, ap₂, ◌∙◌}
 use mathlib.Core.Bool.{Bool}
 use mathlib.Core.List.{List}
-use Prim.Native.Nat.{ℕ, ◌+◌, ◌-◌, ◌≤◌}
+use Prim.Native.Nat.{ℕ, ◌+◌, ◌≤◌}
 use native.Mathlib.Omega.{arith}
 use lib.ListN.{length, take, get_or}
 use lib.Dec.{eqb}
 use borrow.Author.Rules.{rules}
 use Rattle.laws.proofs.Lists.{unmapped}
-use Rattle.laws.proofs.Mapped.{mapped, mapped-none, mapped-step, mapped-all}
+use Rattle.laws.proofs.Mapped.{mapped-none, mapped-step, mapped-all}
 use Rattle.channel.specs.declared.Record.{Record}
 use Rattle.channel.specs.Limits.{slot_count}
 use Rattle.channel.specs.Members.{without}

@@ -1,23 +1,13 @@
 -- `without_user` meets its contract. The invariant: the user has left the first k slots, and of their lists those have gone whose last member it was; the rest are
 -- as they were. Assumes nothing.
-use mathlib.Core.Path.{◌≡◌, sym, ap, ap₂, ◌∙◌}
-use mathlib.Core.Bool.{Bool}
-use mathlib.Core.List.{List}
-use Prim.Native.Nat.{ℕ, ◌+◌, ◌-◌, ◌≤◌}
-use native.Mathlib.Omega.{arith}
-use lib.ListN.{length, take, get_or}
-use lib.Dec.{eqb}
-use borrow.Author.Rules.{rules}
-use Rattle.laws.proofs.Lists.{unmapped}
-use Rattle.laws.proofs.Mapped.{mapped, mapped-none, mapped-step, mapped-all}
-use Rattle.channel.specs.declared.Record.{Record}
+use mathlib.Core.Path.{◌≡◌}
+use Prim.Native.Nat.{◌-◌, ◌≤◌}
+use lib.ListN.{take}
+use Rattle.laws.proofs.Mapped.{mapped}
 use Rattle.channel.specs.Limits.{slot_count}
 use Rattle.channel.specs.Members.{without}
-use Rattle.channel.proofs.Removals.{without-free}
-use Rattle.table.specs.Network.{emptied_if}
 use Rattle.relay.specs.Leaving.{left_lists}
 use Rattle.relay.specs.Private.Acting.{head_with}
-use Rattle.relay.proofs.Leaving.{left-none, left_step, left-all, free-last, used-last}
 use Rattle.relay.proofs.acting.without_user.Given as goal
 
 abbrev pub invariant-loop-k : goal.invariant-loop-k

@@ -1,11 +1,11 @@
 -- `bare` meets its contract. The invariant: the first i members are without status, the rest as they were. Assumes nothing.
 use mathlib.Core.Path.{◌≡◌, sym, ◌∙◌}
-use Prim.Native.Nat.{◌-◌, ◌≤◌, ◌<◌}
+use Prim.Native.Nat.{◌<◌}
 use native.Mathlib.Omega.{arith}
 use lib.ListN.{length}
 use borrow.Author.Rules.{rules}
 use Rattle.laws.proofs.Lists.{unmapped}
-use Rattle.laws.proofs.Mapped.{mapped, mapped-none, mapped-step, mapped-all}
+use Rattle.laws.proofs.Mapped.{mapped-none, mapped-step, mapped-all}
 use Rattle.channel.specs.declared.Member.{Member}
 use Rattle.channel.specs.Limits.{member_limit}
 use Rattle.channel.specs.Channel.{member}

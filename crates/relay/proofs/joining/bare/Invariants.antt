@@ -1,15 +1,10 @@
 -- `bare` meets its contract. The invariant: the first i members are without status, the rest as they were. Assumes nothing.
-use mathlib.Core.Path.{◌≡◌, sym, ◌∙◌}
-use Prim.Native.Nat.{◌-◌, ◌≤◌, ◌<◌}
-use native.Mathlib.Omega.{arith}
-use lib.ListN.{length}
-use borrow.Author.Rules.{rules}
-use Rattle.laws.proofs.Lists.{unmapped}
-use Rattle.laws.proofs.Mapped.{mapped, mapped-none, mapped-step, mapped-all}
+use mathlib.Core.Path.{◌≡◌}
+use Prim.Native.Nat.{◌-◌, ◌≤◌}
+use Rattle.laws.proofs.Mapped.{mapped}
 use Rattle.channel.specs.declared.Member.{Member}
 use Rattle.channel.specs.Limits.{member_limit}
 use Rattle.channel.specs.Channel.{member}
-use Rattle.channel.specs.Standing.{bare}
 use Rattle.relay.proofs.joining.bare.Given as goal
 
 abbrev statusless : Member → Member

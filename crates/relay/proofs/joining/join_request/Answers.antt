@@ -1,7 +1,6 @@
 -- `join_request` meets its contract: an SJOIN is refused by its own rules, or asks for the record that it tells of. Assumes nothing.
 use mathlib.Core.Path.{◌≡◌, sym, ap, ◌∙◌}
 use Prim.Native.Nat.{ℕ}
-use borrow.Author.Rules.{rules}
 use Rattle.refusal.specs.Rules.{first_of}
 use Rattle.message.specs.Content.{Content}
 use Rattle.message.specs.Parts.{content_by}

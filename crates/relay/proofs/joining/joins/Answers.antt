@@ -1,5 +1,4 @@
 -- `joins` meets its contract: what goes out is what stands of the incoming record. Assumes nothing.
-use borrow.Author.Rules.{rules}
 use Rattle.relay.proofs.joining.joins.Goals as goal
 
 pub returns : goal.returns

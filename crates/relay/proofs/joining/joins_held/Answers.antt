@@ -1,7 +1,6 @@
 -- `joins_held` meets its contract: the change is what the records merge to. Assumes nothing.
 use mathlib.Core.Path.{sym}
 use borrow.Author.Tests.{ne_eqb}
-use borrow.Author.Rules.{rules}
 use Rattle.refusal.specs.Numbers.{accepted}
 use Rattle.relay.specs.Private.Sjoin.{joins_held}
 use Rattle.relay.proofs.joining.joins_held.Goals as goal

@@ -1,7 +1,6 @@
 -- `outgoing` meets its contract: by whether the incoming time is the resulting one. Assumes nothing.
 use mathlib.Core.Path.{refl}
 use borrow.Author.Tests.{eq-eqb, ne_eqb}
-use borrow.Author.Rules.{rules}
 use Rattle.relay.specs.Private.Sjoin.{told_of}
 use Rattle.relay.proofs.joining.outgoing.Goals as goal
 

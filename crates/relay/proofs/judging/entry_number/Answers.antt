@@ -2,7 +2,6 @@
 use mathlib.Core.Path.{sym, ◌∙◌}
 use Prim.Native.Nat.{◌<◌, ◌^◌}
 use borrow.Author.Rules.{rules}
-use borrow.Author.Tests.{not-true, not-false}
 use Rattle.links.specs.Links.{link_count}
 use Rattle.relay.proofs.Entering.{entry-ill-formed, entry-short, entry-unlinked, entry-passes}
 use Rattle.relay.proofs.judging.entry_number.Goals as goal

@@ -1,6 +1,5 @@
 -- `settled` meets its contract: each command is settled by its own function. Assumes nothing.
 use mathlib.Core.Path.{◌≡◌}
-use borrow.Author.Rules.{rules}
 use Rattle.relay.specs.declared.Command.{Command}
 use Rattle.relay.specs.declared.Command.TheVariants.{Sjoin, Part, Quit, Bmask, Unknown}
 use Rattle.relay.proofs.judging.settled.Goals as goal

@@ -1,7 +1,6 @@
 -- `slot_of` meets its contract: the name is the part of the line that its span says. Assumes nothing.
 use mathlib.Core.Path.{sym}
 use borrow.Author.Tests.{eq-eqb, ne_eqb}
-use borrow.Author.Rules.{rules}
 use Rattle.relay.specs.Private.Commands.{looked_up}
 use Rattle.relay.proofs.judging.slot_of.Goals as goal
 

@@ -1,6 +1,5 @@
 -- `mask_request` meets its contract: a BMASK is refused by its own rules, or asks for its masks, with their time. Assumes nothing.
 use mathlib.Core.Path.{◌≡◌, sym, ap, ◌∙◌}
-use borrow.Author.Rules.{rules}
 use Rattle.refusal.specs.Numbers.{is_mode_number}
 use Rattle.refusal.specs.Rules.{first_of}
 use Rattle.refusal.proofs.Rules.{first_plain}

@@ -1,5 +1,4 @@
 -- `masks_found` meets its contract: each slot has its own judgement. Assumes nothing.
-use borrow.Author.Rules.{rules}
 use Rattle.relay.proofs.masking.masks_found.Goals as goal
 
 pub returns-in-Held : goal.returns-in-Held

@@ -3,7 +3,6 @@ use mathlib.Core.Path.{◌≡◌, sym, ap, ◌∙◌}
 use mathlib.Core.Bool.{true, false}
 use lib.Dec.{ltb}
 use borrow.Author.Tests.{lt-ltb, le-ltb}
-use borrow.Author.Rules.{rules}
 use Rattle.bans.specs.Putting.{add_answer}
 use Rattle.bmask.specs.Masks.{listed}
 use Rattle.relay.specs.Private.Bmask.{with_masks, masks_held}

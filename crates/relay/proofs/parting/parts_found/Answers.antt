@@ -1,5 +1,4 @@
 -- `parts_found` meets its contract: each slot has its own judgement. Assumes nothing.
-use borrow.Author.Rules.{rules}
 use Rattle.relay.proofs.parting.parts_found.Goals as goal
 
 pub returns-in-Held : goal.returns-in-Held

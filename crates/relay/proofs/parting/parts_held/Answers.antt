@@ -1,7 +1,5 @@
 -- `parts_held` meets its contract: the member goes, if it is there, and the list with the last one. Assumes nothing.
 use mathlib.Core.Path.{sym, ◌∙◌}
-use borrow.Author.Tests.{not-true, not-false}
-use borrow.Author.Rules.{rules}
 use Rattle.relay.specs.Leaving.{is_last}
 use Rattle.relay.specs.Private.Part.{parts_held}
 use Rattle.relay.proofs.parting.parts_held.Goals as goal

@@ -1,5 +1,4 @@
 -- `quits` meets its contract: every part but the user is zero. Assumes nothing.
-use borrow.Author.Rules.{rules}
 use Rattle.relay.proofs.quitting.quits.Goals as goal
 
 pub returns : goal.returns

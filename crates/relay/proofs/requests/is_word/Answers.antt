@@ -1,10 +1,8 @@
 -- `is_word` meets its contract. The invariant: what follows the first i bytes of word and name is equal exactly if the whole are. Assumes nothing.
-use mathlib.Core.Path.{◌≡◌, refl, sym, ◌∙◌}
-use Prim.Native.Nat.{◌-◌, ◌≤◌}
+use mathlib.Core.Path.{refl, sym, ◌∙◌}
 use native.Mathlib.Omega.{arith}
-use lib.ListN.{length, drop}
 use borrow.Author.Rules.{rules}
-use Rattle.relay.proofs.Words.{is_word, lengths_differ, word-past, word-stop, word-go}
+use Rattle.relay.proofs.Words.{lengths_differ, word-past, word-stop, word-go}
 use Rattle.relay.proofs.requests.is_word.Goals as goal
 
 pub returns-then-word-name : goal.returns-then-word-name

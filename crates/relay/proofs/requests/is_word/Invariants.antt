@@ -1,10 +1,8 @@
 -- `is_word` meets its contract. The invariant: what follows the first i bytes of word and name is equal exactly if the whole are. Assumes nothing.
-use mathlib.Core.Path.{◌≡◌, refl, sym, ◌∙◌}
+use mathlib.Core.Path.{◌≡◌}
 use Prim.Native.Nat.{◌-◌, ◌≤◌}
-use native.Mathlib.Omega.{arith}
 use lib.ListN.{length, drop}
-use borrow.Author.Rules.{rules}
-use Rattle.relay.proofs.Words.{is_word, lengths_differ, word-past, word-stop, word-go}
+use Rattle.relay.proofs.Words.{is_word}
 use Rattle.relay.proofs.requests.is_word.Given as goal
 
 abbrev pub invariant-loop-i : goal.invariant-loop-i

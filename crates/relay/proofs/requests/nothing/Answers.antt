@@ -1,5 +1,4 @@
 -- `nothing` meets its contract: every part but the number is zero. Assumes nothing.
-use borrow.Author.Rules.{rules}
 use Rattle.relay.proofs.requests.nothing.Goals as goal
 
 pub returns : goal.returns

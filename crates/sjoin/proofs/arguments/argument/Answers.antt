@@ -1,6 +1,5 @@
 -- `argument` meets its contract: the parameter stands behind the modes, in its letter's place, or there is none. Assumes nothing.
 use mathlib.Core.Path.{◌∙◌}
-use borrow.Author.Rules.{rules}
 use Rattle.octets.specs.Room.{part}
 use Rattle.message.specs.Parts.{content_by}
 use Rattle.sjoin.proofs.Parameters.{argument-there, argument-none}

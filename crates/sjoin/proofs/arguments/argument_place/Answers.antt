@@ -1,11 +1,7 @@
 -- `argument_place` meets its contract. The invariant: the letters counted, and the place among those from i on, come to the place among all. Assumes nothing.
-use mathlib.Core.Path.{◌≡◌, sym, ◌∙◌}
-use Prim.Native.Nat.{◌+◌, ◌-◌, ◌≤◌}
+use mathlib.Core.Path.{sym, ◌∙◌}
 use native.Mathlib.Omega.{arith}
-use lib.ListN.{length}
-use borrow.Author.Rules.{rules}
-use borrow.Author.Tests.{not-true, not-false}
-use Rattle.sjoin.proofs.Parameters.{Place, place-past, place-skip, place-stop, place-go}
+use Rattle.sjoin.proofs.Parameters.{place-past, place-skip, place-stop, place-go}
 use Rattle.sjoin.proofs.arguments.argument_place.Goals as goal
 
 pub loop-i-init : goal.loop-i-init

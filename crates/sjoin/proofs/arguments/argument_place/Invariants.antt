@@ -1,11 +1,8 @@
 -- `argument_place` meets its contract. The invariant: the letters counted, and the place among those from i on, come to the place among all. Assumes nothing.
-use mathlib.Core.Path.{◌≡◌, sym, ◌∙◌}
+use mathlib.Core.Path.{◌≡◌}
 use Prim.Native.Nat.{◌+◌, ◌-◌, ◌≤◌}
-use native.Mathlib.Omega.{arith}
 use lib.ListN.{length}
-use borrow.Author.Rules.{rules}
-use borrow.Author.Tests.{not-true, not-false}
-use Rattle.sjoin.proofs.Parameters.{Place, place-past, place-skip, place-stop, place-go}
+use Rattle.sjoin.proofs.Parameters.{Place}
 use Rattle.sjoin.proofs.arguments.argument_place.Given as goal
 
 abbrev pub invariant-loop-i : goal.invariant-loop-i

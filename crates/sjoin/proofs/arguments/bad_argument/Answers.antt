@@ -3,11 +3,10 @@
 use mathlib.Core.Path.{◌≡◌, sym, ap, ◌∙◌}
 use mathlib.Core.Bool.{Bool, true, false}
 use mathlib.Core.List.{List, []}
-use Prim.Native.Nat.{ℕ, suc, ◌+◌, ◌-◌, ◌<◌}
+use Prim.Native.Nat.{ℕ, suc, ◌+◌, ◌<◌}
 use native.Mathlib.Omega.{arith}
 use lib.ListN.{length, drop, get_or}
 use borrow.Author.Rules.{rules}
-use borrow.Author.Tests.{not-true, not-false}
 use Rattle.refusal.specs.Faults.{first_fault}
 use Rattle.laws.proofs.Lists.{unmapped}
 use Rattle.message.specs.declared.Span.{Span}
@@ -16,9 +15,8 @@ use Rattle.message.specs.Grammar.{param_limit}
 use Rattle.message.specs.Parts.{span, content_by}
 use Rattle.sjoin.specs.Modes.{letters_of, has_parameter, parametered, good_argument}
 use Rattle.sjoin.specs.Faults.{arguments_at, argument_checks}
-use Rattle.sjoin.specs.Join.{arguments_in}
 use Rattle.sjoin.specs.Private.Scanning.{fault_verdict}
-use Rattle.sjoin.proofs.Parameters.{arguments-are, arguments-count, Left, left-none, left-skip, left-bad, left-good, wanted-skip, wanted-one, verdict-param}
+use Rattle.sjoin.proofs.Parameters.{arguments-are, arguments-count, left-none, left-skip, left-bad, left-good, wanted-skip, wanted-one, verdict-param}
 use Rattle.sjoin.proofs.arguments.bad_argument.Goals as goal
 
 -- what an empty place of the spans would hold

@@ -1,12 +1,8 @@
 -- `wanted` meets its contract. The invariant: the letters counted, and those from i on that have a parameter, are as many as all. Assumes nothing.
-use mathlib.Core.Path.{◌≡◌, sym, ◌∙◌}
+use mathlib.Core.Path.{◌≡◌}
 use Prim.Native.Nat.{◌+◌, ◌-◌, ◌≤◌}
-use native.Mathlib.Omega.{arith}
 use lib.ListN.{length, drop}
-use borrow.Author.Rules.{rules}
-use borrow.Author.Tests.{not-true, not-false}
 use Rattle.sjoin.specs.Modes.{parametered}
-use Rattle.sjoin.proofs.Parameters.{wanted-past, wanted-skip, wanted-one}
 use Rattle.sjoin.proofs.arguments.wanted.Given as goal
 
 abbrev pub invariant-loop-i : goal.invariant-loop-i

@@ -9,7 +9,6 @@ use borrow.Author.Rules.{rules}
 use borrow.Author.Tests.{not-true, not-false}
 use Rattle.channel.specs.Limits.{member_limit}
 use Rattle.message.specs.declared.Span.{Span}
-use Rattle.message.proofs.Splits.{left}
 use Rattle.sjoin.specs.Entries.{is_entry, member_of}
 use Rattle.sjoin.proofs.Listed.{Before, before-first, before-odd, before-room, before-next, before-fewer, before-members, before-good}
 use Rattle.sjoin.proofs.entries.entries_of.Goals as goal

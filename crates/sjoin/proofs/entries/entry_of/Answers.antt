@@ -4,7 +4,6 @@ use mathlib.Core.Path.{◌≡◌, sym, ap, ◌∙◌}
 use mathlib.Core.Bool.{true≢false}
 use mathlib.Core.List.{List}
 use lib.ListN.{length}
-use borrow.Author.Rules.{rules}
 use Rattle.laws.proofs.Lists.{padded-whole}
 use Rattle.names.specs.Names.{user_id_length, is_user_id}
 use Rattle.sjoin.specs.Entries.{is_entry, member_of}

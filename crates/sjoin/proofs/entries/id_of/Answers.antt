@@ -1,6 +1,5 @@
 -- `id_of` meets its contract: '@' is passed over, then '+'. Assumes nothing.
 use mathlib.Core.Path.{ap, ◌∙◌}
-use borrow.Author.Rules.{rules}
 use Rattle.channel.specs.Modes.{plus}
 use Rattle.sjoin.specs.Entries.{past, id_of}
 use Rattle.sjoin.proofs.entries.id_of.Goals as goal

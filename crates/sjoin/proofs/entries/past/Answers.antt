@@ -2,7 +2,6 @@
 use mathlib.Core.Path.{sym, ◌∙◌}
 use native.Mathlib.Omega.{arith}
 use lib.ListN.{length}
-use borrow.Author.Rules.{rules}
 use Rattle.octets.proofs.Room.{part-back}
 use Rattle.sjoin.specs.Entries.{past}
 use Rattle.sjoin.proofs.entries.past.Goals as goal

@@ -3,7 +3,6 @@ use mathlib.Core.Path.{◌≡◌, sym, ap, ◌∙◌}
 use mathlib.Core.Bool.{Bool, true, false, cond}
 use mathlib.Core.List.{List}
 use Prim.Native.Nat.{ℕ, ◌+◌}
-use borrow.Author.Rules.{rules}
 use Rattle.laws.specs.Lists.{starts_with}
 use Rattle.channel.specs.Channel.{voice, operator, at_sign}
 use Rattle.channel.specs.Modes.{plus}

@@ -1,11 +1,8 @@
 -- `letter_fault` meets its contract. The invariant: the first fault of the letters from i on, after those seen, is the first of all. Assumes nothing.
-use mathlib.Core.Path.{◌≡◌, sym, ap, ◌∙◌}
-use Prim.Native.Nat.{ℕ, ◌+◌, ◌-◌}
-use lib.ListN.{length, drop}
-use borrow.Author.Rules.{rules}
-use borrow.Author.Tests.{not-true, not-false}
+use mathlib.Core.Path.{sym, ap, ◌∙◌}
+use Prim.Native.Nat.{ℕ, ◌+◌}
+use lib.ListN.{drop}
 use Rattle.refusal.specs.Faults.{first_fault}
-use Rattle.sjoin.specs.Faults.{own_checks}
 use Rattle.sjoin.specs.Private.Scanning.{seen_checks, letter_verdict}
 use Rattle.sjoin.proofs.Modes.{sign-missing, sign-seen, seen-past, seen_other, seen_twice, seen-go}
 use Rattle.sjoin.proofs.letters.letter_fault.Goals as goal

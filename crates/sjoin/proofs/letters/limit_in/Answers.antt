@@ -1,7 +1,6 @@
 -- `limit_in` meets its contract: the number read is the limit, and fits. Assumes nothing.
 use mathlib.Core.Path.{sym, ◌∙◌}
 use native.Mathlib.Omega.{arith}
-use borrow.Author.Rules.{rules}
 use Rattle.octets.proofs.Digits.{decimal-read}
 use Rattle.channel.specs.Limits.{limit_limit}
 use Rattle.sjoin.proofs.Limits.{limit-value, limit-none}

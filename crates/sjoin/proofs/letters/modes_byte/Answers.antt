@@ -1,11 +1,9 @@
 -- `modes_byte` meets its contract. The invariant: the byte so far, united with the bits of the letters from i on, is the modes' byte. Assumes nothing.
-use mathlib.Core.Path.{◌≡◌, sym, ap, ◌∙◌}
-use Prim.Native.Nat.{ℕ, ◌+◌, ◌-◌}
+use mathlib.Core.Path.{sym, ap, ◌∙◌}
+use Prim.Native.Nat.{ℕ, ◌+◌}
 use lib.Bits.{bit_or}
-use lib.ListN.{length, drop}
-use borrow.Author.Rules.{rules}
+use lib.ListN.{drop}
 use Rattle.channel.specs.Modes.{with_mode}
-use Rattle.sjoin.specs.Modes.{modes_byte}
 use Rattle.sjoin.proofs.Modes.{bits, bits-first, bits-past, bits-go}
 use Rattle.sjoin.proofs.letters.modes_byte.Goals as goal
 

@@ -1,6 +1,5 @@
 -- `alike` meets its contract: what is sought in the second slot is the name that the first holds. Assumes nothing.
 use mathlib.Core.Path.{sym, ◌∙◌}
-use borrow.Author.Rules.{rules}
 use Rattle.table.proofs.WellFormed.{free-alike, used-alike}
 use Rattle.table.proofs.slots.alike.Goals as goal
 

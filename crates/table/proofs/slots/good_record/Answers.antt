@@ -1,6 +1,5 @@
 -- `good_record` meets its contract: its test is the definition's. Assumes nothing.
 use mathlib.Core.Path.{sym, ◌∙◌}
-use borrow.Author.Rules.{rules}
 use Rattle.table.proofs.WellFormed.{good-free, good-used}
 use Rattle.table.proofs.slots.good_record.Goals as goal
 

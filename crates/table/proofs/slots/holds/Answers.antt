@@ -1,6 +1,5 @@
 -- `holds` meets its contract: the part compared is the name that the record holds, however long it says that name is. Assumes nothing.
 use mathlib.Core.Path.{sym, ◌∙◌}
-use borrow.Author.Rules.{rules}
 use Rattle.table.proofs.Searching.{free-holds, used-holds}
 use Rattle.table.proofs.slots.holds.Goals as goal
 

@@ -1,16 +1,10 @@
 -- `lowest_free` meets its contract. The invariant: no slot below k is free. Assumes nothing.
 use mathlib.Core.Path.{◌≡◌}
-use Prim.Native.Nat.{◌<◌, ◌+◌, ◌-◌, ◌≤◌}
-use native.Mathlib.Omega.{arith}
-use lib.ListN.{length, drop}
-use borrow.Author.Rules.{rules}
-use borrow.Author.Tests.{eq-eqb, ne_eqb}
-use Rattle.laws.proofs.Lists.{unmapped}
+use Prim.Native.Nat.{◌+◌, ◌-◌, ◌≤◌}
+use lib.ListN.{drop}
 use Rattle.channel.specs.Limits.{slot_count}
 use Rattle.table.specs.Table.{is_free}
 use Rattle.table.specs.Slots.{first_at}
-use Rattle.table.proofs.First.{first-here, first_next, first-end}
-use Rattle.table.proofs.Searching.{free-found, free-full}
 use Rattle.table.proofs.slots.lowest_free.Given as goal
 
 abbrev pub invariant-loop-k : goal.invariant-loop-k

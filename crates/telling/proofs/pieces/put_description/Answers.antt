@@ -1,6 +1,5 @@
 -- `put_description` meets its contract: what comes before the list, a SPACE and the entries are added one after the other. Assumes nothing.
 use mathlib.Core.List.{[], ◌∷◌}
-use borrow.Author.Rules.{rules}
 use Rattle.octets.specs.Bytes.{space}
 use Rattle.octets.proofs.Room.{added, adds_then}
 use Rattle.channel.specs.Record.{decode}

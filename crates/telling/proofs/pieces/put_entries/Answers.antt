@@ -1,14 +1,12 @@
 -- `put_entries` meets its contract. The invariant: what was put, with the text that is left at k, is the list's text. Assumes nothing.
 use mathlib.Core.Path.{◌≡◌}
-use Prim.Native.Nat.{◌-◌, ◌<◌}
+use Prim.Native.Nat.{◌<◌}
 use native.Mathlib.Omega.{arith}
-use lib.ListN.{length, take, drop, length-take}
+use lib.ListN.{length, take, length-take}
 use borrow.Author.Rules.{rules}
-use borrow.Author.Tests.{ltb-true, ltb-false}
-use Rattle.octets.proofs.Room.{adds_then, Begun, begun, begun-step, begun-end}
+use Rattle.octets.proofs.Room.{adds_then, begun, begun-step, begun-end}
 use Rattle.channel.specs.Limits.{member_limit}
-use Rattle.telling.specs.Telling.{list_text}
-use Rattle.telling.proofs.Lines.{entries_from, entries-step, entries-past}
+use Rattle.telling.proofs.Lines.{entries-step, entries-past}
 use Rattle.telling.proofs.pieces.put_entries.Goals as goal
 
 pub loop-k-init : goal.loop-k-init

@@ -1,14 +1,10 @@
 -- `put_entries` meets its contract. The invariant: what was put, with the text that is left at k, is the list's text. Assumes nothing.
-use mathlib.Core.Path.{◌≡◌}
-use Prim.Native.Nat.{◌-◌, ◌<◌}
-use native.Mathlib.Omega.{arith}
-use lib.ListN.{length, take, drop, length-take}
-use borrow.Author.Rules.{rules}
-use borrow.Author.Tests.{ltb-true, ltb-false}
-use Rattle.octets.proofs.Room.{adds_then, Begun, begun, begun-step, begun-end}
+use Prim.Native.Nat.{◌-◌}
+use lib.ListN.{take, drop}
+use Rattle.octets.proofs.Room.{Begun}
 use Rattle.channel.specs.Limits.{member_limit}
 use Rattle.telling.specs.Telling.{list_text}
-use Rattle.telling.proofs.Lines.{entries_from, entries-step, entries-past}
+use Rattle.telling.proofs.Lines.{entries_from}
 use Rattle.telling.proofs.pieces.put_entries.Given as goal
 
 abbrev pub invariant-loop-k : goal.invariant-loop-k

@@ -1,5 +1,4 @@
 -- `put_entry` meets its contract: the marks, each where its bit is set, and the id are added one after the other. Assumes nothing.
-use borrow.Author.Rules.{rules}
 use Rattle.octets.proofs.Room.{added, adds_then}
 use Rattle.telling.specs.Telling.{entry_of}
 use Rattle.telling.proofs.pieces.put_entry.Goals as goal

@@ -1,5 +1,4 @@
 -- `put_if` meets its contract: the bytes are added, or nothing. Assumes nothing.
-use borrow.Author.Rules.{rules}
 use Rattle.octets.proofs.Room.{added, adds-nothing}
 use Rattle.telling.proofs.pieces.put_if.Goals as goal
 

@@ -1,6 +1,5 @@
 -- `put_join` meets its contract: the pieces of the line are added one after the other. Assumes nothing.
 use mathlib.Core.List.{[], ◌∷◌}
-use borrow.Author.Rules.{rules}
 use Rattle.octets.specs.Bytes.{space, colon}
 use Rattle.octets.proofs.Room.{added, adds_then}
 use Rattle.channel.specs.Record.{decode}

@@ -1,6 +1,5 @@
 -- `put_key` meets its contract: the key is added exactly with its mode. Assumes nothing.
 use mathlib.Core.Path.{sym, ◌∙◌}
-use borrow.Author.Rules.{rules}
 use Rattle.octets.proofs.Room.{adds-nothing}
 use Rattle.telling.proofs.pieces.put_key.Goals as goal
 

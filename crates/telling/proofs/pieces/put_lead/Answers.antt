@@ -1,5 +1,4 @@
 -- `put_lead` meets its contract: time, name, modes, key and limit are added one after the other, name and key as far as they are in use. Assumes nothing.
-use borrow.Author.Rules.{rules}
 use Rattle.octets.proofs.Room.{part-front, adds_then}
 use Rattle.channel.specs.Record.{decode}
 use Rattle.telling.specs.Private.Pieces.{lead_text}

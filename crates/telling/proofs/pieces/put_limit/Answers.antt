@@ -1,6 +1,5 @@
 -- `put_limit` meets its contract: the limit is added exactly with its mode. Assumes nothing.
 use mathlib.Core.Path.{sym, ◌∙◌}
-use borrow.Author.Rules.{rules}
 use Rattle.octets.proofs.Room.{adds-nothing}
 use Rattle.telling.proofs.pieces.put_limit.Goals as goal
 

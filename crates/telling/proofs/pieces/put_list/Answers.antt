@@ -3,7 +3,6 @@
 use mathlib.Core.Path.{refl}
 use native.Mathlib.Omega.{arith}
 use lib.ListN.{length}
-use borrow.Author.Rules.{rules}
 use Rattle.octets.proofs.Room.{adds-over}
 use Rattle.channel.specs.Record.{decode}
 use Rattle.writer.proofs.Answers.{over-long, line-begins, part_length}

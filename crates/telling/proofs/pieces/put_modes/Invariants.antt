@@ -1,15 +1,9 @@
 -- `put_modes` meets its contract. The invariant: what was put, with the letters from the place on, is all of them. Assumes nothing.
-use mathlib.Core.Path.{◌∙◌}
-use mathlib.Core.List.{[], ◌∷◌}
 use Prim.Native.Nat.{◌-◌, ◌≤◌}
-use native.Mathlib.Omega.{arith}
 use lib.ListN.{drop}
-use borrow.Author.Rules.{rules}
-use Rattle.octets.specs.Bytes.{space}
-use Rattle.octets.proofs.Room.{added, adds_then, Begun, begun, begun-step, begun-end}
-use Rattle.channel.specs.Modes.{letters, mode_count, plus}
+use Rattle.octets.proofs.Room.{Begun}
+use Rattle.channel.specs.Modes.{letters, mode_count}
 use Rattle.telling.specs.Telling.{letters_from}
-use Rattle.telling.proofs.Lines.{letters-step, letters-past}
 use Rattle.telling.proofs.pieces.put_modes.Given as goal
 
 abbrev pub invariant-loop-place : goal.invariant-loop-place

@@ -1,6 +1,5 @@
 -- `put_number` meets its contract: a SPACE and the digits are added one after the other. Assumes nothing.
 use mathlib.Core.List.{[], ◌∷◌}
-use borrow.Author.Rules.{rules}
 use Rattle.octets.specs.Bytes.{space}
 use Rattle.octets.proofs.Room.{added, adds_then}
 use Rattle.telling.proofs.pieces.put_number.Goals as goal

@@ -1,8 +1,7 @@
 -- `fit` meets its contract: the tests of the definition, in its order. Assumes nothing.
 use mathlib.Core.Path.{sym, ◌∙◌}
-use borrow.Author.Tests.{lt-leb, le-leb, not-true, not-false}
+use borrow.Author.Tests.{lt-leb, le-leb}
 use Rattle.writer.specs.Private.Fit.{fit}
-use borrow.Author.Rules.{rules}
 use Rattle.message.specs.Grammar.{param_limit}
 use Rattle.writer.proofs.fit.fit.Goals as goal
 

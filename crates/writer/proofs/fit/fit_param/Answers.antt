@@ -1,8 +1,6 @@
 -- `fit_param` meets its contract: the span's test, then the parameter's. Assumes nothing.
 use mathlib.Core.Path.{sym, ◌∙◌}
-use borrow.Author.Tests.{not-true, not-false}
 use Rattle.writer.specs.Private.Fit.{fit_param}
-use borrow.Author.Rules.{rules}
 use Rattle.writer.proofs.fit.fit_param.Goals as goal
 
 pub returns-then-not-lies : goal.returns-then-not-lies

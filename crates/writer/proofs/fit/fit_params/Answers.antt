@@ -1,9 +1,7 @@
 -- `fit_params` meets its contract. The invariant: what holds of the parameters from k on holds of all. Assumes nothing.
 use mathlib.Core.Path.{◌≡◌, refl, sym, ◌∙◌}
 use native.Mathlib.Omega.{arith}
-use borrow.Author.Tests.{not-true, not-false}
-use Prim.Native.Nat.{◌-◌, ◌≤◌}
-use lib.ListN.{length, take, drop, drop_of_length-le, length-take}
+use lib.ListN.{length, take, drop_of_length-le, length-take}
 use Rattle.writer.specs.Private.Fit.{fit_params}
 use Rattle.laws.proofs.Lists.{unmapped}
 use Rattle.writer.proofs.Parts.{fit-stop, fit-go}

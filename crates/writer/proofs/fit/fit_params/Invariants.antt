@@ -1,14 +1,8 @@
 -- `fit_params` meets its contract. The invariant: what holds of the parameters from k on holds of all. Assumes nothing.
-use mathlib.Core.Path.{◌≡◌, refl, sym, ◌∙◌}
-use native.Mathlib.Omega.{arith}
-use borrow.Author.Tests.{not-true, not-false}
+use mathlib.Core.Path.{◌≡◌}
 use Prim.Native.Nat.{◌-◌, ◌≤◌}
-use lib.ListN.{length, take, drop, drop_of_length-le, length-take}
+use lib.ListN.{take, drop}
 use Rattle.writer.specs.Private.Fit.{fit_params}
-use Rattle.laws.proofs.Lists.{unmapped}
-use Rattle.writer.proofs.Parts.{fit-stop, fit-go}
-use borrow.Author.Rules.{rules}
-use Rattle.message.specs.Grammar.{param_limit}
 use Rattle.writer.proofs.fit.fit_params.Given as goal
 
 abbrev pub invariant-loop-k : goal.invariant-loop-k

@@ -1,6 +1,5 @@
 -- `fit_prefix` meets its contract: each return is a law of `Parts` at what the tests before it showed. Assumes nothing.
 use mathlib.Core.Path.{◌≡◌, sym, ◌∙◌}
-use borrow.Author.Tests.{not-true, not-false}
 use mathlib.Core.Bool.{true, false, not}
 use mathlib.Core.List.{List}
 use Prim.Native.Nat.{ℕ}
@@ -10,7 +9,6 @@ use Rattle.message.specs.Parts.{bytes_at}
 use Rattle.writer.specs.Form.{lies_in}
 use Rattle.writer.specs.Private.Fit.{fit_prefix}
 use Rattle.writer.proofs.Parts.{prefix-outside, prefix-empty, prefix-control, prefix-word}
-use borrow.Author.Rules.{rules}
 use Rattle.writer.proofs.fit.fit_prefix.Goals as goal
 
 pub returns-then-not-m : goal.returns-then-not-m

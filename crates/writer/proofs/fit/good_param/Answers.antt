@@ -1,8 +1,6 @@
 -- `good_param` meets its contract: each return is the tests that led there. Assumes nothing.
 use mathlib.Core.Path.{sym, ◌∙◌}
-use borrow.Author.Tests.{not-true, not-false}
 use Rattle.writer.specs.Private.Fit.{good_param}
-use borrow.Author.Rules.{rules}
 use Rattle.writer.proofs.fit.good_param.Goals as goal
 
 pub returns-then-not-all_in : goal.returns-then-not-all_in

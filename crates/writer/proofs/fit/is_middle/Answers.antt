@@ -1,6 +1,5 @@
 -- `is_middle` meets its contract: each return is a law of `Parts` at what the tests before it showed. Assumes nothing.
 use Rattle.writer.proofs.Parts.{middle-nil, middle-colon, middle-word}
-use borrow.Author.Rules.{rules}
 use Rattle.writer.proofs.fit.is_middle.Goals as goal
 
 pub returns-then-p-eq0 : goal.returns-then-p-eq0

@@ -1,5 +1,4 @@
 -- `is_bare` meets its contract: its first byte decides. Assumes nothing.
-use borrow.Author.Rules.{rules}
 use Rattle.writer.proofs.Parts.{bare-nil, bare-colon, bare-byte}
 use Rattle.writer.proofs.form.is_bare.Goals as goal
 

@@ -1,12 +1,12 @@
 -- `put_capitals` meets its contract. The invariant: what was put, with the bytes from i on in capitals, is the whole. Assumes nothing.
 use mathlib.Core.Path.{◌≡◌, ap}
 use mathlib.Core.List.{◌∷◌, map}
-use Prim.Native.Nat.{◌+◌, ◌-◌, ◌≤◌}
-use lib.ListN.{length, drop, get_or, drop_of_length-le}
+use Prim.Native.Nat.{◌+◌}
+use lib.ListN.{drop, get_or, drop_of_length-le}
 use borrow.Author.Rules.{rules}
 use Rattle.octets.specs.Bytes.{capital}
 use Rattle.laws.proofs.Lists.{drop-step}
-use Rattle.octets.proofs.Room.{Begun, added, begun, begun-step, begun-end}
+use Rattle.octets.proofs.Room.{added, begun, begun-step, begun-end}
 use Rattle.writer.proofs.form.put_capitals.Goals as goal
 
 pub loop-i-init : goal.loop-i-init

@@ -1,5 +1,4 @@
 -- `put_command` meets its contract: the bytes are added, in capitals or as they are. Assumes nothing.
-use borrow.Author.Rules.{rules}
 use Rattle.octets.proofs.Room.{added}
 use Rattle.writer.proofs.form.put_command.Goals as goal
 

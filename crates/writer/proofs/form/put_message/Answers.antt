@@ -1,5 +1,4 @@
 -- `put_message` meets its contract: the parts of the written form are added one after the other. Assumes nothing.
-use borrow.Author.Rules.{rules}
 use Rattle.octets.proofs.Room.{added, adds_then}
 use Rattle.message.specs.Parts.{content_by}
 use Rattle.message.specs.Reading.{crlf}

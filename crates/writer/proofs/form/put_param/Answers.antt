@@ -1,7 +1,6 @@
 -- `put_param` meets its contract: a SPACE, perhaps ':', and the bytes are added one after the other. Assumes nothing.
 use mathlib.Core.Path.{sym, ◌∙◌}
 use mathlib.Core.List.{[], ◌∷◌}
-use borrow.Author.Rules.{rules}
 use Rattle.octets.specs.Bytes.{space, colon}
 use Rattle.octets.proofs.Room.{added, adds_then}
 use Rattle.writer.specs.Form.{written_param}

@@ -1,14 +1,11 @@
 -- `put_params` meets its contract. The invariant: what was put, with the parameters from k on, is the whole. Assumes nothing.
 use mathlib.Core.Path.{◌≡◌}
-use mathlib.Core.List.{map}
-use Prim.Native.Nat.{◌-◌, ◌≤◌}
 use native.Mathlib.Omega.{arith}
-use lib.ListN.{length, take, drop, drop_of_length-le, length-take}
+use lib.ListN.{length, take, drop_of_length-le, length-take}
 use borrow.Author.Rules.{rules}
 use Rattle.laws.proofs.Lists.{unmapped}
-use Rattle.octets.proofs.Room.{Begun, begun, begun-step, begun-end}
+use Rattle.octets.proofs.Room.{begun, begun-step, begun-end}
 use Rattle.message.specs.Grammar.{param_limit}
-use Rattle.message.specs.Parts.{bytes_at}
 use Rattle.writer.specs.Form.{written_params}
 use Rattle.writer.proofs.Parts.{written_step}
 use Rattle.writer.proofs.form.put_params.Goals as goal

@@ -1,6 +1,5 @@
 -- `put_prefix` meets its contract: ':', the bytes and a SPACE are added one after the other, or nothing. Assumes nothing.
 use mathlib.Core.List.{[], ◌∷◌}
-use borrow.Author.Rules.{rules}
 use borrow.Author.Tests.{not-true, not-false}
 use Rattle.octets.specs.Bytes.{space, colon}
 use Rattle.octets.proofs.Room.{added, adds-nothing, adds_then}

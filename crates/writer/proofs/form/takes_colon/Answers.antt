@@ -1,8 +1,6 @@
 -- `takes_colon` meets its contract: the definition asks for ':' exactly where the last parameter isn't read back without it. Assumes nothing.
 use mathlib.Core.Path.{sym, ap, ◌∙◌}
 use mathlib.Core.Bool.{not}
-use borrow.Author.Rules.{rules}
-use borrow.Author.Tests.{not-true, not-false}
 use Rattle.writer.proofs.Parts.{stands-fifteenth, stands-other, colon-exactly}
 use Rattle.writer.proofs.form.takes_colon.Goals as goal
 
