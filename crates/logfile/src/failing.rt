@@ -1,4 +1,9 @@
 // What a program says where a file, its input or its output fails.
+ghost use Rattle.std.specs.Prelude.{◌≡◌, OnOk, IfErr};
+ghost use Rattle.std.specs.Io.{ReadsAtMost};
+ghost use Rattle.std.specs.Io.KnownBytes.{ReadConsumes};
+ghost use Rattle.logfile.specs.Failing.{source_reader, source_why, source_remaining};
+
 use std::fmt::InlineText;
 use std::io;
 use std::io::{Print, Read};
@@ -15,7 +20,9 @@ pub struct Source<R> {
 
 impl<R: Read> Source<R> {
     // Nothing has failed yet. If a replay fails all the same, it has read more often than it can.
-    pub fn new(reader: R) -> Source<R> {
+    pub fn new(reader: R) -> Source<R>
+        ensures { source_reader result ≡ reader }
+    {
         Source {
             reader,
             why: io::Error::other("too many reads"),
@@ -23,15 +30,22 @@ impl<R: Read> Source<R> {
     }
 
     // Why reading failed.
-    pub fn why(&self) -> io::Error {
+    pub fn why(&self) -> io::Error
+        ensures { result ≡ source_why self.now }
+    {
         self.why
     }
 }
 
 impl<R: Read> Read for Source<R> {
-    ghost remaining = { λ s. R.remaining s.reader };
+    ghost remaining = { source_remaining R.remaining };
 
-    fn read(&mut self, buf: &mut [u8]) -> io::Result<usize> {
+    fn read(&mut self, buf: &mut [u8]) -> io::Result<usize>
+        ensures bound { ReadsAtMost result buf.new }
+        ensures bytes { ReadConsumes (source_remaining R.remaining self.old) (source_remaining R.remaining self.new) result buf.new }
+        ensures kept { IfErr result (λ e. source_why self.new ≡ e) }
+        ensures same { OnOk result (source_why self.new ≡ source_why self.old) }
+    {
         match self.reader.read(buf) {
             Ok(n) => Ok(n),
             Err(e) => {
