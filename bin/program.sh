@@ -5,8 +5,7 @@
 # shellcheck disable=SC2154
 [ -e /dev/fd/2 ] || exec 2>/dev/null
 root=$(dirname "$(dirname "$(readlink -f "$0")")")
-program=$root/target/bin/$crate
-stamp=$root/target/stamp/$crate
+program=$root/crates/$crate/out/$crate
 held=
 
 # Says why it ends, and ends.
@@ -37,10 +36,10 @@ needed() {
 
 # Whether the program is built and nothing that it is made of is newer. A folder is newer where a file of it is gone.
 is_built() {
-    [ -x "$program" ] && [ -f "$stamp" ] || return 1
+    [ -x "$program" ] || return 1
     local one
     [ -z "$(needed | while read -r one; do
-        find "$root/crates.txt" "$root/crates/$one"/{src,specs,proofs} -newer "$stamp" -print -quit 2>/dev/null
+        find "$root/crates.txt" "$root/crates/$one"/{src,specs,proofs} -newer "$program" -print -quit 2>/dev/null
     done)" ]
 }
 
@@ -56,12 +55,13 @@ stop() { # SIGNAL
     kill -s "$1" $$
 }
 
-# Proves a crate, with what rt says of it.
+# Proves a crate, with what rt says of it. The program's own is built too, by running it on no input.
 prove() { # CRATE
-    local said=$root/target/$name.log
-    (cd "$root" && exec setsid rt check "$1") </dev/null >"$said" 2>&1 &
+    local said=$root/target/$name.log verb=check
+    [ "$1" != "$crate" ] || verb=run
+    (cd "$root/crates/$1" && exec setsid rt "$verb" "$1") </dev/null >"$said" 2>&1 &
     if wait $!; then
-        grep "^rt: $1 " "$said" >&2
+        grep -o '^logic=proved functions=[0-9]*' "$said" | sed "s/^/rt: $1 /" >&2
         return 0
     fi
     cat "$said" >&2
@@ -95,7 +95,7 @@ build() {
         note "$one, crate $k of ${#crates[@]}"
         prove "$one"
     done
-    touch -r "$began" "$stamp"
+    touch -r "$began" "$program"
     trap - HUP INT QUIT TERM
 }
 

@@ -23,7 +23,7 @@ import time
 
 ROOT = pathlib.Path(__file__).resolve().parent.parent
 RELAY = ROOT / "bin" / "relay"
-CONSOLE = ROOT / "target" / "bin" / "console"
+CONSOLE = ROOT / "crates" / "console" / "out" / "console"
 CALLS = ROOT / "examples" / "calls.c"
 
 SEED = 20261117

@@ -19,7 +19,7 @@ import time
 
 HERE = pathlib.Path(__file__).resolve().parent
 
-# Writes down its call, and an overlap with another one; proves nothing. A stamp is left alone where it is there already, as rt's own are.
+# Writes down its call, and an overlap with another one; proves nothing. A program is left alone where it is there already, as by rt where nothing has changed.
 RT = """#!/bin/sh
 echo "$*" >>"$TREE/calls"
 mkdir "$TREE/busy" 2>/dev/null || echo overlap >>"$TREE/calls"
@@ -30,16 +30,15 @@ wait
 rmdir "$TREE/busy"
 if [ "$2" = "${UNPROVED-}" ]; then
     echo "a fact can't be shown"
-    echo "rt: $2 NOT PROVED (exit 1, 0 s)"
+    echo "logic=not-proved"
     exit 1
 fi
 echo "fn $2::main: proved"
-echo "rt: laws proved (unchanged since it was last proved)"
-[ "$2" = laws ] || echo "rt: $2 proved (0 s)"
-mkdir -p target/stamp target/bin
-[ -f "target/stamp/$2" ] || echo x >"target/stamp/$2"
-case $2 in
-console | day) [ -f "target/bin/$2" ] || cp "$TREE/program" "target/bin/$2" ;;
+echo "logic=proved functions=3 axioms=0"
+[ "$1" != run ] || echo "rt: running out/$2"
+mkdir -p out
+case $1 in
+run) [ -f "out/$2" ] || cp "$TREE/program" "out/$2" ;;
 esac
 """
 
@@ -107,19 +106,16 @@ class Tree:
         path.chmod(0o755)
 
     def built(self, program=PROGRAM):
-        for name in ["stamp/laws", "stamp/console", "stamp/day", "bin/console", "bin/day"]:
-            path = self.folder / "target" / name
-            path.parent.mkdir(parents=True, exist_ok=True)
-            path.write_text("x\n")
         for name in ["console", "day"]:
-            self.script(f"target/bin/{name}", program)
+            (self.folder / "crates" / name / "out").mkdir(exist_ok=True)
+            self.script(f"crates/{name}/out/{name}", program)
         return self
 
     def few_tools(self):
         """A folder with what bin/relay needs to build and to run, but for rt."""
         tools = self.folder / "few"
         tools.mkdir()
-        for name in ["bash", "sh", "env", "dirname", "readlink", "awk", "find", "cat", "grep", "mkdir", "touch", "flock", "setsid"]:
+        for name in ["bash", "sh", "env", "dirname", "readlink", "awk", "find", "cat", "grep", "sed", "mkdir", "touch", "flock", "setsid"]:
             (tools / name).symlink_to(shutil.which(name))
         return tools
 
@@ -206,38 +202,38 @@ def test_built_program_runs_for_a_user_without_write_access(tree):
 def test_what_the_program_needs_is_built_in_order_and_told(tree):
     status, out, err = tree.run(tree.log, input="a\n")
     equal((status, out), (0, f"{tree.log}\na\n"))
-    equal(tree.calls(), ["check laws", "check console"])
+    equal(tree.calls(), ["check laws", "run console"])
     lines = err.splitlines()
     equal([line[:6] for line in lines if not line.startswith("rt: ")], ["note: "] * 3)
     holds(lines[0], "minutes")
-    equal(lines[1:3], ["note: laws, crate 1 of 2", "rt: laws proved (unchanged since it was last proved)"])
-    equal(lines[3:], ["note: console, crate 2 of 2", "rt: console proved (0 s)"])
+    equal(lines[1:3], ["note: laws, crate 1 of 2", "rt: laws logic=proved functions=3"])
+    equal(lines[3:], ["note: console, crate 2 of 2", "rt: console logic=proved functions=3"])
 
 
 def test_newer_source_is_built_once(tree):
     for name in ["crates/laws/proofs/file", "crates/console/specs/file", "crates.txt"]:
         tree.built()
-        os.utime(tree.folder / "target/stamp/console", (1, 1))
+        os.utime(tree.folder / "crates/console/out/console", (1, 1))
         for path in [*(tree.folder / "crates").rglob("*"), tree.folder / "crates.txt"]:
             os.utime(path, (0, 0))
         equal(tree.run()[0], 0)
         equal(tree.calls(), [])
         os.utime(tree.folder / name, (2, 2))
         equal(tree.run()[0], 0)
-        equal(tree.calls(), ["check laws", "check console"])
+        equal(tree.calls(), ["check laws", "run console"])
         equal(tree.run()[0], 0)
-        equal(tree.calls(), ["check laws", "check console"])
+        equal(tree.calls(), ["check laws", "run console"])
         (tree.folder / "calls").unlink()
 
 
 def test_source_that_is_gone_is_noticed(tree):
     tree.built()
-    os.utime(tree.folder / "target/stamp/console", (1, 1))
+    os.utime(tree.folder / "crates/console/out/console", (1, 1))
     for path in [*(tree.folder / "crates").rglob("*"), tree.folder / "crates.txt"]:
         os.utime(path, (0, 0))
     (tree.folder / "crates/laws/src/file").unlink()
     equal(tree.run()[0], 0)
-    equal(tree.calls(), ["check laws", "check console"])
+    equal(tree.calls(), ["check laws", "run console"])
 
 
 def test_other_crates_are_no_matter(tree):
@@ -266,7 +262,7 @@ def test_two_starts_build_once(tree):
     equal([line[:6] for line in err.splitlines()], ["note: "])
     holds(err, "waiting")
     equal(first.wait(), 0)
-    equal(tree.calls(), ["check laws", "check console"])
+    equal(tree.calls(), ["check laws", "run console"])
     first.communicate()
 
 
@@ -274,7 +270,7 @@ def test_unproved_crate_is_told_in_full(tree):
     status, out, err = tree.run(more={"UNPROVED": "laws"})
     equal((status, out), (1, ""))
     equal(tree.calls(), ["check laws"])
-    holds(err, "a fact can't be shown\nrt: laws NOT PROVED")
+    holds(err, "a fact can't be shown\nlogic=not-proved")
     holds(err, "\nrelay: ")
 
 
@@ -353,7 +349,7 @@ def test_replay_is_started_as_the_relay_is(tree):
     equal(tree.calls(), [])
     tree.touch("crates/day/src/file")
     equal(tree.run(name="replay")[:2], (0, "\n"))
-    equal(tree.calls(), ["check laws", "check day"])
+    equal(tree.calls(), ["check laws", "run day"])
 
 
 def test_replay_help_version_and_wrong_usage(tree):
@@ -534,7 +530,7 @@ def test_replay_takes_no_lock(tree):
     equal((status, out[-7:], err), (0, "\na day\n", ""))
     first.communicate("", timeout=60)
     # nor does it keep a relay from one
-    tree.script("target/bin/day", WAITS)
+    tree.script("crates/day/out/day", WAITS)
     with open(tree.log) as log:
         reading = tree.start(name="replay", stdin=log, preexec_fn=restored)
     equal(reading.stdout.readline(), "started\n")

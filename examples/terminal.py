@@ -218,7 +218,7 @@ def test_reader_that_is_gone():
 
 
 def test_closed_standard_input_and_output():
-    program = ROOT / "target" / "bin" / "console"
+    program = ROOT / "crates" / "console" / "out" / "console"
     with tempfile.TemporaryDirectory() as folder:
         log = pathlib.Path(folder) / "log"
         for words in ["", str(log)]:

@@ -40,7 +40,7 @@ record() { # LINK LINE
 # ---- the day
 bin/relay <examples/morning.txt >"$room/out"
 same "the day" "$room/out" examples/morning.out
-console=target/bin/console
+console=crates/console/out/console
 
 head -c "$(wc -c <examples/morning.txt)" crates/console/stdin >"$room/in"
 same "the crate's own input begins with the day" "$room/in" examples/morning.txt
@@ -119,7 +119,7 @@ same "a journal is made" "$room/journal" "$room/expected"
 tail -n 5 examples/morning.out | sed '$d' >"$room/left"
 bin/replay <"$room/journal" >"$room/out"
 same "the journal replayed" "$room/out" "$room/left"
-day=target/bin/day
+day=crates/day/out/day
 for size in 1 7 511; do
     dd bs=$size if=crates/day/stdin 2>"$room/err" | $day >"$room/out"
     same "a log in pieces of $size" "$room/out" crates/day/stdout

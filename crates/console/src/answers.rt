@@ -1,5 +1,5 @@
 // Answers. Those to links' lines, and to what is no request, wait for the end of their group and are put behind one another in lent room; any other is written to
-// standard output at once. A function that writes says whether all of it was written.
+// standard output at once. A function that writes says why, where not all of it could be written.
 ghost use Rattle.std.specs.Prelude.{◌≡◌, cond, [], ◌∷◌, map, ◌≤◌, length};
 ghost use Rattle.octets.specs.Bytes.{comma};
 ghost use Rattle.laws.specs.Bits.{has_bit};
@@ -14,20 +14,21 @@ ghost use Rattle.console.specs.Buffers.{answer_room};
 
 use crate::showing::put_pointed;
 use bans::BanList;
-use libc::STDOUT_FILENO;
 use links::{Links, count, has_link};
 use listing::{LISTING_LIMIT, write_listing};
 use octets::decimals::put_decimal;
 use octets::{part, put};
 use refusal::ACCEPTED;
+use std::io;
+use std::io::Print;
 use table::{Banned, Head};
 use wording::words;
 
 // Room for any answer but the table: the longest has number, place and words, and a line of 512 bytes with a caret at its end.
 pub(crate) const ROOM: usize = 1152;
 
-pub(crate) fn print(s: &[u8]) -> bool {
-    io::write_all(STDOUT_FILENO, s)
+pub(crate) fn print(out: &impl Print, s: &[u8]) -> io::Result<()> {
+    out.write_all(s)
 }
 
 // Adds a SPACE and the words of a number, if they are asked for and there are any.
@@ -104,41 +105,44 @@ pub(crate) fn put_input(out: &mut [u8], at: usize) -> usize {
     put(out, at, b"! input\n")
 }
 
-fn say_numbered(mark: u8, number: u8, worded: bool) -> bool {
+fn say_numbered(out: &impl Print, mark: u8, number: u8, worded: bool) -> io::Result<()> {
     let mut text = [0u8; ROOM];
     let n = put_numbered(&mut text, 0, mark, number, 0, worded);
-    print(part(&text, 0, n))
+    print(out, part(&text, 0, n))
 }
 
 // The answer to a link registered or dropped.
-pub(crate) fn say_done(number: u8, worded: bool) -> bool {
-    say_numbered(b'=', number, worded)
+pub(crate) fn say_done(out: &impl Print, number: u8, worded: bool) -> io::Result<()> {
+    say_numbered(out, b'=', number, worded)
 }
 
 // The answer to a question whether a text is banned.
-pub(crate) fn say_banned(answer: Banned, worded: bool) -> bool {
+pub(crate) fn say_banned(out: &impl Print, answer: Banned, worded: bool) -> io::Result<()> {
     if answer.number != ACCEPTED {
-        return say_numbered(b'!', answer.number, worded);
+        return say_numbered(out, b'!', answer.number, worded);
     }
     if answer.yes {
-        return print(b"yes\n");
+        return print(out, b"yes\n");
     }
-    print(b"no\n")
+    print(out, b"no\n")
 }
 
 // The answer to '?': the table as text, and a line that says that there is no more.
-pub(crate) fn say_channels(t: Head, bans: &[u8; BanList::BANS]) -> bool {
+pub(crate) fn say_channels(
+    out: &impl Print,
+    t: Head,
+    bans: &[u8; BanList::BANS],
+) -> io::Result<()> {
     let mut text = [0u8; LISTING_LIMIT];
     let listed = write_listing(t, bans, &mut text);
-    if !print(part(&text, 0, listed.len)) {
-        return false;
-    }
-    print(b".\n")
+    print(out, part(&text, 0, listed.len))?;
+    print(out, b".\n")
 }
 
 // The answer to `help`.
-pub(crate) fn say_help() -> bool {
+pub(crate) fn say_help(out: &impl Print) -> io::Result<()> {
     print(
+        out,
         b"+N        registers link N\n-N        drops link N\nN LINE    takes LINE from link N\n?         prints the table\nbanned NAME TEXT\n          says whether TEXT is banned from channel NAME\nhelp      prints this\nCtrl-D    ends the program\n! NUMBER PLACE\n          answers a refused LINE; PLACE counts in LINE, from 0\n",
     )
 }

@@ -6,26 +6,33 @@ ghost use Rattle.console.specs.Daylog.{placed_text, refused_line, cut_line, unli
 
 use crate::answers::put_words;
 use bans::BanList;
-use libc::{SEEK_END, STDERR_FILENO};
 use links::Links;
-use logfile::{FileReplay, replay_file};
+use logfile::{FileReplay, Source, fail, replay_file};
 use octets::decimals::put_decimal;
 use octets::{part, put};
 use refusal::{ACCEPTED, LOG_CUT};
+use std::env::{Env, FillError};
+use std::fs::{File, OpenOptions};
+use std::io;
+use std::io::{ErrorKind, Print, Seek, SeekFrom, Write};
+use std::os::fd::AsRawFd;
+use std::str::from_utf8;
 use table::Head;
 
 // Room for what is said of the file, its name included.
 const SAYING: usize = 4200;
 
-// The last place that a file can have.
-const LAST_PLACE: u64 = 9223372036854775807;
+// Room for a path.
+const PATH: usize = 4096;
 
-// The file, where there is one. `ready` says that lines can be taken.
-#[derive(Clone, Copy)]
+// The number of standard error, and the last of the three that every program has.
+const STDERR: i32 = 2;
+
+// The file, where there is one that can be used. `ready` says that lines can be taken.
+#[derive(Drop)]
 pub(crate) struct Journal {
     pub(crate) ready: bool,
-    used: bool,
-    fd: i32,
+    file: Option<File>,
 }
 
 // The table that a day goes on with, and whether it can.
@@ -35,29 +42,34 @@ pub(crate) struct Restored {
     pub(crate) ready: bool,
 }
 
+// A name as the system is asked for it.
+fn name_of(path: &[u8]) -> io::Result<&str> {
+    match from_utf8(path) {
+        Ok(name) => Ok(name),
+        Err(_) => Err(io::Error::new(ErrorKind::InvalidInput, "the name isn't UTF-8")),
+    }
+}
+
 // Opens the file for reading and writing, and makes it where it is missing.
-fn open_or_make(path: &[u8]) -> i32 {
-    let fd = os::open_update(path);
-    if fd >= 0 {
-        return fd;
+fn open_or_make(rt: &HostRuntime, path: &[u8]) -> io::Result<File> {
+    let name = name_of(path)?;
+    match OpenOptions::new().read(true).write(true).open(rt, name) {
+        Ok(file) => Ok(file),
+        Err(e) => {
+            if e.kind() != ErrorKind::NotFound {
+                return Err(e);
+            }
+            File::create_new(rt, name)
+        }
     }
-    if os::errno() != libc::ENOENT {
-        return fd;
-    }
-    let made = os::create(path);
-    if made < 0 {
-        return made;
-    }
-    libc::close(made);
-    os::open_update(path)
 }
 
 // Says why the file can't be used.
-fn say_unusable(path: &[u8]) {
+fn say_unusable(rt: &HostRuntime, path: &[u8], why: io::Error) {
     let mut text = [0u8; SAYING];
     let opened = put(&mut text, 0, b"relay: ");
     let n = put(&mut text, opened, path);
-    os::fail(part(&text, 0, n));
+    fail(&rt.stderr(), part(&text, 0, n), why);
 }
 
 // How many bytes of a path name the folder: those up to and including its last '/'.
@@ -72,82 +84,101 @@ fn folder_len(path: &[u8]) -> usize {
     0
 }
 
-// Whether a folder is synced, which keeps the names of its files. Where it can't be, why is said.
-fn sync_folder(path: &[u8]) -> bool {
-    let fd = os::open_read(path);
-    if fd < 0 {
-        say_unusable(path);
-        return false;
+// Syncs a folder, which keeps the names of its files.
+fn sync_opened(rt: &HostRuntime, path: &[u8]) -> io::Result<()> {
+    let folder = File::open(rt, name_of(path)?)?;
+    folder.sync_all()
+}
+
+// Whether a folder is synced. Where it can't be, why is said.
+fn sync_folder(rt: &HostRuntime, path: &[u8]) -> bool {
+    match sync_opened(rt, path) {
+        Ok(()) => true,
+        Err(e) => {
+            say_unusable(rt, path, e);
+            false
+        }
     }
-    let synced = libc::fsync(fd);
-    if synced != 0 {
-        say_unusable(path);
-    }
-    libc::close(fd);
-    synced == 0
 }
 
 // Whether the file's name is on the disk.
-fn sync_name(path: &[u8]) -> bool {
+fn sync_name(rt: &HostRuntime, path: &[u8]) -> bool {
     let n = folder_len(path);
     if n == 0 {
-        return sync_folder(b".");
+        return sync_folder(rt, b".");
     }
-    sync_folder(part(path, 0, n))
+    sync_folder(rt, part(path, 0, n))
 }
 
 // Whether what the file holds is on the disk, and its name. A pipe or a terminal can't be synced, and is no day log.
-fn sync_file(fd: i32, path: &[u8]) -> bool {
-    if libc::fdatasync(fd) != 0 {
-        say_unusable(path);
+fn sync_file(rt: &HostRuntime, file: &File, path: &[u8]) -> bool {
+    if let Err(e) = file.sync_data() {
+        say_unusable(rt, path, e);
         return false;
     }
-    sync_name(path)
+    sync_name(rt, path)
 }
 
-// Whether the file can be used. Where standard input, output or error is closed, the file has got its number, and what is written there would stand in the day log:
+// Whether the file has a number of its own. Where standard input, output or error is closed, it has got theirs.
+fn is_apart(file: &File) -> bool {
+    file.as_raw_fd() > STDERR
+}
+
+// Where standard input, output or error is closed.
+fn say_closed(rt: &HostRuntime) {
+    let _ = Print::write_all(
+        &rt.stderr(),
+        b"relay: standard input, output or error is closed\n",
+    );
+}
+
+// The file, if it can be used. Where standard input, output or error is closed, the file has got its number, and what is written there would stand in the day log:
 // then it is closed first.
-fn is_usable(fd: i32, path: &[u8]) -> bool {
-    if fd < 0 {
-        say_unusable(path);
-        return false;
+fn usable(rt: &HostRuntime, opened: io::Result<File>, path: &[u8]) -> Option<File> {
+    let file = match opened {
+        Ok(file) => file,
+        Err(e) => {
+            say_unusable(rt, path, e);
+            return None;
+        }
+    };
+    if !is_apart(&file) {
+        drop(file);
+        say_closed(rt);
+        return None;
     }
-    if fd <= STDERR_FILENO {
-        libc::close(fd);
-        io::write_all(
-            STDERR_FILENO,
-            b"relay: standard input, output or error is closed\n",
-        );
-        return false;
+    if !sync_file(rt, &file, path) {
+        return None;
     }
-    sync_file(fd, path)
+    Some(file)
 }
 
 // Opens the journal that the first argument names. Without an argument there is none.
-pub(crate) fn open_journal() -> Journal {
-    if os::arg_count() < 2 {
-        return Journal {
-            ready: true,
-            used: false,
-            fd: -1,
-        };
-    }
-    let mut path = io::buffer();
-    let n = os::arg(1, &mut path);
-    if os::errno() != 0 {
-        os::fail(b"relay: the day log's name");
-        return Journal {
-            ready: false,
-            used: true,
-            fd: -1,
-        };
-    }
-    let fd = open_or_make(&path[..n]);
-    let ready = is_usable(fd, &path[..n]);
+pub(crate) fn open_journal(rt: &HostRuntime) -> Journal {
+    let mut path = [0u8; PATH];
+    let n = match rt.arg(1, &mut path) {
+        Ok(n) => n,
+        Err(FillError::NotPresent) => {
+            return Journal {
+                ready: true,
+                file: None,
+            };
+        }
+        Err(FillError::TooLong) => {
+            let _ = Print::write_all(
+                &rt.stderr(),
+                b"relay: the day log's name: File name too long\n",
+            );
+            return Journal {
+                ready: false,
+                file: None,
+            };
+        }
+    };
+    let file = usable(rt, open_or_make(rt, &path[..n]), &path[..n]);
     Journal {
-        ready,
-        used: true,
-        fd,
+        ready: file.is_some(),
+        file,
     }
 }
 
@@ -180,52 +211,42 @@ fn put_cut(out: &mut [u8], place: u64) -> usize
     put(out, placed, b"\n")
 }
 
-// Makes the file as long as that, on the disk, and says whether that is done.
-fn cut(fd: i32, length: i64) -> bool {
-    if libc::ftruncate(fd, length) != 0 {
-        return false;
-    }
-    libc::fdatasync(fd) == 0
-}
-
-// The same for a place of the log, which is one of the file.
-fn cut_at(fd: i32, place: u64) -> bool {
-    if LAST_PLACE < place {
-        return false;
-    }
-    cut(fd, place as i64)
+// Makes the file as long as that, on the disk.
+fn cut(file: &File, length: u64) -> io::Result<()> {
+    file.set_len(length)?;
+    file.sync_data()
 }
 
 // Cuts off the torn record at a place, with which the log ends, and says so.
-fn cut_off(fd: i32, place: u64) -> bool {
-    if !cut_at(fd, place) {
-        os::fail(b"relay: day log");
+fn cut_off(rt: &HostRuntime, file: &File, place: u64) -> bool {
+    if let Err(e) = cut(file, place) {
+        fail(&rt.stderr(), b"relay: day log", e);
         return false;
     }
     let mut text = [0u8; SAYING];
     let n = put_cut(&mut text, place);
-    io::write_all(STDERR_FILENO, part(&text, 0, n));
+    let _ = Print::write_all(&rt.stderr(), part(&text, 0, n));
     true
 }
 
 // Whether the day can go on where its log ends. A last record that is torn is cut off: its line wasn't answered. Any other fault leaves the file alone.
-fn is_sound(fd: i32, r: FileReplay) -> bool
+fn is_sound(rt: &HostRuntime, file: &File, r: FileReplay, why: io::Error) -> bool
     ensures read { result ≡ true → r.failed ≡ false }
     ensures sound { result ≡ true → goes_on r.number ≡ true }
 {
     if r.failed {
-        os::fail(b"relay: day log");
+        fail(&rt.stderr(), b"relay: day log", why);
         return false;
     }
     if r.number == ACCEPTED {
         return true;
     }
     if r.number == LOG_CUT {
-        return cut_off(fd, r.used);
+        return cut_off(rt, file, r.used);
     }
     let mut text = [0u8; SAYING];
     let n = put_refused(&mut text, r.number, r.place);
-    io::write_all(STDERR_FILENO, part(&text, 0, n));
+    let _ = Print::write_all(&rt.stderr(), part(&text, 0, n));
     false
 }
 
@@ -241,56 +262,60 @@ fn unlinked(head: Head) -> Head
 }
 
 // The table that the log leaves; no link is registered, as at any start.
-pub(crate) fn restore(journal: Journal, bans: &mut [u8; BanList::BANS]) -> Restored
+pub(crate) fn restore(
+    rt: &HostRuntime,
+    journal: &Journal,
+    bans: &mut [u8; BanList::BANS],
+) -> Restored
     ensures { OfSomeStart result bans.new }
 {
-    if !journal.used {
+    let Some(file) = &journal.file else {
         return Restored {
             head: Head::empty(bans),
-            ready: true,
+            ready: journal.ready,
         };
-    }
-    if !journal.ready {
-        return Restored {
-            head: Head::empty(bans),
-            ready: false,
-        };
-    }
-    let r = replay_file(journal.fd, bans);
-    let ready = is_sound(journal.fd, r);
+    };
+    let mut source = Source::new(file);
+    let r = replay_file(&mut source, bans);
+    let ready = is_sound(rt, file, r, source.why());
     Restored {
         head: unlinked(r.head),
         ready,
     }
 }
 
-// Writes records at the end of the file, in one go, and says whether they are on the disk.
-fn write_synced(fd: i32, records: &[u8]) -> bool {
-    if !io::write_all(fd, records) {
-        return false;
-    }
-    libc::fdatasync(fd) == 0
+// Writes records at the end of the file, in one go, and on the disk.
+fn write_synced(mut file: &File, records: &[u8]) -> io::Result<()> {
+    file.write_all(records)?;
+    file.sync_data()
 }
 
-// Whether a group's records are kept. Where they can't be, the file is cut back to its length before them, and what failed is said.
-pub(crate) fn keep(journal: Journal, records: &[u8]) -> bool {
-    if !journal.used {
+// Whether a group's records are kept in the file. Where they can't be, it is cut back to its length before them, and what failed is said.
+fn keep_in(rt: &HostRuntime, mut file: &File, records: &[u8]) -> bool {
+    let before = match file.seek(SeekFrom::End(0)) {
+        Ok(before) => before,
+        Err(e) => {
+            fail(&rt.stderr(), b"relay: day log", e);
+            return false;
+        }
+    };
+    let Err(e) = write_synced(file, records) else {
         return true;
+    };
+    fail(&rt.stderr(), b"relay: day log", e);
+    if let Err(e) = cut(file, before) {
+        fail(&rt.stderr(), b"relay: day log, cutting it back", e);
     }
+    false
+}
+
+// Whether a group's records are kept, where there is a journal.
+pub(crate) fn keep(rt: &HostRuntime, journal: &Journal, records: &[u8]) -> bool {
     if records.len() == 0 {
         return true;
     }
-    let before = libc::lseek(journal.fd, 0, SEEK_END);
-    if before < 0 {
-        os::fail(b"relay: day log");
-        return false;
+    match &journal.file {
+        Some(file) => keep_in(rt, file, records),
+        None => true,
     }
-    if write_synced(journal.fd, records) {
-        return true;
-    }
-    os::fail(b"relay: day log");
-    if !cut(journal.fd, before) {
-        os::fail(b"relay: day log, cutting it back");
-    }
-    false
 }

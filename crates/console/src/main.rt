@@ -5,7 +5,7 @@
 // group: they are answered together, at its end. Any other request closes the group before it.
 // With an argument, the file of that name is the day log. Its records are taken first, so that the day goes on where it was; then the records of each group's accepted
 // lines are added, and on the disk, before any line of the group is answered. What makes the program stop is said on standard error in a line that begins with
-// 'relay: ', by which bin/relay knows, since a program of this language has no exit status.
+// 'relay: ', by which bin/relay knows: the program's own status is 0 whatever it says.
 #![tactic(auto)]
 
 mod answers;
@@ -25,13 +25,15 @@ use answers::{
 use bans::BanList;
 use daylog::{Journal, keep, open_journal, restore};
 use groups::{ANSWERS, RECORDS, has_room, put_record};
-use libc::{STDERR_FILENO, STDIN_FILENO};
 use lines::{Pending, ends_in_lf, extended, line_end};
+use logfile::fail;
 use message::LINE_LIMIT;
 use octets::part;
 use refusal::ACCEPTED;
 use relay::process;
 use requests::{Request, line_from, name_in, put_typed, request_in, text_in, typed_request};
+use std::io;
+use std::io::{IsTerminal, Print, Read};
 use table::{Head, is_banned, register, unregister};
 
 // Room for a line that was typed.
@@ -39,7 +41,7 @@ const TYPED: usize = 575;
 
 // What is kept from one line to the next, but for what is lent: the ban lists, and the records and answers of the group. The table's head, the line under way, the
 // journal, how many bytes of records and of answers the group has, whether the input is typed, and whether the program goes on.
-#[derive(Clone, Copy)]
+#[derive(Drop)]
 struct Session {
     head: Head,
     pending: Pending,
@@ -51,15 +53,16 @@ struct Session {
 }
 
 // Whether an answer was written. Where it wasn't, the program stops: whoever waits for it can't be told.
-fn went(written: bool) -> bool {
-    if !written {
-        os::fail(b"relay: standard output");
+fn went(rt: &HostRuntime, written: io::Result<()>) -> bool {
+    if let Err(e) = written {
+        fail(&rt.stderr(), b"relay: standard output", e);
+        return false;
     }
-    written
+    true
 }
 
 // Closes the group: its records are kept, and then it is answered. Where either fails the program stops.
-fn close_group(mut s: Session, records: &[u8], answers: &[u8]) -> Session
+fn close_group(rt: &HostRuntime, mut s: Session, records: &[u8], answers: &[u8]) -> Session
     ensures { (result.recorded ≡ 0) × (result.answered ≡ 0) }
 {
     let recorded = s.recorded;
@@ -69,11 +72,11 @@ fn close_group(mut s: Session, records: &[u8], answers: &[u8]) -> Session
     if !s.more {
         return s;
     }
-    if !keep(s.journal, part(records, 0, recorded)) {
+    if !keep(rt, &s.journal, part(records, 0, recorded)) {
         s.more = false;
         return s;
     }
-    s.more = went(print(part(answers, 0, answered)));
+    s.more = went(rt, print(rt, part(answers, 0, answered)));
     s
 }
 
@@ -110,7 +113,13 @@ fn take(
 }
 
 // Answers a request that is no link's line, the group before it being closed.
-fn reply(mut s: Session, bans: &[u8; BanList::BANS], request: Request, input: &[u8]) -> Session {
+fn reply(
+    rt: &HostRuntime,
+    mut s: Session,
+    bans: &[u8; BanList::BANS],
+    request: Request,
+    input: &[u8],
+) -> Session {
     if !s.more {
         return s;
     }
@@ -119,20 +128,20 @@ fn reply(mut s: Session, bans: &[u8; BanList::BANS], request: Request, input: &[
             let r = register(s.head, bans, link);
             let head = r.head;
             s.head = head;
-            s.more = went(say_done(r.number, s.typed));
+            s.more = went(rt, say_done(rt, r.number, s.typed));
         }
         Request::Unregister(link) => {
             let r = unregister(s.head, bans, link);
             let head = r.head;
             s.head = head;
-            s.more = went(say_done(r.number, s.typed));
+            s.more = went(rt, say_done(rt, r.number, s.typed));
         }
         Request::Banned(end, start) => {
             let answer = is_banned(s.head, bans, name_in(input, end), text_in(input, start));
-            s.more = went(say_banned(answer, s.typed));
+            s.more = went(rt, say_banned(rt, answer, s.typed));
         }
-        Request::Channels => s.more = went(say_channels(s.head, bans)),
-        Request::Help => s.more = went(say_help()),
+        Request::Channels => s.more = went(rt, say_channels(rt, s.head, bans)),
+        Request::Help => s.more = went(rt, say_help(rt)),
         Request::Take(_, _) => return s,
         Request::Unknown => return s,
         Request::Nothing => return s,
@@ -142,6 +151,7 @@ fn reply(mut s: Session, bans: &[u8; BanList::BANS], request: Request, input: &[
 
 // Answers an input line: a whole one, or the last one, which is taken as it is.
 fn respond(
+    rt: &HostRuntime,
     mut s: Session,
     bans: &mut [u8; BanList::BANS],
     records: &mut [u8],
@@ -165,12 +175,19 @@ fn respond(
             s
         }
         Request::Nothing => s,
-        _ => reply(close_group(s, records, answers), bans, request, input),
+        _ => reply(
+            rt,
+            close_group(rt, s, records, answers),
+            bans,
+            request,
+            input,
+        ),
     }
 }
 
 // Answers a line that was typed, whose CR may be missing.
 fn respond_typed(
+    rt: &HostRuntime,
     s: Session,
     bans: &mut [u8; BanList::BANS],
     records: &mut [u8],
@@ -182,11 +199,12 @@ fn respond_typed(
     let mut text = [0u8; TYPED];
     let n = put_typed(line, &mut text);
     let taken = part(&text, 0, n);
-    respond(s, bans, records, answers, typed_request(taken), taken)
+    respond(rt, s, bans, records, answers, typed_request(taken), taken)
 }
 
 // The line under way is at its end: it is answered, unless the program stops, and the next one begins.
 fn answer(
+    rt: &HostRuntime,
     mut s: Session,
     bans: &mut [u8; BanList::BANS],
     records: &mut [u8],
@@ -202,14 +220,15 @@ fn answer(
     let none = Pending::empty();
     s.pending = none;
     if s.typed {
-        return respond_typed(s, bans, records, answers, line);
+        return respond_typed(rt, s, bans, records, answers, line);
     }
     let input = part(&bytes, 0, line.len);
-    respond(s, bans, records, answers, request_in(input), input)
+    respond(rt, s, bans, records, answers, request_in(input), input)
 }
 
 // Answers the line under way in the group, or in a new one where that is full.
 fn finish(
+    rt: &HostRuntime,
     s: Session,
     bans: &mut [u8; BanList::BANS],
     records: &mut [u8],
@@ -218,14 +237,15 @@ fn finish(
     requires { (length records.old ≡ records_room) × (length answers.old ≡ answers_room) }
 {
     if has_room(s.recorded, s.answered) {
-        return answer(s, bans, records, answers);
+        return answer(rt, s, bans, records, answers);
     }
-    let next = close_group(s, records, answers);
-    answer(next, bans, records, answers)
+    let next = close_group(rt, s, records, answers);
+    answer(rt, next, bans, records, answers)
 }
 
 // Bytes of the line under way, up to its LF or the end of what was read.
 fn take_part(
+    rt: &HostRuntime,
     mut s: Session,
     bans: &mut [u8; BanList::BANS],
     records: &mut [u8],
@@ -237,13 +257,14 @@ fn take_part(
     let line = extended(s.pending, bytes);
     s.pending = line;
     if ends_in_lf(bytes) {
-        return finish(s, bans, records, answers);
+        return finish(rt, s, bans, records, answers);
     }
     s
 }
 
 // A piece of the input, which may begin and end anywhere in a line.
 fn take_piece(
+    rt: &HostRuntime,
     start: Session,
     bans: &mut [u8; BanList::BANS],
     records: &mut [u8],
@@ -256,7 +277,7 @@ fn take_piece(
     let mut at = 0;
     while at < piece.len() && s.more {
         let end = line_end(piece, at);
-        s = take_part(s, bans, records, answers, part(piece, at, end));
+        s = take_part(rt, s, bans, records, answers, part(piece, at, end));
         at = end;
     }
     s
@@ -264,6 +285,7 @@ fn take_piece(
 
 // The last line, which is under way where the input ends: it is taken as it is.
 fn take_last(
+    rt: &HostRuntime,
     s: Session,
     bans: &mut [u8; BanList::BANS],
     records: &mut [u8],
@@ -275,11 +297,12 @@ fn take_last(
     if line.len == 0 {
         return s;
     }
-    finish(s, bans, records, answers)
+    finish(rt, s, bans, records, answers)
 }
 
 // The input is at its end.
 fn close(
+    rt: &HostRuntime,
     s: Session,
     bans: &mut [u8; BanList::BANS],
     records: &mut [u8],
@@ -287,14 +310,15 @@ fn close(
 ) -> Session
     requires { (length records.old ≡ records_room) × (length answers.old ≡ answers_room) }
 {
-    let taken = take_last(s, bans, records, answers);
-    let mut last = close_group(taken, records, answers);
+    let taken = take_last(rt, s, bans, records, answers);
+    let mut last = close_group(rt, taken, records, answers);
     last.more = false;
     last
 }
 
 // One read, and the group of its lines. Where it fails the program stops: what is under way isn't the last line, but a torn one.
 fn step(
+    rt: &HostRuntime,
     mut s: Session,
     bans: &mut [u8; BanList::BANS],
     records: &mut [u8],
@@ -303,50 +327,58 @@ fn step(
     requires { (length records.old ≡ records_room) × (length answers.old ≡ answers_room) }
 {
     let mut piece = [0u8; 4096];
-    let got = libc::read(STDIN_FILENO, &mut piece);
-    if got < 0 {
-        os::fail(b"relay: standard input");
-        s.more = false;
-        return s;
+    let mut input = rt.stdin();
+    let n = match input.read(&mut piece) {
+        Ok(n) => n,
+        Err(e) => {
+            fail(&rt.stderr(), b"relay: standard input", e);
+            s.more = false;
+            return s;
+        }
+    };
+    if n == 0 {
+        return close(rt, s, bans, records, answers);
     }
-    if got == 0 {
-        return close(s, bans, records, answers);
-    }
-    let n = io::count(got, &piece);
-    let taken = take_piece(s, bans, records, answers, &piece[..n]);
-    close_group(taken, records, answers)
+    let taken = take_piece(rt, s, bans, records, answers, &piece[..n]);
+    close_group(rt, taken, records, answers)
 }
 
 // Whether the input is typed, at a terminal. If so, whoever types is told how to begin.
-fn is_typed() -> bool {
-    if libc::isatty(STDIN_FILENO) != 1 {
+fn is_typed(rt: &HostRuntime) -> bool {
+    if !rt.stdin().is_terminal() {
         return false;
     }
-    io::write_all(STDERR_FILENO, b"note: help prints the requests\n");
+    let _ = Print::write_all(&rt.stderr(), b"note: help prints the requests\n");
     true
 }
 
 // Reads until the input ends. The turns are counted since nothing else says that the loop ends: the input could go on forever.
-fn serve(start: Session, bans: &mut [u8; BanList::BANS], records: &mut [u8], answers: &mut [u8])
+fn serve(
+    rt: &HostRuntime,
+    start: Session,
+    bans: &mut [u8; BanList::BANS],
+    records: &mut [u8],
+    answers: &mut [u8],
+)
     requires { (length records.old ≡ records_room) × (length answers.old ≡ answers_room) }
 {
     let mut s = start;
     let mut turns = u64::MAX;
     while turns > 0 && s.more {
-        s = step(s, bans, records, answers);
+        s = step(rt, s, bans, records, answers);
         turns -= 1;
     }
 }
 
-fn main() {
+fn main(rt: HostRuntime) {
     let mut bans = [0u8; BanList::BANS];
-    let journal = open_journal();
-    let restored = restore(journal, &mut bans);
+    let journal = open_journal(&rt);
+    let restored = restore(&rt, &journal, &mut bans);
     if !restored.ready {
         return;
     }
     let head = restored.head;
-    let typed = is_typed();
+    let typed = is_typed(&rt);
     let s = Session {
         head,
         pending: Pending::empty(),
@@ -358,5 +390,5 @@ fn main() {
     };
     let mut records = [0u8; RECORDS];
     let mut answers = [0u8; ANSWERS];
-    serve(s, &mut bans, &mut records, &mut answers);
+    serve(&rt, s, &mut bans, &mut records, &mut answers);
 }

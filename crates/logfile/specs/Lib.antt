@@ -1,3 +1,4 @@
 pub mod Files
+pub mod Failing
 pub mod Restarts
 pub mod Private

@@ -1,6 +1,7 @@
 // The replay of a day log that is read from a file (document 02, §5), for the programs: piece by piece, so that a log of any size takes the same room.
 #![tactic(auto)]
 
+mod failing;
 mod progress;
 
 ghost use Rattle.std.specs.Prelude.{◌≡◌, true, ◌+◌, ◌≤◌};
@@ -8,7 +9,9 @@ ghost use Rattle.logfile.specs.Private.Progress.{room, place_limit, ReadSoFar, a
 ghost use Rattle.logfile.specs.Files.{OfSomeLog};
 
 use bans::BanList;
+pub use failing::{Source, fail};
 use progress::{PIECE, Progress, close, go_on};
+use std::io::Read;
 use table::Head;
 
 // The table's head after, all links being registered; the place behind the last record that was taken; the number of what ended the replay, and its place in the log,
@@ -26,23 +29,21 @@ pub struct FileReplay {
 const TURNS: u64 = 2251799813685248;
 
 // One read. Where it fails there is no answer: what came isn't the whole log.
-fn step(mut c: Progress, bans: &mut [u8; BanList::BANS], fd: i32) -> Progress
+fn step<R: Read>(mut c: Progress, bans: &mut [u8; BanList::BANS], file: &mut R) -> Progress
     requires { (c.more ≡ true) × (c.at ≤ place_limit) }
     ensures near { result.at ≤ c.at + room }
     ensures read { ReadSoFar c bans.old → ReadSoFar result bans.new }
 {
     let mut piece = [0u8; PIECE];
-    let got = libc::read(fd, &mut piece);
-    if got < 0 {
-        c.more = false;
-        c.failed = true;
-        return c;
+    match file.read(&mut piece) {
+        Ok(0) => close(c, bans),
+        Ok(n) => go_on(c, bans, &piece[..n]),
+        Err(_) => {
+            c.more = false;
+            c.failed = true;
+            c
+        }
     }
-    if got == 0 {
-        return close(c, bans);
-    }
-    let n = io::count(got, &piece);
-    go_on(c, bans, &piece[..n])
 }
 
 // What the log has come to, or that this is no answer.
@@ -60,13 +61,13 @@ fn answer(c: Progress, failed: bool) -> FileReplay
 }
 
 // Replays the log that a file holds, from where it stands to its end.
-pub fn replay_file(fd: i32, bans: &mut [u8; BanList::BANS]) -> FileReplay
+pub fn replay_file<R: Read>(file: &mut R, bans: &mut [u8; BanList::BANS]) -> FileReplay
     ensures { OfSomeLog result bans.new }
 {
     let mut c = Progress::begin(bans);
     let mut turns = TURNS;
     while turns > 0 && c.more {
-        c = step(c, bans, fd);
+        c = step(c, bans, file);
         turns -= 1;
     }
     if c.more {
