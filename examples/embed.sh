@@ -1,6 +1,6 @@
 #!/usr/bin/env bash
 # Builds examples/embed.c over the core's static library, runs it and compares what it prints with examples/embed.txt; sees that wrong headers are
-# noticed; runs every function on as little stack as the header says (examples/stack.c); and asks for a library that isn't there. The library is that of `rt staticlib capi`; RELAY_LIB_DIR names another folder, CC another compiler.
+# noticed; runs every function on as little stack as the header says (examples/stack.c); and asks for a library that isn't there. The library is that of `rt lib` in crates/capi; RELAY_LIB_DIR names another folder, CC another compiler.
 # The last line is 'N passed, M failed'.
 set -uo pipefail
 cd "$(dirname "$0")/.." || exit 2
@@ -22,7 +22,7 @@ try() {
 
 # build HEADERS PROGRAM [SOURCE] [OPTION]
 build() {
-    "${CC:-cc}" -std=c99 -pedantic -Wall -Wextra -Werror "${4:--O2}" "-I$1" "examples/${3:-embed.c}" "${RELAY_LIB_DIR:-target/staticlib}/libcapi.a" -o "$2"
+    "${CC:-cc}" -std=c99 -pedantic -Wall -Wextra -Werror "${4:--O2}" "-I$1" "examples/${3:-embed.c}" "${RELAY_LIB_DIR:-crates/capi/out}/libcapi.a" -o "$2"
 }
 
 # prints PROGRAM: whether it does what examples/embed.txt says, the difference printed
@@ -63,7 +63,7 @@ overflows() {
 tells_missing() {
     local said
     said=$(RELAY_LIB_DIR=$folder cargo build --offline --locked --manifest-path rust/Cargo.toml --target-dir "$folder/rust" -p relay 2>&1) && return 1
-    grep -q "libcapi.a isn't there: \`rt staticlib capi\`" <<<"$said" && ! grep -qi 'panic\|backtrace' <<<"$said"
+    grep -q "libcapi.a isn't there: \`rt lib\`" <<<"$said" && ! grep -qi 'panic\|backtrace' <<<"$said"
 }
 
 try 'what it prints' as_told

@@ -2,8 +2,8 @@
 /*
  * The relay core, for programs in C and C++ on x86-64 Linux.
  *
- * Build:  rt staticlib capi                   proves the core and writes target/staticlib/libcapi.a
- *         cc -Iinclude yours.c target/staticlib/libcapi.a
+ * Build:  (cd crates/capi && rt lib)          proves the core and writes crates/capi/out/libcapi.a
+ *         cc -Iinclude yours.c crates/capi/out/libcapi.a
  *
  * What it is. The relay holds one table: sixteen channels, each with its ban list, and the registered links, numbered 0 to 31. You hand
  * it each line that comes in by a link; it folds the line into the table and answers the line to send on, and to which links. A feeder,

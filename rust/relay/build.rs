@@ -1,5 +1,5 @@
-//! Links the core's static library, which `rt staticlib capi` writes. Another folder can be named by
-//! the variable RELAY_LIB_DIR. RELAY_EARLIER_LIB names the file of an earlier library, which is
+//! Links the core's static library, which `rt lib` in crates/capi writes. Another folder can be named
+//! by the variable RELAY_LIB_DIR. RELAY_EARLIER_LIB names the file of an earlier library, which is
 //! linked beside it for the benchmark, its symbols renamed. It may lack the feeder's functions and
 //! the reader of day logs, and its tables may have no ban lists, which the option
 //! earlier_without_lists tells the crate. Whether it tells places is read from its layout at run time.
@@ -19,9 +19,7 @@ fn main() {
     let library = folder.join("libcapi.a");
     if !library.exists() {
         let missing = library.display();
-        println!(
-            "cargo::error={missing} isn't there: `rt staticlib capi`, in the repository, makes it."
-        );
+        println!("cargo::error={missing} isn't there: `rt lib`, in crates/capi, makes it.");
         return;
     }
     let [prefix, feeder_prefix, log_prefix] = match variable("RELAY_EARLIER_LIB") {
@@ -64,7 +62,7 @@ fn variable(name: &str) -> Option<OsString> {
 
 fn default_folder() -> PathBuf {
     let here = env::var_os("CARGO_MANIFEST_DIR").expect("cargo sets it");
-    PathBuf::from(here).join("../../target/staticlib")
+    PathBuf::from(here).join("../../crates/capi/out")
 }
 
 /// Links a library that stands in a folder under some name, and has this run again where the file

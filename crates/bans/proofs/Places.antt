@@ -8,7 +8,7 @@ use lib.ListN.{length, take, drop, get_or, length-map, get_or-map, get_or-eq_def
 use lib.Seq.{drop-drop, length-take-le, get_or-take}
 use borrow.Author.Tests.{lt-ltb, le-ltb}
 use Rattle.laws.specs.Lists.{all}
-use Rattle.laws.proofs.Lists.{drop-step, get_d_any}
+use Rattle.laws.proofs.Lists.{drop-step, get_or_any}
 use Rattle.octets.proofs.Room.{part-next}
 use Rattle.channel.specs.Limits.{ban_limit}
 use Rattle.bans.specs.Limits.{room_size}
@@ -107,7 +107,7 @@ module _ (s : List ℕ) (i : ℕ) (h : i < mask_count s) where
   unfolding masks
   masks-at =
       let few : i < length (map mask_in (used_rooms s)) = omega (arith, length-map (used_rooms s) mask_in, length-used s) in
-      sym (get_d_any (map mask_in (used_rooms s)) i [] (mask_in []) few ∙ get_or-map mask_in (used_rooms s) i [] ∙ ap mask_in used-at)
+      sym (get_or_any (map mask_in (used_rooms s)) i [] (mask_in []) few ∙ get_or-map mask_in (used_rooms s) i [] ∙ ap mask_in used-at)
 
   -- which begins one byte into the room
   pub starts-in : (r : List ℕ) → r ≡ room_in s i → min 1 (length r) + min (1 + room_size * i) (length s) ≡ mask_start s i

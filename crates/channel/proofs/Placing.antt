@@ -10,7 +10,7 @@ use lib.Seq.{split_at, take-suc, take-length, drop-length, length-take-le, get_o
 use Rattle.laws.specs.Lists.{same, padded}
 use Rattle.octets.specs.Order.{compare, is_less}
 use Rattle.ascending.specs.Ascending.{put}
-use Rattle.laws.proofs.Lists.{drop-step, get_d_any, get_or-padded, length-padded, set-padded-at, padded-more}
+use Rattle.laws.proofs.Lists.{drop-step, get_or_any, get_or-padded, length-padded, set-padded-at, padded-more}
 use Rattle.octets.proofs.Bytes.{same_true}
 use Rattle.ascending.proofs.Ascends.{Above, Under, Ascending, joined, less-says, less-fails, ascends-says, put-between, put-joined, under-take, under-upto}
 use Rattle.channel.specs.declared.Member.{Member}
@@ -48,7 +48,7 @@ module _ (l : List Member) (room : length l < member_limit) where
         ∙ get_or-padded nobody member_limit (take p l ++ s.stale ∷ drop p l) k d (omega arith)
         ∙ get_or-append (take p l) (s.stale ∷ drop p l) nobody k (omega (arith, length-take-le p l h))
         ∙ get_or-take p l k nobody lt
-        ∙ get_d_any l k nobody d (omega arith)
+        ∙ get_or_any l k nobody d (omega arith)
 
     -- the one before p moved up to it
     pub shifted_step : (d : Member) → 0 < p → Shifted l (set next p (get_or l (p - 1) d)) (p - 1)

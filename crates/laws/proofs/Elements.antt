@@ -1,6 +1,6 @@
 -- What is known of an element of an array of structs that a value holds: what the element's type says of each. Assumes nothing.
 use Prim.Native.Nat.{ℕ, zero, suc, ◌<◌}
-use mathlib.Core.List.{List, [], ◌∷◌}
+use mathlib.Core.List.{List, [], ◌∷◌, map}
 use native.Mathlib.Omega.{arith}
 use lib.ListN.{length, get_or}
 use mir.Val.{Val}
@@ -8,8 +8,8 @@ use base.Fml.{Fml}
 use denote.Shadow.{shadow}
 use denote.Array.{each}
 
-module _ {X : Type 0} (f : X → List Val → Fml) (P : X → Type 0) (one : (x : X) (u : Val) → shadow (f x (u ∷ [])) → P x) where
-  pub each_at : (xs : List X) (us : List Val) → shadow (each X f xs us) → (k : ℕ) (d : X) → k < length xs → P (get_or xs k d)
+module _ {D X : Type 0} (f : X → List Val → Fml) (to : D → X) (P : D → Type 0) (one : (x : D) (u : Val) → shadow (f (to x) (u ∷ [])) → P x) where
+  pub each_at : (xs : List D) (us : List Val) → shadow (each X f (map to xs) us) → (k : ℕ) (d : D) → k < length xs → P (get_or xs k d)
   each_at [] us s k d h = absurd (omega arith)
   each_at (x ∷ xs) [] s k d h = absurd s
   each_at (x ∷ xs) (u ∷ us) s zero d h = one x u s.0

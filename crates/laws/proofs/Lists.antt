@@ -37,10 +37,10 @@ module _ {A : Type 0} where
   drop-behind x s i = let e : 1 + i ≡ suc i = omega arith in ap (λ (k : ℕ). drop k (x ∷ s)) e
 
   -- inside a list the default of `get_or` doesn't matter
-  pub get_d_any : (l : List A) (k : ℕ) (d e : A) → k < length l → get_or l k d ≡ get_or l k e
-  get_d_any [] k d e = λ h. absurd (omega arith)
-  get_d_any (x ∷ l) zero d e = λ h. refl
-  get_d_any (x ∷ l) (suc k) d e = λ h. get_d_any l k d e (omega arith)
+  pub get_or_any : (l : List A) (k : ℕ) (d e : A) → k < length l → get_or l k d ≡ get_or l k e
+  get_or_any [] k d e = λ h. absurd (omega arith)
+  get_or_any (x ∷ l) zero d e = λ h. refl
+  get_or_any (x ∷ l) (suc k) d e = λ h. get_or_any l k d e (omega arith)
 
   -- a part of the first of two lists is that part of both
   pub front-part : (f g : List A) (j k : ℕ) → j + k ≤ length f → take k (drop j (f ++ g)) ≡ take k (drop j f)

@@ -7,7 +7,7 @@ use mathlib.Core.List.{List, [], ◌∷◌, map}
 use native.Mathlib.Omega.{arith}
 use lib.ListN.{length, drop, get_or, length-map, get_or-map}
 use lib.Seq.{get_or-take, get_or-drop}
-use Rattle.laws.proofs.Lists.{get_d_any}
+use Rattle.laws.proofs.Lists.{get_or_any}
 use Rattle.octets.specs.Room.{part}
 use Rattle.message.specs.declared.Span.{Span}
 use Rattle.message.specs.Grammar.{Part, part_at, word, is_command, command, command_end, params}
@@ -98,7 +98,7 @@ module _ (line : List ℕ) (read : is_read line ≡ true) where
   unfolding param_span
   span-is k h =
       ap (λ (l : List Span). get_or l k (empty_at (length line))) (spans-read line read)
-      ∙ get_d_any (map span_of parts) k (empty_at (length line)) (span_of none) (omega (arith, h, read_count line read, length-map parts span_of))
+      ∙ get_or_any (map span_of parts) k (empty_at (length line)) (span_of none) (omega (arith, h, read_count line read, length-map parts span_of))
       ∙ get_or-map span_of parts k none
 
   -- It is as long as the parameter.

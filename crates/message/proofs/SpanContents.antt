@@ -12,7 +12,7 @@ use lib.Seq.{get_or-take}
 use lib.Dec.{ltb}
 use borrow.Author.Tests.{ltb-true, ltb-false}
 use Rattle.laws.specs.Lists.{padded}
-use Rattle.laws.proofs.Lists.{get_d_any, get_or-padded, length-padded, take-padded}
+use Rattle.laws.proofs.Lists.{get_or_any, get_or-padded, length-padded, take-padded}
 use Rattle.message.specs.declared.Span.{Span}
 use Rattle.message.specs.declared.Message.{Message}
 use Rattle.message.specs.Grammar.{Part, param_limit, has_prefix, prefix, command, params}
@@ -63,7 +63,7 @@ module _ (text : List ℕ) (m : Message) where
 
     pub param-span-some : (d : Span) → k < m.count → k < length m.params → get_or m.params k d ≡ param_span (length text) m k
     unfolding param_span
-    param-span-some d h i = sym (get_or-take m.count m.params k (empty_at (length text)) h ∙ get_d_any m.params k (empty_at (length text)) d i)
+    param-span-some d h i = sym (get_or-take m.count m.params k (empty_at (length text)) h ∙ get_or_any m.params k (empty_at (length text)) d i)
 
     pub param-span-none : length (take m.count m.params) ≤ k → empty_at (length text) ≡ param_span (length text) m k
     unfolding param_span

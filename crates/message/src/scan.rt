@@ -1,6 +1,6 @@
 // The scan of a line's body, the bytes before CR LF: prefix, command, and the two rules of the parameters, which call each other.
 ghost use Rattle.std.specs.Prelude.{◌≡◌, ◌+◌, ◌≤◌, ◌<◌, length, drop};
-ghost use Rattle.message.specs.Grammar.{param_limit, middle_limit, word, spaces, has_prefix, rest as rest_of, after_middle};
+ghost use Rattle.message.specs.Grammar.{param_limit, middle_limit, word, spaces, has_prefix as has_prefix_of, rest as rest_of, after_middle};
 ghost use Rattle.message.specs.Parts.{span, blank as blank_of, message_in};
 ghost use Rattle.message.specs.Private.Scan.{opened as opened_of, with_param, with_params, from_command};
 
@@ -118,7 +118,7 @@ fn from_command(body: &[u8], at: usize, has_prefix: bool, prefix: Span, end: usi
 
 // Whether the first byte is ':'.
 fn has_prefix(body: &[u8]) -> bool
-    ensures { result ≡ has_prefix body.now }
+    ensures { result ≡ has_prefix_of body.now }
 {
     if body.len() == 0 {
         return false;

@@ -77,7 +77,7 @@ many-ill : good_table many ≡ false
 unfolding many
 many-ill = network-slots (network_of many) (omega arith) ∙ ap (λ (t : Bool). all good_whole (wholes (network_of many)) && t) many-alike ∙ and-false (all good_whole (wholes (network_of many)))
 
--- #r_ace, which is held, and #b, which is new and takes the second slot, or finds none
+-- #rACE, which is held, and #b, which is new and takes the second slot, or finds none
 abbrev known : List ℕ
 known = 35 ∷ 114 ∷ 65 ∷ 67 ∷ 69 ∷ []
 

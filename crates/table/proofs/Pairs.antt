@@ -5,7 +5,7 @@ use mathlib.Core.List.{List, [], ◌∷◌}
 use Prim.Native.Nat.{ℕ, ◌+◌, ◌≤◌, ◌<◌}
 use lib.ListN.{length, drop, get_or, drop_of_length-le}
 use Rattle.laws.specs.Lists.{all}
-use Rattle.laws.proofs.Lists.{drop-step, get_d_any, all_past, all-stop, all_go}
+use Rattle.laws.proofs.Lists.{drop-step, get_or_any, all_past, all-stop, all_go}
 use Rattle.channel.specs.declared.Record.{Record}
 use Rattle.channel.specs.Record.{empty_record}
 use Rattle.table.specs.Table.{alike, distinct}
@@ -38,12 +38,12 @@ module _ (l : List Record) (i : ℕ) where
 
   -- a free slot's row has no pair that is alike
   pub row-free : (j : ℕ) (d : Record) → i < length l → (get_or l i d).count ≡ 0 → left l i j ≡ distinct (drop (i + 1) l)
-  row-free j d h e = rw (free-row (get_or l i empty_record) (ap (λ (r : Record). r.count) (get_d_any l i empty_record d h) ∙ e) (drop j l))
+  row-free j d h e = rw (free-row (get_or l i empty_record) (ap (λ (r : Record). r.count) (get_or_any l i empty_record d h) ∙ e) (drop j l))
 
   -- a pair is looked at
   module _ (j : ℕ) (d : Record) (h : i < length l) (k : j < length l) where
     same-pair : alike (get_or l i empty_record) (get_or l j d) ≡ alike (get_or l i d) (get_or l j d)
-    same-pair = ap (λ (r : Record). alike r (get_or l j d)) (get_d_any l i empty_record d h)
+    same-pair = ap (λ (r : Record). alike r (get_or l j d)) (get_or_any l i empty_record d h)
 
     -- if the two are alike, what is left doesn't hold
     pub pair-alike : alike (get_or l i d) (get_or l j d) ≡ true → left l i j ≡ false

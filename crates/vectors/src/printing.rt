@@ -1,59 +1,57 @@
-// The output: labels with what belongs to them, in part of a line or as a line of its own.
-use libc::STDOUT_FILENO;
+// The output: labels with what belongs to them, in part of a line or as a line of its own. Of a write that fails each function answers the error, and main ends by it.
 use refusal::ACCEPTED;
+use std::io;
+use std::io::Write;
 
-// A write that fails is passed over: the output then isn't what is expected, and that is seen there.
-pub(crate) fn print(s: &[u8]) {
-    io::write_all(STDOUT_FILENO, s);
+pub(crate) fn print(rt: &HostRuntime, s: &[u8]) -> io::Result<()> {
+    rt.stdout().write_all(s)
 }
 
 // A label and bytes.
-pub(crate) fn add_bytes(label: &[u8], s: &[u8]) {
-    print(label);
-    print(s);
+pub(crate) fn add_bytes(rt: &HostRuntime, label: &[u8], s: &[u8]) -> io::Result<()> {
+    print(rt, label)?;
+    print(rt, s)
 }
 
 // A label and a number.
-pub(crate) fn add_number(label: &[u8], n: usize) {
-    print(label);
-    io::print_decimal(STDOUT_FILENO, n as u64);
+pub(crate) fn add_number(rt: &HostRuntime, label: &[u8], n: usize) -> io::Result<()> {
+    print(rt, label)?;
+    print!(rt; "{n}")
 }
 
 // One line of output: a label and bytes.
-pub(crate) fn print_bytes(label: &[u8], s: &[u8]) {
-    add_bytes(label, s);
-    print(b"\n");
+pub(crate) fn print_bytes(rt: &HostRuntime, label: &[u8], s: &[u8]) -> io::Result<()> {
+    add_bytes(rt, label, s)?;
+    print(rt, b"\n")
 }
 
 // One line of output: a label and a number.
-pub(crate) fn print_number(label: &[u8], n: usize) {
-    add_number(label, n);
-    print(b"\n");
+pub(crate) fn print_number(rt: &HostRuntime, label: &[u8], n: usize) -> io::Result<()> {
+    add_number(rt, label, n)?;
+    print(rt, b"\n")
 }
 
 // One line of output: a label, and yes or no.
-pub(crate) fn print_answer(label: &[u8], yes: bool) {
+pub(crate) fn print_answer(rt: &HostRuntime, label: &[u8], yes: bool) -> io::Result<()> {
     if yes {
-        print_bytes(label, b"yes");
-        return;
+        return print_bytes(rt, label, b"yes");
     }
-    print_bytes(label, b"no");
+    print_bytes(rt, label, b"no")
 }
 
-pub(crate) fn print_refusal(k: u8) {
-    print_number(b"refused ", k as usize);
+pub(crate) fn print_refusal(rt: &HostRuntime, k: u8) -> io::Result<()> {
+    print_number(rt, b"refused ", k as usize)
 }
 
 // Whether what was asked for is done, or the number of its refusal.
-pub(crate) fn print_outcome(number: u8) {
+pub(crate) fn print_outcome(rt: &HostRuntime, number: u8) -> io::Result<()> {
     if number != ACCEPTED {
-        print_refusal(number);
-        return;
+        return print_refusal(rt, number);
     }
-    print(b"done\n");
+    print(rt, b"done\n")
 }
 
 // The program doesn't know what a record asks for.
-pub(crate) fn print_unknown() {
-    print(b"unknown\n");
+pub(crate) fn print_unknown(rt: &HostRuntime) -> io::Result<()> {
+    print(rt, b"unknown\n")
 }

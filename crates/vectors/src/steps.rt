@@ -12,6 +12,7 @@ use octets::decimals::decimal;
 use octets::{Decimal, part};
 use refusal::ACCEPTED;
 use relay::{Taken, process};
+use std::io;
 use table::{Head, Registered, is_banned, register, unregister};
 
 // What every byte of the output is before it is lent, so that one that was changed is seen. It isn't zero, as scratch room is.
@@ -24,52 +25,66 @@ const LENT: usize = 600;
 const TOO_FEW: usize = LINE_LIMIT - 1;
 
 // An empty table.
-pub(crate) fn start_over(bans: &mut [u8; BanList::BANS]) -> Head {
+pub(crate) fn start_over(rt: &HostRuntime, bans: &mut [u8; BanList::BANS]) -> io::Result<Head> {
     let t = Head::empty(bans);
-    show_table(t, bans);
-    t
+    show_table(rt, t, bans)?;
+    Ok(t)
 }
 
 // A table that isn't well formed, if the first slot is used: no name is as short.
-pub(crate) fn harm(t: Head, bans: &[u8; BanList::BANS]) -> Head {
+pub(crate) fn harm(rt: &HostRuntime, t: Head, bans: &[u8; BanList::BANS]) -> io::Result<Head> {
     let mut r = t.slots[0];
     r.name_len = 1;
     let mut next = t;
     next.slots[0] = r;
-    show_table(next, bans);
-    next
+    show_table(rt, next, bans)?;
+    Ok(next)
 }
 
 // A table that isn't well formed, unless the first list is full: the last byte of that list isn't zero.
-pub(crate) fn blot(t: Head, bans: &mut [u8; BanList::BANS]) -> Head {
+pub(crate) fn blot(rt: &HostRuntime, t: Head, bans: &mut [u8; BanList::BANS]) -> io::Result<Head> {
     bans[BanList::LIST - 1] = 1;
-    show_table(t, bans);
-    t
+    show_table(rt, t, bans)?;
+    Ok(t)
 }
 
-fn show_registered(answer: Registered, bans: &[u8; BanList::BANS]) -> Head {
-    print_outcome(answer.number);
+fn show_registered(
+    rt: &HostRuntime,
+    answer: Registered,
+    bans: &[u8; BanList::BANS],
+) -> io::Result<Head> {
+    print_outcome(rt, answer.number)?;
     let t = answer.head;
-    show_table(t, bans);
-    t
+    show_table(rt, t, bans)?;
+    Ok(t)
 }
 
 // The link with the given number is registered.
-pub(crate) fn link(t: Head, bans: &[u8; BanList::BANS], number: &[u8]) -> Head {
+pub(crate) fn link(
+    rt: &HostRuntime,
+    t: Head,
+    bans: &[u8; BanList::BANS],
+    number: &[u8],
+) -> io::Result<Head> {
     let Decimal::Value(link) = decimal(number, u32::MAX) else {
-        print_unknown();
-        return t;
+        print_unknown(rt)?;
+        return Ok(t);
     };
-    show_registered(register(t, bans, link), bans)
+    show_registered(rt, register(t, bans, link), bans)
 }
 
 // The link with the given number is dropped.
-pub(crate) fn drop(t: Head, bans: &[u8; BanList::BANS], number: &[u8]) -> Head {
+pub(crate) fn drop(
+    rt: &HostRuntime,
+    t: Head,
+    bans: &[u8; BanList::BANS],
+    number: &[u8],
+) -> io::Result<Head> {
     let Decimal::Value(link) = decimal(number, u32::MAX) else {
-        print_unknown();
-        return t;
+        print_unknown(rt)?;
+        return Ok(t);
     };
-    show_registered(unregister(t, bans, link), bans)
+    show_registered(rt, unregister(t, bans, link), bans)
 }
 
 // Whether every byte is as it was lent.
@@ -85,60 +100,86 @@ fn is_untouched(out: &[u8]) -> bool {
 }
 
 // What was written, with its own CR LF. What lies behind it is to be as before: of a refusal, the whole output.
-fn show_sent(out: &[u8], len: usize) {
+fn show_sent(rt: &HostRuntime, out: &[u8], len: usize) -> io::Result<()> {
     if len != 0 {
-        add_bytes(b"sent ", part(out, 0, len));
+        add_bytes(rt, b"sent ", part(out, 0, len))?;
     }
     if !is_untouched(part(out, len, out.len())) {
-        print(b"spoiled\n");
+        print(rt, b"spoiled\n")?;
     }
+    Ok(())
 }
 
-fn show_taken(answer: Taken, out: &[u8], bans: &[u8; BanList::BANS]) -> Head {
-    print_outcome(answer.number);
-    print_number(b"at ", answer.place);
-    show_links(b"to", answer.set);
-    print_number(b"count ", answer.count as usize);
-    show_sent(out, answer.len);
+fn show_taken(
+    rt: &HostRuntime,
+    answer: Taken,
+    out: &[u8],
+    bans: &[u8; BanList::BANS],
+) -> io::Result<Head> {
+    print_outcome(rt, answer.number)?;
+    print_number(rt, b"at ", answer.place)?;
+    show_links(rt, b"to", answer.set)?;
+    print_number(rt, b"count ", answer.count as usize)?;
+    show_sent(rt, out, answer.len)?;
     let t = answer.head;
-    show_table(t, bans);
-    t
+    show_table(rt, t, bans)?;
+    Ok(t)
 }
 
 // A line is taken, in front of which the number of the link that it came from and a SPACE stand.
-fn take_into(t: Head, bans: &mut [u8; BanList::BANS], received: &[u8], out: &mut [u8]) -> Head {
+fn take_into(
+    rt: &HostRuntime,
+    t: Head,
+    bans: &mut [u8; BanList::BANS],
+    received: &[u8],
+    out: &mut [u8],
+) -> io::Result<Head> {
     let Decimal::Value(link) = decimal(before_space(received), u32::MAX) else {
-        print_unknown();
-        return t;
+        print_unknown(rt)?;
+        return Ok(t);
     };
     let answer = process(t, bans, link, after_space(received), out);
-    show_taken(answer, out, bans)
+    show_taken(rt, answer, out, bans)
 }
 
 // A line is taken with room for what goes out.
-pub(crate) fn take(t: Head, bans: &mut [u8; BanList::BANS], received: &[u8]) -> Head {
+pub(crate) fn take(
+    rt: &HostRuntime,
+    t: Head,
+    bans: &mut [u8; BanList::BANS],
+    received: &[u8],
+) -> io::Result<Head> {
     let mut out = [MARK; LENT];
-    take_into(t, bans, received, &mut out)
+    take_into(rt, t, bans, received, &mut out)
 }
 
 // A line is taken with one byte too few for what goes out.
-pub(crate) fn take_thin(t: Head, bans: &mut [u8; BanList::BANS], received: &[u8]) -> Head {
+pub(crate) fn take_thin(
+    rt: &HostRuntime,
+    t: Head,
+    bans: &mut [u8; BanList::BANS],
+    received: &[u8],
+) -> io::Result<Head> {
     let mut out = [MARK; TOO_FEW];
-    take_into(t, bans, received, &mut out)
+    take_into(rt, t, bans, received, &mut out)
 }
 
 // Whether a text is banned from a channel: its name, a SPACE and the text.
-pub(crate) fn ask(t: Head, bans: &[u8; BanList::BANS], question: &[u8]) {
+pub(crate) fn ask(
+    rt: &HostRuntime,
+    t: Head,
+    bans: &[u8; BanList::BANS],
+    question: &[u8],
+) -> io::Result<()> {
     let answer = is_banned(t, bans, before_space(question), after_space(question));
     if answer.number != ACCEPTED {
-        print_refusal(answer.number);
-        return;
+        return print_refusal(rt, answer.number);
     }
-    print_answer(b"banned ", answer.yes);
+    print_answer(rt, b"banned ", answer.yes)
 }
 
 // The records of the first two slots with their lists, the second under the first one's name, merged.
-pub(crate) fn meld(t: Head, bans: &[u8; BanList::BANS]) {
+pub(crate) fn meld(rt: &HostRuntime, t: Head, bans: &[u8; BanList::BANS]) -> io::Result<()> {
     let first = t.slots[0];
     let mut second = t.slots[1];
     let name = first.name;
@@ -153,8 +194,8 @@ pub(crate) fn meld(t: Head, bans: &[u8; BanList::BANS]) {
         bans: load(bans, 1),
     };
     let answer = merge(a, b);
-    print_outcome(answer.number);
+    print_outcome(rt, answer.number)?;
     let result = answer.result;
     let list = result.bans.room;
-    show_slot(0, result.record, &list);
+    show_slot(rt, 0, result.record, &list)
 }

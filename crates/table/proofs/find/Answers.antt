@@ -7,8 +7,9 @@ use Prim.Native.Nat.{ℕ, ◌+◌, ◌≤◌, ◌<◌}
 use native.Mathlib.Omega.{arith}
 use lib.ListN.{length, drop, get_or}
 use borrow.Author.Rules.{rules}
+use Rattle.std.proofs.lemmas.List.{map-id}
 use Rattle.laws.proofs.Elements.{each_at}
-use Rattle.laws.proofs.Lists.{unmapped, get_d_any}
+use Rattle.laws.proofs.Lists.{unmapped, get_or_any}
 use Rattle.names.specs.Fold.{same_name}
 use Rattle.names.proofs.Folds.{lengths_differ, name-past, name-stop, name-go}
 use Rattle.names.specs.Names.{name_limit}
@@ -56,8 +57,8 @@ slice_bounds-part-end c =
     let sixteen : length c.args.t.slots ≡ slot_count =
     search (rules, unmapped) in
     let fifty : (k : ℕ) → k < length c.args.t.slots → length (get_or c.args.t.slots k none).name ≡ name_limit =
-    λ k h. each_at (of-record.the_row).own_val (λ (r : Record). length r.name ≡ name_limit) (λ x u s. s.1.1.0.1.0.1)
-    c.args.t.slots c.well_formed.0.1.1.0.0 c.well_formed.0.1.1.0.1.1 k none h in
+    λ k h. each_at (of-record.the_row).own_val (λ (r : Record). r) (λ (r : Record). length r.name ≡ name_limit) (λ x u s. s.1.1.0.1.0.1)
+    c.args.t.slots c.well_formed.0.1.1.0.0 (rw map-id c.well_formed.0.1.1.0.1.1) k none h in
     let table : Head =
     c.args.t in
     let place : ℕ =
@@ -144,7 +145,7 @@ returns-in-slots c =
     (ap Held l.invariant.0
     ∙ held_found (table).slots (sought) (place)
     (first-here (holds (sought)) (table).slots (place) none (within) s.slots.invariant.1 (compared ∙ same)) (within))
-    (get_d_any (table).slots (place) none empty_record (within) ∙ ap (λ (k : ℕ). get_or (table).slots k empty_record) (sym l.invariant.0)) in record { found = both.0; number = both.1 }
+    (get_or_any (table).slots (place) none empty_record (within) ∙ ap (λ (k : ℕ). get_or (table).slots k empty_record) (sym l.invariant.0)) in record { found = both.0; number = both.1 }
 
 pub returns : goal.returns
 returns c =

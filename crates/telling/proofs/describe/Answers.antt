@@ -5,6 +5,7 @@ use mathlib.Core.Path.{◌≡◌, refl, ap, ◌∙◌}
 use native.Mathlib.Omega.{arith}
 use lib.ListN.{length, length-take}
 use borrow.Author.Rules.{rules}
+use Rattle.std.proofs.lemmas.List.{map-id}
 use Rattle.octets.specs.Room.{put_at}
 use Rattle.laws.proofs.Elements.{each_at}
 use Rattle.laws.proofs.Lists.{unmapped}
@@ -22,8 +23,8 @@ pub overflow_sub-len : goal.overflow_sub-len
 unfolding decode
 overflow_sub-len c =
     let whole : Whole c.args.r.members =
-    λ k d h. each_at (of-member.the_row).own_val (λ (m : Member). length m.id ≡ user_id_length) (λ x u s. s.1.1.0.1.0.1)
-    c.args.r.members c.well_formed.0.1.1.1.1.1.1.1.1.1.0.0 c.well_formed.0.1.1.1.1.1.1.1.1.1.0.1.1 k d h in
+    λ k d h. each_at (of-member.the_row).own_val (λ (m : Member). m) (λ (m : Member). length m.id ≡ user_id_length) (λ x u s. s.1.1.0.1.0.1)
+    c.args.r.members c.well_formed.0.1.1.1.1.1.1.1.1.1.0.0 (rw map-id c.well_formed.0.1.1.1.1.1.1.1.1.1.0.1.1) k d h in
     let small : length (described (decode c.args.r)) ≤ description_limit =
     let r = c.args.r in
     let name : length r.name ≡ name_limit = search (rules, unmapped) in
@@ -39,8 +40,8 @@ pub returns-then-out-len : goal.returns-then-out-len
 unfolding decode
 returns-then-out-len c =
     let whole : Whole c.args.r.members =
-    λ k d h. each_at (of-member.the_row).own_val (λ (m : Member). length m.id ≡ user_id_length) (λ x u s. s.1.1.0.1.0.1)
-    c.args.r.members c.well_formed.0.1.1.1.1.1.1.1.1.1.0.0 c.well_formed.0.1.1.1.1.1.1.1.1.1.0.1.1 k d h in
+    λ k d h. each_at (of-member.the_row).own_val (λ (m : Member). m) (λ (m : Member). length m.id ≡ user_id_length) (λ x u s. s.1.1.0.1.0.1)
+    c.args.r.members c.well_formed.0.1.1.1.1.1.1.1.1.1.0.0 (rw map-id c.well_formed.0.1.1.1.1.1.1.1.1.1.0.1.1) k d h in
     let small : length (described (decode c.args.r)) ≤ description_limit =
     let r = c.args.r in
     let name : length r.name ≡ name_limit = search (rules, unmapped) in
@@ -57,8 +58,8 @@ pub returns : goal.returns
 unfolding decode
 returns c =
     let whole : Whole c.args.r.members =
-    λ k d h. each_at (of-member.the_row).own_val (λ (m : Member). length m.id ≡ user_id_length) (λ x u s. s.1.1.0.1.0.1)
-    c.args.r.members c.well_formed.0.1.1.1.1.1.1.1.1.1.0.0 c.well_formed.0.1.1.1.1.1.1.1.1.1.0.1.1 k d h in
+    λ k d h. each_at (of-member.the_row).own_val (λ (m : Member). m) (λ (m : Member). length m.id ≡ user_id_length) (λ x u s. s.1.1.0.1.0.1)
+    c.args.r.members c.well_formed.0.1.1.1.1.1.1.1.1.1.0.0 (rw map-id c.well_formed.0.1.1.1.1.1.1.1.1.1.0.1.1) k d h in
     let small : length (described (decode c.args.r)) ≤ description_limit =
     let r = c.args.r in
     let name : length r.name ≡ name_limit = search (rules, unmapped) in

@@ -5,8 +5,8 @@
 //!
 //! FOLDER is on a disk; the logs are written to a folder in it, and to one in /dev/shm where that is a
 //! tmpfs, both of which are removed at the end. A row takes about SECONDS (10 unless told). The program
-//! is target/bin/console, which bin/relay builds, or the one that RELAY_CONSOLE names. It isn't started
-//! by bin/relay: what that adds is done once, at the start.
+//! is crates/console/out/console, which bin/relay builds, or the one that RELAY_CONSOLE names. It
+//! isn't started by bin/relay: what that adds is done once, at the start.
 //!
 //! A group is written to the console in one write, and the next one when all its answers have come. So
 //! it is one read of the console's, and has one write to the log and one sync. Every answer is compared,
@@ -292,7 +292,7 @@ struct Console {
 impl Console {
     /// Starts one, and registers the link.
     fn start(log: Option<PathBuf>) -> Outcome<Console> {
-        let default = concat!(env!("CARGO_MANIFEST_DIR"), "/../../target/bin/console");
+        let default = concat!(env!("CARGO_MANIFEST_DIR"), "/../../crates/console/out/console");
         let program = env::var_os("RELAY_CONSOLE").unwrap_or_else(|| default.into());
         let mut command = Command::new(&program);
         command.args(&log).stdin(Stdio::piped()).stdout(Stdio::piped());
