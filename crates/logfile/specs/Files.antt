@@ -8,6 +8,10 @@ use Rattle.logfile.specs.declared.FileReplay.{FileReplay}
 abbrev pub replay_in : FileReplay → List ℕ → Replay
 replay_in r bans = record { table = table_with r.head bans; used = r.used; number = r.number; place = r.place }
 
+-- The answer is the replay of these bytes, unless reading failed.
+abbrev pub IsOfLog : FileReplay → List ℕ → List ℕ → Type 0
+IsOfLog r bans log = r.failed ≡ false → replay_in r bans ≡ replayed log
+
 -- The answer is the replay of some bytes, unless reading failed.
 pub record OfSomeLog (r : FileReplay) (bans : List ℕ) : Type 0 where
   pub log : List ℕ

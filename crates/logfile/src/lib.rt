@@ -4,9 +4,9 @@
 mod failing;
 mod progress;
 
-ghost use Rattle.std.specs.Prelude.{◌≡◌, true, ◌+◌, ◌≤◌};
-ghost use Rattle.logfile.specs.Private.Progress.{room, place_limit, ReadSoFar, answer_of};
-ghost use Rattle.logfile.specs.Files.{OfSomeLog};
+ghost use Rattle.std.specs.Prelude.{◌≡◌, true, ◌+◌, ◌≤◌, List, ℕ, Option, IfSome};
+ghost use Rattle.logfile.specs.Private.Progress.{room, place_limit, ReadSoFar, ReadFrom, answer_of};
+ghost use Rattle.logfile.specs.Files.{IsOfLog, OfSomeLog};
 
 use bans::BanList;
 pub use failing::{Source, fail};
@@ -33,6 +33,7 @@ fn step<R: Read>(mut c: Progress, bans: &mut [u8; BanList::BANS], file: &mut R) 
     requires { (c.more ≡ true) × (c.at ≤ place_limit) }
     ensures near { result.at ≤ c.at + room }
     ensures read { ReadSoFar c bans.old → ReadSoFar result bans.new }
+    ensures known { (had : Option (List ℕ)) → ReadFrom had (R.remaining file.old) c bans.old → ReadFrom had (R.remaining file.new) result bans.new }
 {
     let mut piece = [0u8; PIECE];
     match file.read(&mut piece) {
@@ -62,7 +63,8 @@ fn answer(c: Progress, failed: bool) -> FileReplay
 
 // Replays the log that a file holds, from where it stands to its end.
 pub fn replay_file<R: Read>(file: &mut R, bans: &mut [u8; BanList::BANS]) -> FileReplay
-    ensures { OfSomeLog result bans.new }
+    ensures some { OfSomeLog result bans.new }
+    ensures known { IfSome (R.remaining file.old) (λ log. IsOfLog result bans.new log) }
 {
     let mut c = Progress::begin(bans);
     let mut turns = TURNS;

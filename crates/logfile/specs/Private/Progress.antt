@@ -1,5 +1,6 @@
 -- How far the replay of a log has got that is read piece by piece.
-use Rattle.std.specs.Prelude.{ℕ, ◌+◌, ◌≤◌, ◌≡◌, Bool, true, false, cond, List, [], ◌∷◌, ◌++◌, take, replicate, eqb}
+use Rattle.std.specs.Prelude.{ℕ, ◌+◌, ◌≤◌, ◌≡◌, Bool, true, false, cond, List, [], ◌∷◌, ◌++◌, take, replicate, eqb, Option, IfSome}
+use Rattle.std.specs.Io.KnownBytes.{Consumes}
 use Rattle.refusal.specs.Numbers.{accepted}
 use Rattle.journal.specs.Reading.{record_limit}
 use Rattle.replay.specs.declared.Replayed.{Replayed}
@@ -69,6 +70,14 @@ pub record ReadSoFar (c : Progress) (bans : List ℕ) : Type 0 where
   pub log : List ℕ
   pub going : c.more ≡ true → (pieces : List (List ℕ)) → comes_to c bans pieces ≡ replayed (log ++ concatenated pieces)
   pub ended : c.more ≡ false → c.failed ≡ false → comes_to c bans [] ≡ replayed log
+
+-- The bytes that a reader had and has no more have been read, where its bytes are known: whatever comes behind them, it comes to the replay of all; where nothing more
+-- is to come, it has come to that of all that the reader had, unless reading failed.
+pub record ReadFrom (had left : Option (List ℕ)) (c : Progress) (bans : List ℕ) : Type 0 where
+  pub log : List ℕ
+  pub consumed : Consumes had left log
+  pub going : c.more ≡ true → (pieces : List (List ℕ)) → comes_to c bans pieces ≡ replayed (log ++ concatenated pieces)
+  pub ended : c.more ≡ false → c.failed ≡ false → IfSome left (λ rest. comes_to c bans [] ≡ replayed (log ++ rest))
 
 -- what it has come to, and whether that is no answer
 abbrev pub answer_of : Progress → Bool → FileReplay

@@ -8,4 +8,4 @@ returns-in_default c =
 
 pub returns : goal.returns
 returns c =
-    starts-read _ _ c.replay_file-r.ensures _ c.is_sound-ready.ensures.read c.is_sound-ready.ensures.sound c.unlinked.ensures
+    starts-read _ _ c.replay_file-r.ensures.some _ c.is_sound-ready.ensures.read c.is_sound-ready.ensures.sound c.unlinked.ensures
