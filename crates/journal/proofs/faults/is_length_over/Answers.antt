@@ -6,4 +6,4 @@ use Rattle.journal.proofs.faults.is_length_over.Goals as goal
 
 pub returns : goal.returns
 returns c =
-    rw (lt-ltb 4 (length c.args.s.now) (omega (arith, c.if-s-le4.false)), c.length_in.ensures.value)
+    rw (lt-ltb 4 (length c.args.s.now) (omega arith), c.length_in.ensures.value)
