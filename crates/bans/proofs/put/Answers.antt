@@ -53,7 +53,7 @@ inserted-next-requires c =
     let n = c in
     let m = c in
     let a = m.args in
-    let h : mask_count a.b.room < ban_limit = open-room a.b.room _ n.mask_count-n.ensures c.if-n-eq-MASKS.false in
+    let h : mask_count a.b.room < ban_limit = open-room a.b.room _ n.mask_count-n.ensures (omega arith) in
     (whole, omega (arith, p.place_for-p.ensures.inside, length-used a.b.room, h), cut_short _ _ m.part-mask.ensures.bytes, h)
 
 pub returns : goal.returns
@@ -64,4 +64,4 @@ returns c =
     let n = c in
     let m = c in
     let a = m.args in
-    answered-put a.m.now a.b m.part-mask.result.now p.place_for-p.result (whole) m.part-mask.ensures.bytes p.place_for-p.ensures c.if-p.false _ (open-room a.b.room _ n.mask_count-n.ensures c.if-n-eq-MASKS.false) c.inserted-next.ensures
+    answered-put a.m.now a.b m.part-mask.result.now p.place_for-p.result (whole) m.part-mask.ensures.bytes p.place_for-p.ensures c.if-p.false _ (open-room a.b.room _ n.mask_count-n.ensures (omega arith)) c.inserted-next.ensures

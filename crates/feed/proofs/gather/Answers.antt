@@ -285,7 +285,7 @@ overflow_add-whole c =
     let some : found < looked =
     omega (arith, bounded, c.if-end-stop.false) in
     let early : length (held_bytes (state)) + found ≡ line_limit → ⊥ =
-    λ e. c.if-len-eq-LINE_LIMIT.false (sym (lengths) ∙ e) in
+    λ e. omega arith in
     let room-left : length (held_bytes (state)) + found < line_limit =
     let p = c in line-room (held_bytes (state)) (rest) (looked) (found) (small) (reach) (is) (some) (early) in
     omega (arith, room-left, lengths)
@@ -325,7 +325,7 @@ extended-requires-2 c =
     let some : found < looked =
     omega (arith, bounded, c.if-end-stop.false) in
     let early : length (held_bytes (state)) + found ≡ line_limit → ⊥ =
-    λ e. c.if-len-eq-LINE_LIMIT.false (sym (lengths) ∙ e) in
+    λ e. omega arith in
     let room-left : length (held_bytes (state)) + found < line_limit =
     let p = c in line-room (held_bytes (state)) (rest) (looked) (found) (small) (reach) (is) (some) (early) in
     let line-bytes : let p = c in c.part.result.now ≡ take (found + 1) (rest) =
@@ -373,7 +373,7 @@ returns c =
     let some : found < looked =
     omega (arith, bounded, c.if-end-stop.false) in
     let early : length (held_bytes (state)) + found ≡ line_limit → ⊥ =
-    λ e. c.if-len-eq-LINE_LIMIT.false (sym (lengths) ∙ e) in
+    λ e. omega arith in
     let line-bytes : let p = c in c.part.result.now ≡ take (found + 1) (rest) =
     let p = c in
     let e : at + found + 1 ≡ at + (found + 1) = omega arith in

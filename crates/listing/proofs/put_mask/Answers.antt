@@ -17,5 +17,5 @@ returns c =
     let mask = c in
     let opened = c in
     let test = c in
-    rw (lt-ltb 0 test.args.i (omega (arith, test.if-i-eq0.false)))
+    rw (lt-ltb 0 c.args.i (omega arith))
     (adds_then _ _ _ _ _ _ (space ∷ []) _ (added _ _ _ _ _ opened.put-next.ensures.place opened.put-next.ensures.bytes) (added _ _ _ _ _ mask.put-2.ensures.place mask.put-2.ensures.bytes))

@@ -14,4 +14,4 @@ pub returns : goal.returns
 returns c =
     let put = c in
     let test = c in
-    let a = test.args in record { lines = rw (slot-used (whole a.r (record { room = a.list.now })) (ne_eqb a.r.count 0 test.if-r-eq0.false)) (put.put_channel.ensures.lines); few = rw (slot-used (whole a.r (record { room = a.list.now })) (ne_eqb a.r.count 0 test.if-r-eq0.false)) (put.put_channel.ensures.few) }
+    let a = test.args in record { lines = rw (slot-used (whole a.r (record { room = a.list.now })) (ne_eqb a.r.count 0 (omega arith))) (put.put_channel.ensures.lines); few = rw (slot-used (whole a.r (record { room = a.list.now })) (ne_eqb a.r.count 0 (omega arith))) (put.put_channel.ensures.few) }

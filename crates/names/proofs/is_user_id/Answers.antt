@@ -15,4 +15,4 @@ returns-then-id-ne-USER_ID c =
 pub returns : goal.returns
 returns c =
     let s = c.args.id.now in
-    c.is_id.ensures ∙ ap is_user_id (c.user_id.ensures ∙ padded-whole 0 user_id_length s (omega (arith, c.if-id-ne-USER_ID.false)))
+    c.is_id.ensures ∙ ap is_user_id (c.user_id.ensures ∙ padded-whole 0 user_id_length s (omega arith))

@@ -1,4 +1,5 @@
 -- `without` meets its contract: the roster of those that stay tells whether anyone is left. Assumes nothing.
+use native.Mathlib.Omega.{arith}
 use mathlib.Core.Path.{sym, ◌∙◌}
 use Rattle.channel.proofs.Others.{without_all, without-some}
 use Rattle.channel.proofs.members.without.Goals as goal
@@ -9,4 +10,4 @@ returns-then-left-eq0 c =
 
 pub returns : goal.returns
 returns c =
-    sym (without-some _ _ _ c.others-left.ensures c.if-left-eq0.false)
+    sym (without-some _ _ _ c.others-left.ensures (omega arith))

@@ -1,4 +1,5 @@
 -- `merged_list` meets its contract: the tests of the two times are those of the definition. Assumes nothing.
+use native.Mathlib.Omega.{arith}
 use borrow.Author.Tests.{eq-eqb, ne_eqb, lt-ltb, le-ltb}
 use Rattle.merging.specs.Private.Answers.{merged_lists}
 use Rattle.merging.proofs.lists.merged_list.Goals as goal
@@ -19,4 +20,4 @@ pub returns : goal.returns
 unfolding merged_lists
 returns c =
     let a = c.args in
-    rw (ne_eqb a.time a.other_time c.if-time-other_time.false, le-ltb a.time a.other_time c.if-time-other_time-2.false)
+    rw (ne_eqb a.time a.other_time c.if-time-other_time.false, le-ltb a.time a.other_time (omega arith))

@@ -1,4 +1,5 @@
 -- `masks_held` meets its contract: a line that is later comes to nothing, a list that is full refuses it, else its masks are to be added. Assumes nothing.
+use native.Mathlib.Omega.{arith}
 use mathlib.Core.Path.{◌≡◌, sym, ap, ◌∙◌}
 use mathlib.Core.Bool.{true, false}
 use lib.Dec.{ltb}
@@ -19,7 +20,7 @@ pub returns-then-added : goal.returns-then-added
 unfolding masks_held
 returns-then-added c =
     let timely : ltb c.args.held.time c.args.time ≡ false =
-    le-ltb _ _ c.if-held-time.false in
+    le-ltb _ _ (omega arith) in
     let added : c.add_listed-added.result ≡ with_masks c.args.bans.now c.args.k c.args.list.now =
     c.add_listed-added.ensures ∙ ap (add_answer (listed c.args.list.now)) c.load.ensures in
     let a = c in
@@ -29,7 +30,7 @@ pub returns : goal.returns
 unfolding masks_held
 returns c =
     let timely : ltb c.args.held.time c.args.time ≡ false =
-    le-ltb _ _ c.if-held-time.false in
+    le-ltb _ _ (omega arith) in
     let added : c.add_listed-added.result ≡ with_masks c.args.bans.now c.args.k c.args.list.now =
     c.add_listed-added.ensures ∙ ap (add_answer (listed c.args.list.now)) c.load.ensures in
     let a = c in

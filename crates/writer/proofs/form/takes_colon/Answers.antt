@@ -1,4 +1,5 @@
 -- `takes_colon` meets its contract: the definition asks for ':' exactly where the last parameter isn't read back without it. Assumes nothing.
+use native.Mathlib.Omega.{arith}
 use mathlib.Core.Path.{sym, ap, ◌∙◌}
 use mathlib.Core.Bool.{not}
 use Rattle.writer.proofs.Parts.{stands-fifteenth, stands-other, colon-exactly}
@@ -16,4 +17,4 @@ returns-then-k-eq-MIDDLE_LIMIT c =
 pub returns : goal.returns
 returns c =
     let a = c.args in
-    rw (colon-exactly a.k a.last a.p.now, c.if-not-last.false) (ap not (c.is_middle.ensures ∙ sym (stands-other a.k a.p.now c.if-k-eq-MIDDLE_LIMIT.false)))
+    rw (colon-exactly a.k a.last a.p.now, c.if-not-last.false) (ap not (c.is_middle.ensures ∙ sym (stands-other a.k a.p.now (omega arith))))
