@@ -1,13 +1,9 @@
 -- `is_length_over` meets its contract, by whether both bytes are there. Assumes nothing.
 use native.Mathlib.Omega.{arith}
 use lib.ListN.{length}
-use borrow.Author.Tests.{lt-ltb, le-ltb}
+use borrow.Author.Tests.{lt-ltb}
 use Rattle.journal.proofs.faults.is_length_over.Goals as goal
-
-pub returns-then-s-le4 : goal.returns-then-s-le4
-returns-then-s-le4 c =
-    rw (le-ltb 4 (length c.args.s.now) (omega (arith, c.if-s-le4.true)))
 
 pub returns : goal.returns
 returns c =
-    rw (lt-ltb 4 (length c.args.s.now) (omega (arith, c.if-s-le4.false)), c.length_in.ensures.value)
+    rw (lt-ltb 4 (length c.args.s.now) (omega arith), c.length_in.ensures.value)
