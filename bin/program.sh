@@ -61,7 +61,7 @@ prove() { # CRATE
     [ "$1" != "$crate" ] || verb=run
     (cd "$root/crates/$1" && exec setsid rt "$verb" "$1") </dev/null >"$said" 2>&1 &
     if wait $!; then
-        grep -o '^logic=proved functions=[0-9]*' "$said" | sed "s/^/rt: $1 /" >&2
+        awk '/^logic=proved / { last = $1 " " $2 } END { print "rt: " name " " last }' name="$1" "$said" >&2
         return 0
     fi
     cat "$said" >&2
