@@ -1,4 +1,5 @@
--- What the replay of a log in a file comes to. The bytes that a read brings aren't the prover's to know: what is said is that there are some of which this is the replay.
+-- What the replay of a log in a file comes to. The bytes that a file's read brings aren't the prover's to know: what is said is that there are some of which this is the
+-- replay. Of a reader whose bytes are known it is the replay of those.
 use Rattle.std.specs.Prelude.{ℕ, ◌≡◌, false, List}
 use Rattle.table.specs.Network.{table_with}
 use Rattle.replay.specs.Replay.{Replay, replayed}

@@ -56,7 +56,7 @@ impl<R: Read> Read for Source<R> {
     }
 }
 
-// Says what failed, and why in the system's words, which end before the error's number. Whether that is heard can't be told.
+// Says what failed, ": ", why, in the system's words, which end before the error's number, and LF. Whether that is heard can't be told.
 pub fn fail(to: &impl Print, what: &[u8], why: io::Error) {
     let text = InlineText::<REASON>::of(why);
     let all = text.as_str();
@@ -64,13 +64,8 @@ pub fn fail(to: &impl Print, what: &[u8], why: io::Error) {
         Some((words, _)) => words,
         None => all,
     };
-    let _ = say(to, what, words.as_bytes());
-}
-
-// What failed, ": ", why, and LF.
-fn say(to: &impl Print, what: &[u8], words: &[u8]) -> io::Result<()> {
-    to.write_all(what)?;
-    to.write_all(b": ")?;
-    to.write_all(words)?;
-    to.write_all(b"\n")
+    let _ = to.write_all(what);
+    let _ = to.write_all(b": ");
+    let _ = to.write_all(words.as_bytes());
+    let _ = to.write_all(b"\n");
 }
