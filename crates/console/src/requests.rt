@@ -1,17 +1,16 @@
 // What an input line asks for.
-ghost use Rattle.std.specs.Prelude.{◌≡◌, cond, length};
-ghost use Rattle.octets.specs.Private.Additions.{AtFront};
+ghost use Rattle.std.specs.Prelude.{◌≡◌, cond};
 ghost use Rattle.laws.specs.Lists.{is_nil};
 ghost use Rattle.console.specs.declared.requests.Request.TheVariants.{Register, Unregister, Channels, Unknown};
 ghost use Rattle.console.specs.Requests.{ended as ended_of, link_in, numbered, taking_in, question_in, worded_in, request_in, line_from, name_in, text_in};
 ghost use Rattle.console.specs.Typing.{typed, typed_in};
 ghost use Rattle.console.specs.Lines.{held_in};
-ghost use Rattle.console.specs.Buffers.{typed_room};
 
-use crate::lines::{Pending, ends_in_lf};
+use crate::lines::{INPUT_LIMIT, Pending, ends_in_lf};
+use arrayvec::ArrayVec;
 use message::next_word;
 use octets::decimals::decimal;
-use octets::{Decimal, Order, compare, part, place_of, put};
+use octets::{Decimal, Order, compare, part, place_of};
 
 // The largest number that nine digits write.
 const LINK_LIMIT: u32 = 999999999;
@@ -25,14 +24,17 @@ const ASKING: usize = 7;
 // The most bytes of a name that is asked about. It is far more than a name has, and less than is kept of an input line.
 const NAME_ROOM: usize = 512;
 
+// Room for a line that was typed: two bytes more than are kept of it.
+const TYPED: usize = INPUT_LIMIT + 2;
+
 // What is asked, and of which link. The line that came from a link stands in the input line, from a place on; of a question, the name ends at the first
 // place, and the text begins at the second. Only a line that was typed asks for help, or for nothing.
 #[derive(Clone, Copy)]
 pub(crate) enum Request {
-    Register(u32),
-    Unregister(u32),
-    Take(u32, usize),
-    Banned(usize, usize),
+    Register { link: u32 },
+    Unregister { link: u32 },
+    Take { link: u32, start: usize },
+    Banned { end: usize, start: usize },
     Channels,
     Unknown,
     Help,
@@ -64,7 +66,7 @@ fn registering(text: &[u8]) -> Request
     ensures { result ≡ numbered Register (link_in text.now) }
 {
     match decimal(text, LINK_LIMIT) {
-        Decimal::Value(link) => Request::Register(link),
+        Decimal::Value(link) => Request::Register { link },
         Decimal::Malformed => Request::Unknown,
     }
 }
@@ -74,7 +76,7 @@ fn unregistering(text: &[u8]) -> Request
     ensures { result ≡ numbered Unregister (link_in text.now) }
 {
     match decimal(text, LINK_LIMIT) {
-        Decimal::Value(link) => Request::Unregister(link),
+        Decimal::Value(link) => Request::Unregister { link },
         Decimal::Malformed => Request::Unknown,
     }
 }
@@ -99,7 +101,10 @@ fn taking(input: &[u8]) -> Request
         return Request::Unknown;
     }
     match decimal(part(input, 0, end), LINK_LIMIT) {
-        Decimal::Value(link) => Request::Take(link, end + 1),
+        Decimal::Value(link) => Request::Take {
+            link,
+            start: end + 1,
+        },
         Decimal::Malformed => Request::Unknown,
     }
 }
@@ -116,7 +121,10 @@ fn asking(input: &[u8]) -> Request
     if NAME_ROOM < n {
         return Request::Unknown;
     }
-    Request::Banned(ASKING + n, ASKING + n + 1)
+    Request::Banned {
+        end: ASKING + n,
+        start: ASKING + n + 1,
+    }
 }
 
 // A question about a ban, or a link's line.
@@ -173,17 +181,19 @@ pub(crate) fn text_in(input: &[u8], start: usize) -> &[u8]
 }
 
 // A line as it is taken that was typed: with CR LF, where it ends with LF.
-pub(crate) fn put_typed(line: Pending, out: &mut [u8]) -> usize
-    requires { length out.old ≡ typed_room }
-    ensures { AtFront out.new result (typed (held_in line)) }
+#[tactic(auto, using(crate::proofs::Typing::ended_in), unfolding(crate::specs::Typing::typed))]
+pub(crate) fn typed(line: &Pending) -> ArrayVec<u8, TYPED>
+    ensures { result.items ≡ typed (held_in line.now) }
 {
-    let bytes = line.bytes;
-    let input = part(&bytes, 0, line.len);
-    if !ends_in_lf(input) {
-        return put(out, 0, input);
+    let input = line.bytes();
+    let mut text = ArrayVec::new();
+    if ends_in_lf(input) {
+        let _ = text.try_extend_from_slice(ended(input));
+        let _ = text.try_extend_from_slice(b"\r\n");
+    } else {
+        let _ = text.try_extend_from_slice(input);
     }
-    let n = put(out, 0, ended(input));
-    put(out, n, b"\r\n")
+    text
 }
 
 // What a line asks for that was typed.
