@@ -9,15 +9,5 @@ use octets::{Class, all_in};
 pub fn is_key(key: &[u8]) -> bool
     ensures { result ≡ is_key key.now }
 {
-    let n = key.len();
-    if n == 0 {
-        return false;
-    }
-    if Record::KEY < n {
-        return false;
-    }
-    if key[0] == b':' {
-        return false;
-    }
-    all_in(key, Class::Key)
+    !key.is_empty() && key.len() <= Record::KEY && key[0] != b':' && all_in(key, Class::Key)
 }

@@ -1,96 +1,45 @@
--- `ordered` meets its contract. The invariant: the first i entries are in order in the list, and whatever is above `last` is above them all.
--- Assumes nothing.
-use mathlib.Core.Path.{◌≡◌, sym, ap, ◌∙◌}
-use mathlib.Core.List.{List}
-use Prim.Native.Nat.{◌+◌, ◌≤◌, ◌<◌}
+-- `ordered` meets its contract. The invariant: the members so far are in order, and whatever is above `last` is above them all. Assumes nothing.
+use mathlib.Core.Path.{sym, ap, ◌∙◌}
+use mathlib.Core.List.{List, []}
 use native.Mathlib.Omega.{arith}
-use lib.ListN.{length}
-use borrow.Author.Rules.{rules}
-use Rattle.laws.proofs.Lists.{take_within}
+use lib.ListN.{take}
+use lib.Seq.{take_all}
 use Rattle.channel.specs.declared.Member.{Member}
-use Rattle.channel.specs.Limits.{member_limit}
 use Rattle.channel.specs.Members.{roster, ordered}
-use Rattle.channel.proofs.Gathering.{gathers-roster}
-use Rattle.channel.proofs.Ordering.{inserted-none, inserted-sorted, inserted-last, inserted-count, inserted-put}
+use Rattle.channel.proofs.Ordering.{inserted-none, inserted-sorted, inserted-last, inserted-put}
 use Rattle.channel.proofs.members.ordered.Goals as goal
+use Rattle.channel.proofs.members.ordered.Goals.{then-is_below, else-is_below}
 
-pub loop-i-init : goal.loop-i-init
-loop-i-init c =
-    (omega arith, omega arith, inserted-none _ _ _ c.vacant-list.ensures)
+-- what the code reads past the list's end
+abbrev none : Member
+none = record { id = []; status = 0 }
 
-pub loop-i-preserved-then-is_below : goal.loop-i-preserved-then-is_below
-loop-i-preserved-then-is_below c =
-    let here : (c.loop-i.i < length c.args.entries) × (c.loop-i.i < member_limit) =
-    let e : length c.args.entries ≡ member_limit = search rules in
-    (omega arith, omega arith) in
-    let a = c.args in
-    let l = c.loop-i in
-    (omega arith, omega arith, inserted-last a.entries l.i l.list l.count l.last l.invariant.2 _ (here).0 (sym c.is_below.ensures ∙ c.if-is_below.true))
+pub loop-m-init : goal.loop-m-init
+loop-m-init c =
+    inserted-none c.members-m-items.result.now c.empty-all.result _ c.empty-all.ensures
 
-pub with_member-r-requires : goal.with_member-r-requires
-with_member-r-requires c =
-    let here : (c.loop-i.i < length c.args.entries) × (c.loop-i.i < member_limit) =
-    let e : length c.args.entries ≡ member_limit = search rules in
-    (omega arith, omega arith) in
-    let a = c.args in
-    let l = c.loop-i in
-    inserted-sorted a.entries l.i l.list l.count l.last l.invariant.2 (here).1
+pub push-requires : goal.push-requires
+push-requires c =
+    omega (arith, c.loop-m.invariant.few, c.members-m-items.ensures.few)
 
-pub overflow_sub-last : goal.overflow_sub-last
-overflow_sub-last c =
-    let here : (c.loop-i.i < length c.args.entries) × (c.loop-i.i < member_limit) =
-    let e : length c.args.entries ≡ member_limit = search rules in
-    (omega arith, omega arith) in
-    let counted : (1 ≤ c.with_member-r.result.count) × (c.with_member-r.result.count ≤ c.loop-i.i + 1) =
-    let a = c.args in
-    let l = c.loop-i in
-    let h = here in
-    inserted-count a.entries l.i l.list l.count l.last l.invariant.2 _ h.0 c.with_member-r.result c.with_member-r.ensures h.1 in
-    (counted).0
+pub insert-requires : goal.insert-requires
+insert-requires c =
+    let l = c.loop-m in
+    inserted-sorted c.members-m-items.result.now l.m-index l.all l.last l.invariant (omega (arith, c.members-m-items.ensures.few))
 
-pub offset_bounds-list-count-in-loop-i : goal.offset_bounds-list-count-in-loop-i
-offset_bounds-list-count-in-loop-i c =
-    let here : (c.loop-i.i < length c.args.entries) × (c.loop-i.i < member_limit) =
-    let e : length c.args.entries ≡ member_limit = search rules in
-    (omega arith, omega arith) in
-    let counted : (1 ≤ c.with_member-r.result.count) × (c.with_member-r.result.count ≤ c.loop-i.i + 1) =
-    let a = c.args in
-    let l = c.loop-i in
-    let h = here in
-    inserted-count a.entries l.i l.list l.count l.last l.invariant.2 _ h.0 c.with_member-r.result c.with_member-r.ensures h.1 in
-    let n = counted in search rules
-
-pub bounds-list-count-in-loop-i : goal.bounds-list-count-in-loop-i
-bounds-list-count-in-loop-i c =
-    let here : (c.loop-i.i < length c.args.entries) × (c.loop-i.i < member_limit) =
-    let e : length c.args.entries ≡ member_limit = search rules in
-    (omega arith, omega arith) in
-    let counted : (1 ≤ c.with_member-r.result.count) × (c.with_member-r.result.count ≤ c.loop-i.i + 1) =
-    let a = c.args in
-    let l = c.loop-i in
-    let h = here in
-    inserted-count a.entries l.i l.list l.count l.last l.invariant.2 _ h.0 c.with_member-r.result c.with_member-r.ensures h.1 in
-    let n = counted in search rules
-
-pub loop-i-preserved : goal.loop-i-preserved
-loop-i-preserved c =
-    let here : (c.loop-i.i < length c.args.entries) × (c.loop-i.i < member_limit) =
-    let e : length c.args.entries ≡ member_limit = search rules in
-    (omega arith, omega arith) in
-    let counted : (1 ≤ c.with_member-r.result.count) × (c.with_member-r.result.count ≤ c.loop-i.i + 1) =
-    let a = c.args in
-    let l = c.loop-i in
-    let h = here in
-    inserted-count a.entries l.i l.list l.count l.last l.invariant.2 _ h.0 c.with_member-r.result c.with_member-r.ensures h.1 in
-    let p = c in
-    let a = p.args in
-    let l = p.loop-i in
-    let h = here in
-    (omega arith, (counted).1, inserted-put a.entries l.i l.list l.count l.last l.invariant.2 _ h.0 p.with_member-r.result p.with_member-r.ensures h.1 _)
+pub loop-m-preserved : goal.loop-m-preserved
+loop-m-preserved c =
+    let l = c.loop-m in
+    let items = c.members-m-items.result.now in
+    elim c.if-is_below.branch [
+      | then-is_below w ↦ rw (w.all-is, w.last-is, w.push.ensures) (inserted-last items l.m-index l.all l.last l.invariant none c.loop-m-test.true (sym w.if-is_below.ensures))
+      | else-is_below w ↦
+          rw (w.all-is, w.last-is)
+          (inserted-put items l.m-index l.all l.last l.invariant none c.loop-m-test.true w.insert.new.self w.insert.ensures (omega (arith, c.members-m-items.ensures.few)) (sym w.if-is_below.ensures))
+    ]
 
 pub returns : goal.returns
 returns c =
-    let a = c.args in
-    let l = c.loop-i in
-    let e : length a.entries ≡ member_limit = search rules in
-    gathers-roster l.list l.count _ l.invariant.2.gathers ∙ ap (λ (m : List Member). roster (ordered m)) (take_within a.entries a.n l.i (omega arith))
+    let l = c.loop-m in
+    let items = c.members-m-items.result.now in
+    l.invariant.is ∙ ap (λ (m : List Member). roster (ordered m)) (take_all l.m-index items (omega arith) ∙ c.members-m-items.ensures.list)

@@ -1,18 +1,16 @@
 -- `with_mode` meets its contract: 1 shifted to one of the eight places is that power of two, and still a byte. Assumes nothing.
-use Prim.Native.Nat.{◌<◌}
-use native.Mathlib.Nat.{one-mul, mod-eq_of_lt}
-use lib.Pow.{pow-lt}
 use borrow.Author.Tests.{lt-ltb, le-ltb}
+use Rattle.laws.proofs.Bitwise.{shifted_one}
 use Rattle.channel.specs.Modes.{mode_count, with_mode}
 use Rattle.channel.proofs.modes.with_mode.Goals as goal
 
-pub returns-then-place-ge-MODES : goal.returns-then-place-ge-MODES
+pub returns-then-place-lt-MODES : goal.returns-then-place-lt-MODES
 unfolding with_mode
-returns-then-place-ge-MODES c =
-    rw (le-ltb c.args.place mode_count c.if-place-ge-MODES.true)
+returns-then-place-lt-MODES c =
+    let h = c.if-place-lt-MODES.true in
+    rw (lt-ltb c.args.place mode_count h, shifted_one mode_count c.args.place h)
 
-pub returns : goal.returns
+pub returns-else-place-lt-MODES : goal.returns-else-place-lt-MODES
 unfolding with_mode
-returns c =
-    let h : c.args.place < mode_count = c.if-place-ge-MODES.false in
-    rw (lt-ltb c.args.place mode_count h, one-mul, mod-eq_of_lt (pow-lt h))
+returns-else-place-lt-MODES c =
+    rw (le-ltb c.args.place mode_count c.if-place-lt-MODES.false)
