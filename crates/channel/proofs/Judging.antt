@@ -9,13 +9,12 @@ use lib.ListN.{length, take, drop, length-take}
 use lib.Dec.{leb}
 use borrow.Author.Tests.{le-leb, lt-leb, lt-ltb, leb-true, leb-false}
 use Rattle.laws.specs.Lists.{all}
-use Rattle.laws.proofs.Bools.{and_right}
 use Rattle.octets.specs.Bytes.{is_zero}
 use Rattle.ascending.specs.Ascending.{ascends}
-use Rattle.names.specs.Names.{name_limit, is_channel}
+use Rattle.names.specs.Names.{is_channel}
 use Rattle.channel.specs.declared.Member.{Member}
 use Rattle.channel.specs.declared.Record.{Record}
-use Rattle.channel.specs.Limits.{member_limit, key_limit, time_limit}
+use Rattle.channel.specs.Limits.{member_limit, time_limit}
 use Rattle.channel.specs.Modes.{mode_count}
 use Rattle.channel.specs.Channel.{by_id}
 use Rattle.channel.specs.Record.{decode}

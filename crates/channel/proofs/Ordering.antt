@@ -2,18 +2,17 @@
 use mathlib.Core.Path.{◌≡◌, refl, sym, ap, ◌∙◌}
 use mathlib.Core.Bool.{Bool, true, false}
 use mathlib.Core.List.{List, [], ◌∷◌, ◌++◌, append-nil}
-use Prim.Native.Nat.{ℕ, ◌+◌, ◌-◌, ◌≤◌, ◌<◌}
+use Prim.Native.Nat.{ℕ, ◌+◌, ◌≤◌, ◌<◌}
 use native.Mathlib.Numerals.{add-one}
 use native.Mathlib.Omega.{arith}
-use lib.ListN.{length, take, get_or, set}
-use lib.Seq.{take-suc, take_all}
+use lib.ListN.{length, take, get_or}
+use lib.Seq.{take-suc}
 use Rattle.laws.specs.Lists.{same, padded}
 use Rattle.octets.specs.Order.{compare, is_less}
 use Rattle.ascending.specs.Ascending.{put, unite}
-use Rattle.laws.proofs.Lists.{get_or-padded}
 use Rattle.octets.proofs.Bytes.{same_true}
 use Rattle.octets.proofs.Ordered.{Below, compare-trans}
-use Rattle.ascending.proofs.Ascends.{put_some, put-few, Under, Ascending, less-says, ascends-passes, put-between, under-upto, unite-append, ascending-put, less-fails, under-put}
+use Rattle.ascending.proofs.Ascends.{put-few, Under, Ascending, less-says, ascends-passes, put-between, unite-append, ascending-put, less-fails, under-put}
 use Rattle.channel.specs.declared.Member.{Member}
 use Rattle.channel.specs.declared.Roster.{Roster}
 use Rattle.channel.specs.Limits.{member_limit}

@@ -87,6 +87,7 @@ impl Record {
     pub const MASK: usize = 100;
 
     // No channel: a free slot. The limits and statuses of the code are those of the definitions.
+    #[tactic(auto, unfolding(crate::specs::Record::empty_record, crate::specs::Record::encode, laws::specs::Lists::padded))]
     pub fn empty() -> Record
         ensures value { result ≡ empty_record }
         ensures sizes { (Record.MEMBERS ≡ member_limit) × (Record.NAME ≡ name_limit) × (Record.KEY ≡ key_limit) × (Record.SLOTS ≡ slot_count) }
@@ -146,6 +147,7 @@ pub struct Roster {
 }
 
 // Whether every part of the record is zero, as in a free slot.
+#[tactic(auto, unfolding(crate::specs::WellFormed::is_blank, laws::specs::Lists::all))]
 pub fn is_blank(r: Record) -> bool
     ensures { result ≡ is_blank r }
 {

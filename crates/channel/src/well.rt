@@ -31,6 +31,7 @@ impl Member {
     }
 
     // Whether it is a user id with a status that there is.
+    #[tactic(auto, unfolding(crate::specs::WellFormed::good_member))]
     fn is_good(self) -> bool
         ensures { result ≡ good_member self }
     {
@@ -40,6 +41,7 @@ impl Member {
 
 impl Record {
     // Whether there is a member, and what is in use keeps to its room.
+    #[tactic(auto, unfolding(crate::specs::WellFormed::in_room))]
     pub(crate) fn is_in_room(&self) -> bool
         ensures { result ≡ leb 1 self.now.count && in_room_of self.now }
     {
@@ -72,6 +74,7 @@ fn good_key(modes: u8, key: &[u8]) -> bool
 }
 
 // Whether there is a limit exactly with the mode l.
+#[tactic(auto, unfolding(crate::specs::WellFormed::good_limit))]
 fn good_limit(modes: u8, limit: u16) -> bool
     ensures { result ≡ good_limit modes limit }
 {

@@ -6,7 +6,6 @@ use Rattle.std.proofs.lemmas.Bool.Decides.{nat_tests}
 use Rattle.laws.specs.Lists.{all}
 use Rattle.laws.proofs.Lists.{unmapped}
 use Rattle.channel.specs.Record.{decode}
-use Rattle.channel.specs.WellFormed.{well_formed}
 use Rattle.channel.proofs.Judging.{well-tests}
 use Rattle.channel.proofs.is_well_formed.Goals as goal
 
