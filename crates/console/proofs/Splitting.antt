@@ -5,7 +5,7 @@ use mathlib.Core.Bool.{Bool, true, false, cond, true≢false}
 use mathlib.Core.List.{List, [], ◌∷◌, ◌++◌}
 use native.Mathlib.Omega.{arith}
 use lib.ListN.{length, take}
-use lib.Seq.{take-append-add, take-append_seam}
+use lib.Seq.{take-append-add, take-append_seam, take-nil}
 use lib.Dec.{eqb}
 use Rattle.std.specs.List.{IsFirstMatchOrLen}
 use Rattle.laws.proofs.Lists.{take_within}
@@ -25,16 +25,20 @@ length-first (b ∷ s) = go (eqb b lf) (length-first s)
     go false ih = omega arith
 
 -- up to and with the first LF, or else to the end
-first-is : (s : List ℕ) (i : ℕ) → IsFirstMatchOrLen (λ b. eqb b lf) s i → take (suc i) s ≡ first_line s
+first-is : (s : List ℕ) (i : ℕ) → IsFirstMatchOrLen (λ b. eqb b lf) s i → take (i + 1) s ≡ first_line s
 unfolding first_line
-first-is [] i h = refl
-first-is (b ∷ s) i h = go (eqb b lf) refl i h
+first-is [] i h = take-nil (i + 1)
+first-is (b ∷ s) i h = go (eqb b lf) refl i h (first-is s)
   where
-    go : (t : Bool) → eqb b lf ≡ t → (i : ℕ) → IsFirstMatchOrLen (λ b. eqb b lf) (b ∷ s) i → take (suc i) (b ∷ s) ≡ cond t (b ∷ []) (b ∷ first_line s)
-    go true e zero h = refl
-    go true e (suc j) h = absurd (true≢false (sym e ∙ h.0 0 0 (omega arith) (omega arith)))
-    go false e zero h = absurd (true≢false (sym (h.1 (omega arith) 0) ∙ e))
-    go false e (suc j) h = ap (λ (l : List ℕ). b ∷ l) (first-is s j (λ k d l m. h.0 (suc k) d (omega arith) (omega arith), λ m d. h.1 (omega arith) d))
+    go : (t : Bool) → eqb b lf ≡ t → (i : ℕ) → IsFirstMatchOrLen (λ b. eqb b lf) (b ∷ s) i
+        → ((j : ℕ) → IsFirstMatchOrLen (λ b. eqb b lf) s j → take (j + 1) s ≡ first_line s)
+        → take (i + 1) (b ∷ s) ≡ cond t (b ∷ []) (b ∷ first_line s)
+    go true e zero h ih = refl
+    go true e (suc j) h ih = absurd (true≢false (sym e ∙ h.0 0 0 (omega arith) (omega arith)))
+    go false e zero h ih = absurd (true≢false (sym (h.1 (omega arith) 0) ∙ e))
+    go false e (suc j) h ih =
+        let one : suc j + 1 ≡ suc (j + 1) = omega arith in
+        rw one (ap (λ (l : List ℕ). b ∷ l) (ih j (λ k d l m. h.0 (suc k) d (omega arith) (omega arith), λ m d. h.1 (omega arith) d)))
 
 -- So it is what the library's `split_inclusive` cuts off first: the front of what is left, as long as the clause of its `next` says.
 pub split-first : (s x rest : List ℕ) (i : ℕ) → s ≡ x ++ rest → length x ≡ min (i + 1) (length s) → IsFirstMatchOrLen (λ b. eqb b lf) s i → x ≡ first_line s

@@ -115,11 +115,11 @@ impl Session {
     // Answers a request that joins no group, the one before it being closed.
     fn reply(&mut self, rt: &HostRuntime, request: Request, input: &[u8]) -> io::Result<()> {
         match request {
-            Request::Register { link } => {
+            Request::Register(link) => {
                 let r = register(self.head, &self.bans, link);
                 self.done(rt, r)
             }
-            Request::Unregister { link } => {
+            Request::Unregister(link) => {
                 let r = unregister(self.head, &self.bans, link);
                 self.done(rt, r)
             }
