@@ -98,7 +98,8 @@ impl Feeder {
             return Fed::unlined(kept, looked, Ok(()));
         }
         let used = found + 1;
-        if room < used {
+        let too_long = room < used;
+        if too_long {
             return Fed::unlined(Feeder::empty(), used, Err(Refusal::LineTooLong));
         }
         let line = self.extended(&ahead[..used]);

@@ -21,7 +21,7 @@ overflow_sub-room c = kept_small c.args.self.now c.requires.reached
 pub returns-then-room-looked : goal.returns-then-room-looked
 returns-then-room-looked c =
     let l = looked (goal.at.returns-then-room-looked c).After-place_of-found in
-    c.unlined.ensures ∙ rw c.dropping.ensures (sym (too_long _ _ _ _ _ l c.if-found-looked.true (omega (arith, l.small, c.if-room-looked.true))))
+    c.unlined.ensures ∙ rw c.dropping.ensures (sym (too_long _ _ _ _ _ l c.if-found-looked.true (omega (arith, l.small))))
 
 pub extended-requires : goal.extended-requires
 extended-requires c =
@@ -32,7 +32,7 @@ pub returns-then-found-looked : goal.returns-then-found-looked
 unfolding state_of
 returns-then-found-looked c =
     let l = looked (goal.at.returns-then-found-looked c).After-place_of-found in
-    let on = goes_on _ _ _ _ _ l c.if-found-looked.true (omega (arith, l.small, c.if-room-looked.false)) in
+    let on = goes_on _ _ _ _ _ l c.if-found-looked.true (omega (arith, l.small)) in
     let n : c.args.self.now.len + c.min-looked.result ≡ length (held_bytes c.args.self.now ++ c.args.bytes.now) =
     omega (arith, length-append (held_bytes c.args.self.now) c.args.bytes.now, l.held, on.1) in
     c.unlined-then-found-looked.ensures ∙ rw (c.extended.ensures, on.0, n) (sym on.2)
@@ -42,10 +42,10 @@ overflow_add-used c =
     let l = looked (goal.at.overflow_add-used c).After-place_of-found in
     omega (arith, found_in _ _ _ _ _ l, l.reach, l.small)
 
-pub returns-then-room-used : goal.returns-then-room-used
-returns-then-room-used c =
-    let l = looked (goal.at.returns-then-room-used c).After-place_of-found in
-    c.unlined-then-room-used.ensures ∙ rw c.empty.ensures (sym (line-over _ _ _ _ _ l c.if-found-looked.false (omega (arith, l.small, c.if-room-used.true))))
+pub returns-then-too_long : goal.returns-then-too_long
+returns-then-too_long c =
+    let l = looked (goal.at.returns-then-too_long c).After-place_of-found in
+    c.unlined-then-too_long.ensures ∙ rw c.empty.ensures (sym (line-over _ _ _ _ _ l c.if-found-looked.false (omega (arith, l.small))))
 
 pub slice_bounds-extended-end : goal.slice_bounds-extended-end
 slice_bounds-extended-end c =
@@ -56,4 +56,4 @@ pub returns : goal.returns
 returns c =
     let l = looked (goal.at.returns c).After-place_of-found in
     let none = c.if-found-looked.false in
-    rw (c.unlined-2.ensures, c.empty-2.ensures, c.extended-line.ensures, line-bytes _ _ _ _ _ l none, sym (line-size _ _ _ _ _ l none)) (sym (line-whole _ _ _ _ _ l none (omega (arith, l.small, c.if-room-used.false))))
+    rw (c.unlined-2.ensures, c.empty-2.ensures, c.extended-line.ensures, line-bytes _ _ _ _ _ l none, sym (line-size _ _ _ _ _ l none)) (sym (line-whole _ _ _ _ _ l none (omega (arith, l.small))))
