@@ -4,6 +4,7 @@ pub mod Search
 pub mod Ordered
 pub mod Digits
 pub mod Room
+pub mod Pages
 pub mod Clean
 pub mod Fewer
 mod Examples

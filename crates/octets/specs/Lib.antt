@@ -3,4 +3,5 @@ pub mod Search
 pub mod Order
 pub mod Decimals
 pub mod Room
+pub mod Pages
 pub mod Private

@@ -12,6 +12,7 @@ ghost use Rattle.octets.specs.Order.{compare as compare_of};
 ghost use Rattle.octets.specs.Room.{part as part_of, place_in, put_at, end_of};
 
 pub mod decimals;
+pub mod pen;
 
 // The byte of a bell, which no channel name holds.
 const BELL: u8 = 7;
