@@ -1,6 +1,6 @@
 -- The rooms of a list by their places: the room i begins at 1 + 101 i, and the rooms in use, and their masks, are the first of them. Assumes nothing.
 use mathlib.Core.Path.{◌≡◌, refl, sym, ap, ap₂, ◌∙◌}
-use mathlib.Core.Bool.{Bool, true, false, ◌&&◌}
+use mathlib.Core.Bool.{Bool, true, false}
 use mathlib.Core.List.{List, [], ◌∷◌, map}
 use Prim.Native.Nat.{ℕ, zero, suc, ◌+◌, ◌*◌, ◌-◌, ◌≤◌, ◌<◌, min}
 use native.Mathlib.Omega.{arith}
@@ -8,7 +8,6 @@ use lib.ListN.{length, take, drop, get_or, length-map, get_or-map, get_or-eq_def
 use lib.Dec.{leb}
 use lib.Seq.{drop-drop, length-take-le, get_or-take, take_all}
 use borrow.Author.Tests.{lt-ltb, le-ltb, leb-true, leb-false}
-use Rattle.laws.specs.Lists.{all}
 use Rattle.laws.proofs.Lists.{drop-step, get_or_any}
 use Rattle.octets.proofs.Room.{part-next}
 use Rattle.channel.specs.Limits.{ban_limit}

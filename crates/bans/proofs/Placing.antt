@@ -13,7 +13,7 @@ use Rattle.octets.specs.declared.Order.TheVariants.{Less, Same, More}
 use Rattle.octets.specs.Order.{compare}
 use Rattle.octets.specs.Room.{part, put_at}
 use Rattle.octets.proofs.Ordered.{compare_same, more-below}
-use Rattle.octets.proofs.Room.{part-front, part-next, length_part, part-short, put-fits, put_front, put-padded, put_three}
+use Rattle.octets.proofs.Room.{part-front, part-next, part-short, put-fits, put_front, put-padded}
 use Rattle.ascending.specs.Ascending.{put}
 use Rattle.ascending.proofs.Ascends.{put-less, put_same, put-more, put_front as put_last}
 use Rattle.channel.specs.Limits.{mask_limit, ban_limit}

@@ -1,6 +1,7 @@
 // The ban lists of two records merged.
 ghost use Rattle.std.specs.Prelude.{◌≡◌};
-ghost use Rattle.merging.specs.Private.Answers.{lists_as, merged_lists};
+ghost use Rattle.bans.specs.Putting.{added};
+ghost use Rattle.merging.specs.Private.Answers.{merged_lists};
 
 use bans::{BanList, unite};
 use std::cmp::Ordering;
@@ -14,7 +15,7 @@ pub(crate) fn merged_list(
     other_time: u32,
     other: BanList,
 ) -> Option<BanList>
-    ensures { lists_as time list other_time other result ≡ merged_lists time list other_time other }
+    ensures { added list result ≡ merged_lists time list other_time other }
 {
     match time.cmp(&other_time) {
         Ordering::Less => Some(list),

@@ -2,11 +2,9 @@
 use mathlib.Core.Path.{◌≡◌, ap₂, ◌∙◌}
 use mathlib.Core.List.{List}
 use Prim.Native.Nat.{ℕ, ◌+◌}
-use native.Mathlib.Omega.{arith}
 use lib.ListN.{length, set}
 use borrow.Author.Rules.{rules}
 use Rattle.bans.specs.Limits.{list_size}
-use Rattle.bans.proofs.Places.{count_room}
 use Rattle.bans.proofs.Placing.{made-spliced}
 use Rattle.bans.proofs.rooms.inserted.Goals as goal
 
