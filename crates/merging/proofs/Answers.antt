@@ -16,7 +16,7 @@ use Rattle.std.specs.Prelude.{Option, Some, None, Ok, Err}
 use Rattle.refusal.specs.declared.Refusal.{Refusal}
 use Rattle.refusal.specs.declared.Refusal.TheVariants.{TooManyMasks}
 use Rattle.refusal.specs.Refusals.{number_of}
-use Rattle.refusal.proofs.Refusals.{refuses}
+use Rattle.refusal.proofs.Refusals.{number-given}
 use Rattle.refusal.proofs.Rules.{skip, stop, first-nil, append-some, append-none}
 use Rattle.ascending.specs.Ascending.{one_pass}
 use Rattle.ascending.proofs.Ascends.{Ascending, pass-unite}
@@ -144,7 +144,7 @@ module _ (a b : WholeRecord) (whole-both : well_formed_whole a && well_formed_wh
 
   -- more members than there is room for
   pub merge-over : (e : Refusal) → combined_as a.«record» (Err e) ≡ combined a.«record» b.«record» → merged_as a (Err e) ≡ merge_answer a b
-  merge-over e is = sym (answer-over a b whole-both s (number_of e) (numbered (combined_as a.«record» (Err e)) is) (refuses e))
+  merge-over e is = sym (answer-over a b whole-both s (number_of e) (numbered (combined_as a.«record» (Err e)) is) (number-given e))
 
   module _ (r : Record) (is : combined_as a.«record» (Ok r) ≡ combined a.«record» b.«record») where
     fits : first_of (room_rules (merged_channel a b)) ≡ accepted

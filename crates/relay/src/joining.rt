@@ -98,7 +98,7 @@ fn joins(k: usize, emptied: bool, res: Record, incoming: Record) -> Change
 
 // An incoming record is to be merged into the one that slot k holds; an earlier time empties its ban list. Both are well formed, and of one channel: neither
 // is tested again.
-#[tactic(auto, using(refusal::proofs::Refusals::refuses), unfolding(crate::specs::Private::Sjoin::joins_held))]
+#[tactic(auto, using(crate::proofs::Refusals::refused_numbers), unfolding(crate::specs::Private::Sjoin::joins_held))]
 fn joins_held(k: usize, held: Record, incoming: Record) -> Change
     ensures { result ≡ joins_held k held incoming }
 {
