@@ -12,7 +12,7 @@ ghost use Rattle.bans.specs.Private.Rooms.{rooms_left};
 
 use crate::{BanList, is_mask};
 use channel::Record;
-use octets::{lesser, part, put, zero_from};
+use octets::{part, put, zero_from};
 
 // How many masks the list says it has, or all that there is room for where that is more.
 #[tactic(auto, unfolding(crate::specs::Masks::mask_count))]
@@ -20,7 +20,7 @@ pub(crate) fn mask_count(s: &[u8]) -> usize
     ensures { result ≡ mask_count s.now }
 {
     match s.first() {
-        Some(count) => lesser(usize::from(*count), Record::MASKS),
+        Some(count) => usize::from(*count).min(Record::MASKS),
         None => 0,
     }
 }
@@ -59,7 +59,7 @@ impl<'a> Iterator for Rooms<'a> {
         }
         self.left -= 1;
         let bytes = self.bytes;
-        let end = lesser(BanList::ROOM, bytes.len());
+        let end = BanList::ROOM.min(bytes.len());
         let (room, behind) = bytes.split_at(end);
         self.bytes = behind;
         Some(room)

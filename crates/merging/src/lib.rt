@@ -17,7 +17,7 @@ use channel::Record;
 use channel::members::within;
 use lists::merged_list;
 use names::equal;
-use octets::{Order, compare, part};
+use octets::{compare, part};
 use refusal::{ACCEPTED, Refusal};
 use sides::{front, given_if, greatest};
 use uniting::united;
@@ -115,9 +115,5 @@ pub fn combine(a: Record, b: Record) -> Result<Record, Refusal>
 pub fn greater_key<'a>(a: &'a [u8], b: &'a [u8]) -> &'a [u8]
     ensures { result ≡ cond (is_less (compare_of a.now b.now)) b.entry a.entry }
 {
-    match compare(a, b) {
-        Order::Less => b,
-        Order::Same => a,
-        Order::More => a,
-    }
+    if compare(a, b).is_lt() { b } else { a }
 }

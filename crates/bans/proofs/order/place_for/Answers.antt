@@ -34,8 +34,8 @@ returns-in-Less c =
     let l = o.loop-at in
     placed_less (room_of a.m.now) (used_rooms a.s.now) l.at l.invariant.1 (room_in a.s.now l.at) _ (used_step a.s.now l.at (omega arith)) (omega (arith, length-used a.s.now)) (stands ∙ c.in-Less.is)
 
-pub returns-in-Same : goal.returns-in-Same
-returns-in-Same c =
+pub returns-in-Equal : goal.returns-in-Equal
+returns-in-Equal c =
     let given : List ℕ =
     c.args.m.now in
     let room : List ℕ =
@@ -46,7 +46,7 @@ returns-in-Same c =
     let o = c in
     let a = o.args in
     let l = o.loop-at in
-    placed_same (room_of a.m.now) (used_rooms a.s.now) l.at l.invariant.1 (room_in a.s.now l.at) _ (used_step a.s.now l.at (omega arith)) (omega (arith, length-used a.s.now)) (stands ∙ c.in-Same.is)
+    placed_same (room_of a.m.now) (used_rooms a.s.now) l.at l.invariant.1 (room_in a.s.now l.at) _ (used_step a.s.now l.at (omega arith)) (omega (arith, length-used a.s.now)) (stands ∙ c.in-Equal.is)
 
 pub loop-at-preserved : goal.loop-at-preserved
 loop-at-preserved c =
@@ -60,7 +60,7 @@ loop-at-preserved c =
     let o = c in
     let a = o.args in
     let l = o.loop-at in
-    (l.invariant.0, passed-more (room_of a.m.now) (used_rooms a.s.now) l.at l.invariant.1 (room_in a.s.now l.at) _ (used_step a.s.now l.at (omega arith)) (stands ∙ c.in-More.is))
+    (l.invariant.0, passed-more (room_of a.m.now) (used_rooms a.s.now) l.at l.invariant.1 (room_in a.s.now l.at) _ (used_step a.s.now l.at (omega arith)) (stands ∙ c.in-Greater.is))
 
 pub returns : goal.returns
 returns c =
