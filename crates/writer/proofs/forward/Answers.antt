@@ -11,7 +11,6 @@ use Rattle.message.specs.Grammar.{line_limit}
 use Rattle.message.specs.Reading.{is_read, number_for}
 use Rattle.message.proofs.Readings.{reading-line, reading-refused, number-none, refused-number}
 use Rattle.writer.specs.Writing.{forward_rules, forwarded}
-use Rattle.writer.specs.Private.Fit.{refused_by}
 use Rattle.writer.proofs.Rules.{forward-number, forward-short}
 use Rattle.writer.proofs.Rounds.{read-forwards}
 use Rattle.writer.proofs.Answers.{answers-refused, answers-same}
@@ -19,14 +18,14 @@ use Rattle.writer.proofs.forward.Goals as goal
 
 pub returns-then-out-lt-LINE_LIMIT : goal.returns-then-out-lt-LINE_LIMIT
 returns-then-out-lt-LINE_LIMIT c =
-    let a = c.args in let both = answers-refused (forward_rules a.line.now a.out.now) _ _ output_too_short (forward-short a.line.now a.out.now c.if-out-lt-LINE_LIMIT.true) (λ q. omega arith) c.refused.result c.refused.ensures in record { answer = both.0; output = both.1 }
+    let a = c.args in let both = answers-refused (forward_rules a.line.now a.out.now) _ _ output_too_short (forward-short a.line.now a.out.now c.if-out-lt-LINE_LIMIT.true) (λ q. omega arith) c.into.result c.into.ensures in record { answer = both.0; output = both.1 }
 
 pub returns-in_default : goal.returns-in_default
 returns-in_default c =
     let a = c.args in
     let read = c in
     let unread : is_read a.line.now ≡ false = reading-refused a.line.now _ (sym (ap (λ (x : Parsed). x.reading) read.parse-parsed.ensures.parsed) ∙ c.in_default.is) in let both = answers-refused (forward_rules a.line.now a.out.now) _ _ (number_for a.line.now) (forward-number a.line.now a.out.now read.if-out-lt-LINE_LIMIT.false) (refused-number a.line.now unread)
-    c.refused-in_default.result (c.refused-in_default.ensures ∙ ap refused_by (c.number.ensures ∙ read.parse-parsed.ensures.number)) in record { answer = both.0; output = both.1 }
+    _ (ap (λ (k : ℕ). record { number = k; len = 0 }) (c.number.ensures ∙ read.parse-parsed.ensures.number)) in record { answer = both.0; output = both.1 }
 
 pub returns : goal.returns
 returns c =
