@@ -7,7 +7,7 @@ use borrow.Author.Tests.{le-leb, lt-leb, leb-true, leb-false}
 use Rattle.std.specs.Option.{unwrap_or}
 use Rattle.octets.specs.Room.{put_at, end_of, front}
 use Rattle.octets.specs.Pages.{Page, Open, Full, fresh, added, text_of, text_for, page_of}
-use Rattle.octets.proofs.Room.{put-fits, end_fits, end-over, put_front, length-put}
+use Rattle.octets.proofs.Room.{put-fits, end_fits, end-over, put_front, length-put, part-front}
 
 -- ---- a piece, by whether it has room
 pub added-fits : (w : List ℕ) (n : ℕ) (p : List ℕ) → length p ≤ n → added (Open w n) p ≡ Open (w ++ p) (n - length p)
@@ -46,7 +46,8 @@ added_then (Open w n) p q = go (leb (length p) n) refl (leb (length (p ++ q)) n)
         let h : n < length p = leb-false (length p) n e in
         rw (added-over w n p h, added-over w n (p ++ q) (omega (arith, length-append p q))) (added-full q)
 
-pub ruleset pieces = (added_then, added_nothing)
+-- what a chain of puts needs, of parts of lent bytes too
+pub ruleset pieces = (added_then, added_nothing, part-front)
 
 -- ---- a loop that puts pieces: what is put so far, with the rest behind it, is all of them
 pub added_step : (first g next : Page) (all p rest more : List ℕ) → rest ≡ p ++ more → next ≡ added g p → added g rest ≡ added first all → added next more ≡ added first all
@@ -119,19 +120,21 @@ page_copied (Open v n) w out next e = λ h f.
     rw (v=w, le-leb (length w) (length out) h) (f ∙ put_front out w h)
 
 -- ---- the text of a whole page
-module _ (n : ℕ) (w : List ℕ) where
-  pub text-fits : (t : List ℕ) → text_of (added (fresh n) w) ≡ Some t → (t ≡ w) × (length w ≤ n)
+module _ (g : Page) (n : ℕ) (w : List ℕ) (put : g ≡ added (fresh n) w) where
+  -- if there is one, it is what was put
+  pub text-fits : (t : List ℕ) → text_of g ≡ Some t → (t ≡ w) × (length w ≤ n)
   text-fits t e = go (leb (length w) n) refl
     where
       go : (u : Bool) → leb (length w) n ≡ u → (t ≡ w) × (length w ≤ n)
-      go true f = let h : length w ≤ n = leb-true (length w) n f in let d = ap text_of (added-fits [] n w h) in (cc, h)
-      go false f = let d = ap text_of (added-over [] n w (leb-false (length w) n f)) in absurd (cc)
+      go true f = let h : length w ≤ n = leb-true (length w) n f in let d = ap text_of (put ∙ added-fits [] n w h) in (cc, h)
+      go false f = let d = ap text_of (put ∙ added-over [] n w (leb-false (length w) n f)) in absurd (cc)
 
-  pub text-over : text_of (added (fresh n) w) ≡ None → n < length w
+  -- and else that was too long
+  pub text-over : text_of g ≡ None → n < length w
   text-over e = go (leb (length w) n) refl
     where
       go : (u : Bool) → leb (length w) n ≡ u → n < length w
-      go true f = let d = ap text_of (added-fits [] n w (leb-true (length w) n f)) in absurd (cc)
+      go true f = let d = ap text_of (put ∙ added-fits [] n w (leb-true (length w) n f)) in absurd (cc)
       go false f = leb-false (length w) n f
 
 -- and it goes out whole, where both have room for it

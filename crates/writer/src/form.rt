@@ -35,7 +35,7 @@ pub fn takes_colon(p: &[u8], k: usize, last: bool) -> bool
 
 // Puts a SPACE and parameter k.
 #[tactic(auto, using(octets::proofs::Pages::pieces), unfolding(crate::specs::Form::written_param))]
-fn put_param(line: &mut Pen<'_>, p: &[u8], k: usize, last: bool)
+pub fn put_param(line: &mut Pen<'_>, p: &[u8], k: usize, last: bool)
     ensures { line.new ≡ added line.old (space ∷ written_param k last p.now) }
 {
     line.put(b" ");
