@@ -8,9 +8,10 @@ pub mod Readings
 pub mod SpanContents
 pub mod Splits
 pub mod Sizes
-pub mod Words
+pub mod Separated
 pub mod Prefixes
 pub mod Sequence
 pub mod Former
+mod Firsts
 mod Gathered
 mod Examples

@@ -135,14 +135,16 @@ pub fn process(
     if entry != ACCEPTED {
         return refused(t, entry, 0);
     }
-    let parsed = parse(line);
-    let asked = requested(line, parsed);
+    let m = match parse(line) {
+        Ok(m) => m,
+        Err(refusal) => return refused(t, refusal.number(), 0),
+    };
+    let asked = requested(line, m);
     let request = asked.request;
     let asks = request.number;
     if asks != ACCEPTED {
         return refused(t, asks, request.place);
     }
-    let m = parsed.message;
     let change = settled(line, m, asked, slot_of(t, line, request.name), bans);
     let number = change.number;
     if number != ACCEPTED {

@@ -1,9 +1,9 @@
 // What a line asks for by itself: its command, and the channel and the user that it is about, or the number of its refusal. No table is looked at, and
 // nothing is written.
-ghost use Rattle.std.specs.Prelude.{◌≡◌, map};
+ghost use Rattle.std.specs.Prelude.{◌≡◌, true, map};
 ghost use Rattle.octets.specs.Bytes.{capital as capital_of};
 ghost use Rattle.laws.specs.Lists.{same};
-ghost use Rattle.message.specs.Reading.{parsed_of};
+ghost use Rattle.message.specs.Reading.{is_read, message_of};
 ghost use Rattle.relay.specs.Private.Work.{nothing as nothing_of};
 ghost use Rattle.relay.specs.Private.Commands.{asked_of};
 
@@ -14,7 +14,7 @@ use crate::quitting::quit_request;
 use crate::{Asked, Command, Request};
 use channel::Record;
 use message::spans::command_in;
-use message::{Parsed, Reading, Span};
+use message::{Message, Span};
 use names::USER_ID;
 use octets::capital;
 use refusal::UNKNOWN_COMMAND;
@@ -54,17 +54,12 @@ pub(crate) fn nothing(number: u8, place: usize) -> Asked
     }
 }
 
-// What a line asks for, with what it reads as: the reader's own number, or the first of the numbers 11 to 16, 32 to 36, 18 and 26 that applies,
-// or the request.
-pub(crate) fn requested(line: &[u8], parsed: Parsed) -> Asked
-    requires { parsed ≡ parsed_of line.now }
+// What a line asks for that is read, with its parts: the first of the numbers 11 to 16, 32 to 36, 18 and 26 that applies, or the request.
+pub(crate) fn requested(line: &[u8], m: Message) -> Asked
+    requires read { is_read line.now ≡ true }
+    requires parts { m ≡ message_of line.now }
     ensures { result ≡ asked_of line.now }
 {
-    let reading = parsed.reading;
-    let Reading::Line(_) = reading else {
-        return nothing(reading.number(), 0);
-    };
-    let m = parsed.message;
     let word = command_in(line, m);
     if is_word(word, b"SJOIN") {
         return join_request(line, m);

@@ -16,7 +16,7 @@ ghost use Rattle.writer.specs.Private.Fit.{cased};
 
 use fit::fit;
 use form::put_message;
-use message::{LINE_LIMIT, Message, Reading};
+use message::{LINE_LIMIT, Message};
 use octets::pen::Pen;
 use refusal::Refusal;
 
@@ -82,16 +82,17 @@ pub fn forward(line: &[u8], out: &mut [u8]) -> Written
     ensures answer { result ≡ written_answer (forward_rules line.now out.old) (forwarded line.now) }
     ensures output { out.new ≡ front (emitted (forward_rules line.now out.old) (forwarded line.now)) out.old }
 {
+    forward_line(line, out).into()
+}
+
+// The same: what is read of the line is written.
+fn forward_line(line: &[u8], out: &mut [u8]) -> Result<usize, Refusal>
+    ensures answer { written_of result ≡ written_answer (forward_rules line.now out.old) (forwarded line.now) }
+    ensures output { out.new ≡ front (emitted (forward_rules line.now out.old) (forwarded line.now)) out.old }
+{
     if out.len() < LINE_LIMIT {
-        return Err(Refusal::OutputTooShort).into();
+        return Err(Refusal::OutputTooShort);
     }
-    let parsed = message::parse(line);
-    let reading = parsed.reading;
-    let Reading::Line(_) = reading else {
-        return Written {
-            number: reading.number(),
-            len: 0,
-        };
-    };
-    forward_message(line, parsed.message, out)
+    let m = message::parse(line)?;
+    write_cased(line, m, true, out)
 }

@@ -11,10 +11,10 @@ use Rattle.refusal.proofs.Rules.{first_plain}
 use Rattle.octets.specs.Room.{front}
 use Rattle.laws.proofs.Lists.{unmapped}
 use Rattle.message.specs.declared.Message.{Message}
-use Rattle.message.specs.declared.Parsed.{Parsed}
 use Rattle.message.specs.Content.{Content}
 use Rattle.message.specs.Parts.{content_by}
 use Rattle.message.specs.Reading.{message_of}
+use Rattle.message.proofs.Readings.{parsed-read, parsed-refused, refused-number}
 use Rattle.message.proofs.SpanContents.{message-holds}
 use Rattle.channel.specs.Limits.{slot_count}
 use Rattle.table.specs.declared.Found.{Found}
@@ -28,13 +28,13 @@ use Rattle.relay.specs.declared.Taken.{Taken}
 use Rattle.relay.specs.Arrival.{Arrival, arrival, said}
 use Rattle.relay.specs.Commands.{command_in}
 use Rattle.relay.specs.Relay.{meaning_in, entry_rules, entering_rules, process_rules, Outcome, process_answer, taken_of, sent}
-use Rattle.relay.specs.Private.Work.{refusing}
+use Rattle.relay.specs.Private.Work.{nothing, refusing}
 use Rattle.relay.specs.Private.Commands.{work_of, looked_up}
 use Rattle.relay.specs.Private.Acting.{head_with, done_by, written_by}
 use Rattle.relay.proofs.Judgements.{Judged}
 use Rattle.relay.proofs.Lawful.{Lawful}
 use Rattle.relay.proofs.Commands.{lawful}
-use Rattle.relay.proofs.Asking.{request-refuses, request-passes}
+use Rattle.relay.proofs.Asking.{asked-unread, request-refuses, request-passes}
 use Rattle.relay.proofs.Entering.{entry-good, entry-refuses, enters, command-decides}
 use Rattle.relay.proofs.Answering.{answer-refused, sent-nothing, sent-line, answer-taken, bans-taken, written-line}
 use Rattle.relay.proofs.process.Goals as goal
@@ -68,9 +68,40 @@ returns-then-entry-ne-ACCEPTED c =
     let ne = c.if-entry-ne-ACCEPTED.true in
     let is = entry-refuses (table) (came) (length (lent)) (λ z. ne (sym (entry-is) ∙ z)) ∙ entry-is in let both = refuses _ 0 is ne (unplaced _ (sym (ap is_mode_number (entry-is)) ∙ first_plain (entering_rules (table) (came) (length (lent))) refl)) c.refused.result c.refused.ensures in record { answer = both.0; lists = both.1.0; output = both.1.1 }
 
+pub returns-in-Err : goal.returns-in-Err
+returns-in-Err c =
+    let table : Table =
+    table_with c.args.t c.args.bans.now in
+    let came : Arrival =
+    arrival c.args.link c.args.line.now in
+    let lent : List ℕ =
+    c.args.out.now in
+    let number : ℕ =
+    first_of (process_rules (table) (came) (length (lent))) in
+    let entry : ℕ =
+    first_of (entering_rules (table) (came) (length (lent))) in
+    let entry-is : entry ≡ c.entry_number-entry.result =
+    ap (λ (g : Bool). first_of (entry_rules g (length (lent)) (table).links (came).link)) (sym c.is_well_formed.ensures) ∙ sym c.entry_number-entry.ensures in
+    let law : Lawful (command_in (came).line) =
+    lawful (command_in (came).line) in
+    let passes : entry ≡ accepted =
+    entry-is ∙ c.if-entry-ne-ACCEPTED.false in
+    let refuses : (k place : ℕ) → number ≡ k → (k ≡ accepted → ⊥) → place ≡ line_place k (came).line → (r : Taken) → r ≡ refusing c.args.t k place
+    → (r ≡ taken_of (process_answer (table) (came) (length (lent))))
+    × (((table).bans ≡ (process_answer (table) (came) (length (lent))).table.bans) × (lent ≡ front (sent (table) (came) (length (lent))) (lent))) =
+    λ k place e ne p r f. let answer = answer-refused (table) (came) (length (lent)) k e ne in
+    (f ∙ ap (refusing c.args.t k) p ∙ ap taken_of answer, (ap (λ (o : Outcome). o.table.bans) answer, rw (sent-nothing (table) (came) (length (lent)) k e ne))) in
+    let is = parsed-refused (came).line c.in-Err.refusal c.in-Err.ensures.parsed in
+    let told = c.number.ensures ∙ is.1 in
+    let ne : c.number.result ≡ accepted → ⊥ = λ z. refused-number (came).line is.0 (sym told ∙ z) in
+    let asks = request-refuses (came) (law) (nothing c.number.result 0) (ap (λ (k : ℕ). nothing k 0) told ∙ asked-unread (came).line is.0) ne in
+    let both = refuses _ _ (enters (table) (came) (length (lent)) (passes) ∙ asks.0 (network_of (table))) ne asks.1 c.refused-in-Err.result c.refused-in-Err.ensures in
+    record { answer = both.0; lists = both.1.0; output = both.1.1 }
+
 pub requested-asked-requires : goal.requested-asked-requires
 requested-asked-requires c =
-    c.parse-parsed.ensures.parsed
+    let is = parsed-read c.args.line.now c.in-Ok.m c.in-Ok.ensures.parsed in
+    record { read = is.0; parts = is.1 }
 
 pub returns-then-asks-ne-ACCEPTED : goal.returns-then-asks-ne-ACCEPTED
 returns-then-asks-ne-ACCEPTED c =
@@ -125,9 +156,9 @@ returns-then-number-ne-ACCEPTED c =
     let e = c in entry-good (good_table (table)) (table).links (came).link (length (lent)) (passes) in
     let change : Change =
     c.settled-change.result in
-    let read_as : c.parse-parsed.result.message ≡ message_of (came).line =
-    ap (λ (x : Parsed). x.message) c.parse-parsed.ensures.parsed in
-    let said-so : content_by (came).line c.parse-parsed.result.message ≡ said (came) =
+    let read_as : c.in-Ok.m ≡ message_of (came).line =
+    (parsed-read (came).line c.in-Ok.m c.in-Ok.ensures.parsed).1 in
+    let said-so : content_by (came).line c.in-Ok.m ≡ said (came) =
     ap (content_by (came).line) (read_as) ∙ message-holds (came).line in
     let own-passes : first_of ((work_of (command_in (came).line)).own (said (came))) ≡ accepted =
     let e = c in
@@ -179,9 +210,9 @@ changed-head-requires c =
     let e = c in entry-good (good_table (table)) (table).links (came).link (length (lent)) (passes) in
     let change : Change =
     c.settled-change.result in
-    let read_as : c.parse-parsed.result.message ≡ message_of (came).line =
-    ap (λ (x : Parsed). x.message) c.parse-parsed.ensures.parsed in
-    let said-so : content_by (came).line c.parse-parsed.result.message ≡ said (came) =
+    let read_as : c.in-Ok.m ≡ message_of (came).line =
+    (parsed-read (came).line c.in-Ok.m c.in-Ok.ensures.parsed).1 in
+    let said-so : content_by (came).line c.in-Ok.m ≡ said (came) =
     ap (content_by (came).line) (read_as) ∙ message-holds (came).line in
     let judged : (number ≡ (change).number) × Judged (meaning_in (came)) (network_of (table)) (came) (change) =
     let e = c in
@@ -220,9 +251,9 @@ returns c =
     let e = c in entry-good (good_table (table)) (table).links (came).link (length (lent)) (passes) in
     let change : Change =
     c.settled-change.result in
-    let read_as : c.parse-parsed.result.message ≡ message_of (came).line =
-    ap (λ (x : Parsed). x.message) c.parse-parsed.ensures.parsed in
-    let said-so : content_by (came).line c.parse-parsed.result.message ≡ said (came) =
+    let read_as : c.in-Ok.m ≡ message_of (came).line =
+    (parsed-read (came).line c.in-Ok.m c.in-Ok.ensures.parsed).1 in
+    let said-so : content_by (came).line c.in-Ok.m ≡ said (came) =
     ap (content_by (came).line) (read_as) ∙ message-holds (came).line in
     let judged : (number ≡ (change).number) × Judged (meaning_in (came)) (network_of (table)) (came) (change) =
     let e = c in

@@ -1,62 +1,45 @@
--- `requested` meets its contract: the reader's numbers come first; then the word is compared with one command's after the other, whose own rules decide. Assumes
+-- `requested` meets its contract: the word is compared with one command's after the other, whose own rules decide. Assumes
 -- nothing.
 use mathlib.Core.Path.{◌≡◌, refl, sym, ap, ◌∙◌}
-use mathlib.Core.Bool.{true, false}
+use mathlib.Core.Bool.{true}
 use mathlib.Core.List.{List, [], ◌∷◌, map}
 use Prim.Native.Nat.{ℕ}
 use native.Mathlib.Omega.{arith}
 use Rattle.refusal.proofs.Rules.{stop}
 use Rattle.octets.specs.Bytes.{capital}
 use Rattle.message.specs.declared.Message.{Message}
-use Rattle.message.specs.declared.Parsed.{Parsed}
-use Rattle.message.specs.Reading.{reading_of, is_read}
-use Rattle.message.proofs.Readings.{reading-line, reading-refused, read_small, answers}
+use Rattle.message.specs.Reading.{is_read}
+use Rattle.message.proofs.Readings.{read_small}
 use Rattle.relay.specs.declared.Command.{Command}
 use Rattle.relay.specs.declared.Command.TheVariants.{Sjoin, Part, Quit, Bmask, Unknown}
 use Rattle.relay.specs.declared.Asked.{Asked}
 use Rattle.relay.specs.Commands.{meaning_of, command_among, command_of}
-use Rattle.relay.specs.Private.Work.{nothing}
 use Rattle.relay.specs.Private.Commands.{asked_by, asked_of}
 use Rattle.relay.proofs.Words.{is_word, among-here, among_next, among_none}
-use Rattle.relay.proofs.Asking.{asked-plain, asked-unread, asked-parts}
+use Rattle.relay.proofs.Asking.{asked-plain, asked-parts}
 use Rattle.relay.proofs.requests.requested.Goals as goal
-
-pub returns-in_default : goal.returns-in_default
-returns-in_default c =
-    let line : List ℕ =
-    c.args.line.now in
-    let reading : c.args.parsed.reading ≡ reading_of (line) =
-    ap (λ (x : Parsed). x.reading) c.requires in
-    let s = c in
-    let unread : is_read (line) ≡ false = reading-refused (line) _ (sym (reading) ∙ c.in_default.is) in
-    let number = c.number.ensures ∙ (answers (line) s.args.parsed s.requires).1.0 in
-    c.nothing.ensures ∙ ap (λ (k : ℕ). nothing k 0) number ∙ asked-unread (line) unread
 
 pub join_request-requires : goal.join_request-requires
 join_request-requires c =
     let line : List ℕ =
     c.args.line.now in
-    let reading : c.args.parsed.reading ≡ reading_of (line) =
-    ap (λ (x : Parsed). x.reading) c.requires in
     let read : is_read (line) ≡ true =
-    let s = c in reading-line (line) _ (sym (reading) ∙ c.in-Line.is) in
+    c.requires.read in
     let w = c in read_small (line) (read)
 
 pub returns-then-is_word : goal.returns-then-is_word
 returns-then-is_word c =
     let line : List ℕ =
     c.args.line.now in
-    let reading : c.args.parsed.reading ≡ reading_of (line) =
-    ap (λ (x : Parsed). x.reading) c.requires in
     let read : is_read (line) ≡ true =
-    let s = c in reading-line (line) _ (sym (reading) ∙ c.in-Line.is) in
+    c.requires.read in
     let message : Message =
-    c.args.parsed.message in
+    c.args.m in
     let word : List ℕ =
     c.command_in-word.result.now in
     let asks : (k : Command) → command_of (word) ≡ k → (q : Asked) → q ≡ asked_by k (line) (message) → q ≡ asked_of (line) =
     λ k e q f. let s = c in
-    asked-parts (line) (read) (message) (ap (λ (x : Parsed). x.message) s.requires) k (ap command_of (sym c.command_in-word.ensures.bytes) ∙ e) q f in
+    asked-parts (line) (read) (message) s.requires.parts k (ap command_of (sym c.command_in-word.ensures.bytes) ∙ e) q f in
     let is_join : is_word (word) (meaning_of Sjoin).word ≡ c.is_word.result =
     sym c.is_word.ensures in
     let w = c in
@@ -66,17 +49,15 @@ pub returns-then-is_word-2 : goal.returns-then-is_word-2
 returns-then-is_word-2 c =
     let line : List ℕ =
     c.args.line.now in
-    let reading : c.args.parsed.reading ≡ reading_of (line) =
-    ap (λ (x : Parsed). x.reading) c.requires in
     let read : is_read (line) ≡ true =
-    let s = c in reading-line (line) _ (sym (reading) ∙ c.in-Line.is) in
+    c.requires.read in
     let message : Message =
-    c.args.parsed.message in
+    c.args.m in
     let word : List ℕ =
     c.command_in-word.result.now in
     let asks : (k : Command) → command_of (word) ≡ k → (q : Asked) → q ≡ asked_by k (line) (message) → q ≡ asked_of (line) =
     λ k e q f. let s = c in
-    asked-parts (line) (read) (message) (ap (λ (x : Parsed). x.message) s.requires) k (ap command_of (sym c.command_in-word.ensures.bytes) ∙ e) q f in
+    asked-parts (line) (read) (message) s.requires.parts k (ap command_of (sym c.command_in-word.ensures.bytes) ∙ e) q f in
     let is_join : is_word (word) (meaning_of Sjoin).word ≡ c.is_word.result =
     sym c.is_word.ensures in
     let is-part : is_word (word) (meaning_of Part).word ≡ c.is_word-2.result =
@@ -91,17 +72,15 @@ pub returns-then-is_word-3 : goal.returns-then-is_word-3
 returns-then-is_word-3 c =
     let line : List ℕ =
     c.args.line.now in
-    let reading : c.args.parsed.reading ≡ reading_of (line) =
-    ap (λ (x : Parsed). x.reading) c.requires in
     let read : is_read (line) ≡ true =
-    let s = c in reading-line (line) _ (sym (reading) ∙ c.in-Line.is) in
+    c.requires.read in
     let message : Message =
-    c.args.parsed.message in
+    c.args.m in
     let word : List ℕ =
     c.command_in-word.result.now in
     let asks : (k : Command) → command_of (word) ≡ k → (q : Asked) → q ≡ asked_by k (line) (message) → q ≡ asked_of (line) =
     λ k e q f. let s = c in
-    asked-parts (line) (read) (message) (ap (λ (x : Parsed). x.message) s.requires) k (ap command_of (sym c.command_in-word.ensures.bytes) ∙ e) q f in
+    asked-parts (line) (read) (message) s.requires.parts k (ap command_of (sym c.command_in-word.ensures.bytes) ∙ e) q f in
     let is_join : is_word (word) (meaning_of Sjoin).word ≡ c.is_word.result =
     sym c.is_word.ensures in
     let is-part : is_word (word) (meaning_of Part).word ≡ c.is_word-2.result =
@@ -120,17 +99,15 @@ pub returns-then-is_word-4 : goal.returns-then-is_word-4
 returns-then-is_word-4 c =
     let line : List ℕ =
     c.args.line.now in
-    let reading : c.args.parsed.reading ≡ reading_of (line) =
-    ap (λ (x : Parsed). x.reading) c.requires in
     let read : is_read (line) ≡ true =
-    let s = c in reading-line (line) _ (sym (reading) ∙ c.in-Line.is) in
+    c.requires.read in
     let message : Message =
-    c.args.parsed.message in
+    c.args.m in
     let word : List ℕ =
     c.command_in-word.result.now in
     let asks : (k : Command) → command_of (word) ≡ k → (q : Asked) → q ≡ asked_by k (line) (message) → q ≡ asked_of (line) =
     λ k e q f. let s = c in
-    asked-parts (line) (read) (message) (ap (λ (x : Parsed). x.message) s.requires) k (ap command_of (sym c.command_in-word.ensures.bytes) ∙ e) q f in
+    asked-parts (line) (read) (message) s.requires.parts k (ap command_of (sym c.command_in-word.ensures.bytes) ∙ e) q f in
     let is_join : is_word (word) (meaning_of Sjoin).word ≡ c.is_word.result =
     sym c.is_word.ensures in
     let is-part : is_word (word) (meaning_of Part).word ≡ c.is_word-2.result =
@@ -153,17 +130,15 @@ pub returns : goal.returns
 returns c =
     let line : List ℕ =
     c.args.line.now in
-    let reading : c.args.parsed.reading ≡ reading_of (line) =
-    ap (λ (x : Parsed). x.reading) c.requires in
     let read : is_read (line) ≡ true =
-    let s = c in reading-line (line) _ (sym (reading) ∙ c.in-Line.is) in
+    c.requires.read in
     let message : Message =
-    c.args.parsed.message in
+    c.args.m in
     let word : List ℕ =
     c.command_in-word.result.now in
     let asks : (k : Command) → command_of (word) ≡ k → (q : Asked) → q ≡ asked_by k (line) (message) → q ≡ asked_of (line) =
     λ k e q f. let s = c in
-    asked-parts (line) (read) (message) (ap (λ (x : Parsed). x.message) s.requires) k (ap command_of (sym c.command_in-word.ensures.bytes) ∙ e) q f in
+    asked-parts (line) (read) (message) s.requires.parts k (ap command_of (sym c.command_in-word.ensures.bytes) ∙ e) q f in
     let is_join : is_word (word) (meaning_of Sjoin).word ≡ c.is_word.result =
     sym c.is_word.ensures in
     let is-part : is_word (word) (meaning_of Part).word ≡ c.is_word-2.result =
@@ -182,4 +157,4 @@ returns c =
     let e = c in
     let w = e in
     let unknown = not-quit ∙ among_next Bmask _ (word) (is-mask ∙ c.if-is_word-4.false) ∙ among_none (word) in
-    asks Unknown unknown c.nothing-2.result (c.nothing-2.ensures ∙ asked-plain Unknown (line) (message) _ (stop _ _ refl) (λ z. omega (arith, z)) refl)
+    asks Unknown unknown c.nothing.result (c.nothing.ensures ∙ asked-plain Unknown (line) (message) _ (stop _ _ refl) (λ z. omega (arith, z)) refl)
