@@ -152,7 +152,7 @@ pub fn is_well_formed(s: &[u8]) -> bool
 pub fn is_whole(w: WholeRecord) -> bool
     ensures { result ≡ well_formed_whole w }
 {
-    if !channel::is_well_formed(w.record) {
+    if !channel::is_well_formed(&w.record) {
         return false;
     }
     let room = w.bans.room;

@@ -11,16 +11,8 @@ use Rattle.table.proofs.find.Given as goal
 
 abbrev pub invariant-loop-i : goal.invariant-loop-i
 invariant-loop-i l =
-    (l.k ≡ l.k) × (l.i ≤ length l.name) × (length l.held ≡ length l.name) × (same_name (drop l.i l.held) (drop l.i l.name) ≡ same_name l.held l.name)
-
-abbrev pub decreases-loop-i : goal.decreases-loop-i
-decreases-loop-i l =
-    length l.name - l.i
+    (length l.held ≡ length l.name) × (same_name (drop l.i l.held) (drop l.i l.name) ≡ same_name l.held l.name)
 
 abbrev pub invariant-slots : goal.invariant-slots
 invariant-slots l =
-    (l.k ≤ slot_count) × (first_at (holds l.name) l.t.slots ≡ l.k + first_at (holds l.name) (drop l.k l.t.slots))
-
-abbrev pub decreases-slots : goal.decreases-slots
-decreases-slots l =
-    slot_count - l.k
+    first_at (holds l.name) l.t.slots ≡ l.k + first_at (holds l.name) (drop l.k l.t.slots)
