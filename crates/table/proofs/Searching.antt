@@ -3,6 +3,7 @@ use mathlib.Core.Path.{◌≡◌, refl, sym, ap, ◌∙◌}
 use mathlib.Core.Bool.{Bool, true, false, not, cond, ◌&&◌}
 use mathlib.Core.List.{List, [], ◌∷◌}
 use Rattle.std.proofs.Common.{Option, Some, None}
+use Rattle.std.specs.List.{position_or_len}
 use Prim.Native.Nat.{ℕ, ◌+◌, ◌≤◌, ◌<◌}
 use native.Mathlib.Omega.{arith}
 use lib.ListN.{length, drop, get_or}
@@ -15,9 +16,11 @@ use Rattle.laws.proofs.Lists.{get_or_any}
 use Rattle.names.specs.Fold.{same_name}
 use Rattle.channel.specs.declared.Record.{Record}
 use Rattle.channel.specs.Record.{decode, empty_record}
+use Rattle.table.specs.declared.Found as code
+use Rattle.table.specs.declared.Found.TheVariants as answer
 use Rattle.table.specs.Table.{is_free, holds}
-use Rattle.table.specs.Slots.{Found, Held, Free, Full, first_at, free_slot, slot_for, held_in, found_for, slot_number, slot_rules}
-use Rattle.table.proofs.First.{IsFirst, IsNone, first-here, first_next, first-end, first-is, first-none, first-all}
+use Rattle.table.specs.Slots.{Found, Held, Free, Full, first_at, free_slot, slot_for, is_held, held_in, found, found_for, slot_number, slot_rules}
+use Rattle.table.proofs.First.{IsFirst, IsNone, first-here, first_next, first-end, first-is, first-none, first-all, first-listed}
 
 -- what the code reads past the last slot
 abbrev pub nothing : Record
@@ -60,6 +63,9 @@ module _ (slots : List Record) where
   abbrev pub searched : Option ℕ
   searched = cond (ltb (first_at is_free slots) (length slots)) (Some (first_at is_free slots)) None
 
+  pub searched-is : (r : Option ℕ) → r ≡ cond (ltb (position_or_len is_free slots) (length slots)) (Some (position_or_len is_free slots)) None → searched ≡ r
+  searched-is r e = ap (λ (n : ℕ). cond (ltb n (length slots)) (Some n) None) (sym (first-listed is_free slots)) ∙ sym e
+
   pub free-some : (k : ℕ) → searched ≡ Some k → Free k ≡ free_slot slots
   free-some k = go (ltb (first_at is_free slots) (length slots)) refl
     where
@@ -84,6 +90,13 @@ module _ (slots : List Record) where
     pub held_none : length slots ≤ first_at (holds name) slots → slot_for slots name ≡ free_slot slots
     unfolding slot_for
     held_none h = rw (le-ltb (first_at (holds name) slots) (length slots) h)
+
+-- ---- what the code answers
+-- one that holds nothing isn't the first kind
+pub not-held : (f : code.Found) → ((k : ℕ) (r : _) → f ≡ answer.Held k r → ⊥) → is_held (found f).slot ≡ false
+not-held (answer.Held k r) h = absurd (h k r refl)
+not-held (answer.Free k) h = refl
+not-held answer.Full h = refl
 
 -- ---- what the answers say
 -- The three ways in which a search can end.

@@ -159,7 +159,12 @@ pub fn find<'a>(t: &'a Head, name: &[u8]) -> Found<'a>
 }
 
 // Whether a text is banned from the channel of a name: whether some mask of its list matches it.
-fn is_text_banned(t: &Head, bans: &[u8; BanList::BANS], name: &[u8], text: &[u8]) -> Result<bool, Refusal>
+fn is_text_banned(
+    t: &Head,
+    bans: &[u8; BanList::BANS],
+    name: &[u8],
+    text: &[u8],
+) -> Result<bool, Refusal>
     ensures { banned_as result ≡ banned_answer (table_with t.now bans.now) name.now text.now }
 {
     if !is_well_formed(t, bans) {

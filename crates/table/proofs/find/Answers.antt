@@ -1,25 +1,17 @@
 -- `find` meets its contract. The invariants: no slot below k holds the name; and what follows the first i bytes of the name that slot k holds
 -- and of the name sought is equal exactly if the two are. Assumes nothing.
-use mathlib.Core.Path.{◌≡◌, sym, ap, ◌∙◌}
-use mathlib.Core.Bool.{Bool, true, cond}
-use mathlib.Core.List.{List}
-use Prim.Native.Nat.{ℕ}
+use mathlib.Core.Path.{◌≡◌, sym, ◌∙◌}
 use native.Mathlib.Omega.{arith}
-use lib.ListN.{length, drop, get_or}
-use lib.Dec.{ltb}
+use lib.ListN.{length}
 use borrow.Author.Rules.{rules}
 use borrow.Author.Tests.{tests}
-use Rattle.std.proofs.Common.{Some, None}
 use Rattle.std.proofs.lemmas.Iterator.{YieldsList-from_slice}
 use Rattle.std.proofs.lemmas.Iterator.Search.{position_from_yields_List}
 use Rattle.laws.proofs.Lists.{unmapped}
-use Rattle.names.specs.Fold.{same_name}
 use Rattle.names.proofs.Folds.{lengths_differ, name-past, name-stop, name-go}
 use Rattle.channel.specs.Limits.{slot_count}
-use Rattle.table.specs.Table.{is_free, holds}
-use Rattle.table.specs.Slots.{Held, Free, Full}
-use Rattle.table.proofs.First.{first-listed}
-use Rattle.table.proofs.Searching.{nothing, free-holds, used-holds, searched, number-found, slot-over, slot-answers, free-answers, full-answers}
+use Rattle.table.specs.Table.{is_free}
+use Rattle.table.proofs.Searching.{nothing, free-holds, used-holds, searched-is, number-found, slot-over, slot-answers, free-answers, full-answers}
 use Rattle.table.proofs.find.Goals as goal
 use Rattle.table.proofs.find.Goals.{then-t-k-eq0-via-then-t-k-eq0, then-t-k-eq0-via-else-t-k-eq0+then-held-name}
 
@@ -69,14 +61,26 @@ pub returns-in-Some-clause-found : goal.returns-in-Some-clause-found
 returns-in-Some-clause-found c =
     let slots = c.args.t.now.slots in
     let sixteen : length slots ≡ slot_count = search (rules, unmapped) in
-    let place = position_from_yields_List is_free _ _ c.position.result c.position.ensures.ran (YieldsList-from_slice slots cc) (λ x b q k. search (rules, tests)) in
-    free-answers slots c.args.name.now c.slots.k c.slots.invariant (omega arith) c.in-Some.k ?
+    let place = searched-is slots c.position.result (position_from_yields_List is_free _ _ c.position.result c.position.ensures.ran (YieldsList-from_slice slots cc) (λ x b q k. search (rules, tests))) in
+    free-answers slots c.args.name.now c.slots.k c.slots.invariant (omega arith) c.in-Some.k (place ∙ c.in-Some.is)
 
 pub returns-in-Some-clause-number : goal.returns-in-Some-clause-number
-returns-in-Some-clause-number c = ?
+returns-in-Some-clause-number c =
+    let slots = c.args.t.now.slots in
+    let sixteen : length slots ≡ slot_count = search (rules, unmapped) in
+    let place = searched-is slots c.position.result (position_from_yields_List is_free _ _ c.position.result c.position.ensures.ran (YieldsList-from_slice slots cc) (λ x b q k. search (rules, tests))) in
+    number-found slots c.args.name.now _ (free-answers slots c.args.name.now c.slots.k c.slots.invariant (omega arith) c.in-Some.k (place ∙ c.in-Some.is))
 
 pub returns-in-None-clause-found : goal.returns-in-None-clause-found
-returns-in-None-clause-found c = ?
+returns-in-None-clause-found c =
+    let slots = c.args.t.now.slots in
+    let sixteen : length slots ≡ slot_count = search (rules, unmapped) in
+    let place = searched-is slots c.position.result (position_from_yields_List is_free _ _ c.position.result c.position.ensures.ran (YieldsList-from_slice slots cc) (λ x b q k. search (rules, tests))) in
+    full-answers slots c.args.name.now c.slots.k c.slots.invariant (omega arith) (place ∙ c.in-None.is)
 
 pub returns-in-None-clause-number : goal.returns-in-None-clause-number
-returns-in-None-clause-number c = ?
+returns-in-None-clause-number c =
+    let slots = c.args.t.now.slots in
+    let sixteen : length slots ≡ slot_count = search (rules, unmapped) in
+    let place = searched-is slots c.position.result (position_from_yields_List is_free _ _ c.position.result c.position.ensures.ran (YieldsList-from_slice slots cc) (λ x b q k. search (rules, tests))) in
+    number-found slots c.args.name.now _ (full-answers slots c.args.name.now c.slots.k c.slots.invariant (omega arith) (place ∙ c.in-None.is))

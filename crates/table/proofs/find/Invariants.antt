@@ -1,10 +1,9 @@
 -- `find` meets its contract. The invariants: no slot below k holds the name; and what follows the first i bytes of the name that slot k holds
 -- and of the name sought is equal exactly if the two are. Assumes nothing.
 use mathlib.Core.Path.{◌≡◌}
-use Prim.Native.Nat.{◌+◌, ◌-◌, ◌≤◌}
+use Prim.Native.Nat.{◌+◌}
 use lib.ListN.{length, drop}
 use Rattle.names.specs.Fold.{same_name}
-use Rattle.channel.specs.Limits.{slot_count}
 use Rattle.table.specs.Table.{holds}
 use Rattle.table.specs.Slots.{first_at}
 use Rattle.table.proofs.find.Given as goal
