@@ -19,7 +19,7 @@ use Rattle.channel.specs.Record.{decode, empty_record}
 use Rattle.table.specs.declared.Found as code
 use Rattle.table.specs.declared.Found.TheVariants as answer
 use Rattle.table.specs.Table.{is_free, holds}
-use Rattle.table.specs.Slots.{Found, Held, Free, Full, first_at, free_slot, slot_for, is_held, held_in, found, found_for, slot_number, slot_rules}
+use Rattle.table.specs.Slots.{Found, Held, Free, Full, first_at, free_slot, slot_for, is_held, held_in, as_found, found_for, slot_number, slot_rules}
 use Rattle.table.proofs.First.{IsFirst, IsNone, first-here, first_next, first-end, first-is, first-none, first-all, first-listed}
 
 -- what the code reads past the last slot
@@ -93,7 +93,7 @@ module _ (slots : List Record) where
 
 -- ---- what the code answers
 -- one that holds nothing isn't the first kind
-pub not-held : (f : code.Found) → ((k : ℕ) (r : _) → f ≡ answer.Held k r → ⊥) → is_held (found f).slot ≡ false
+pub not-held : (f : code.Found) → ((k : ℕ) (r : _) → f ≡ answer.Held k r → ⊥) → is_held (as_found f).slot ≡ false
 not-held (answer.Held k r) h = absurd (h k r refl)
 not-held (answer.Free k) h = refl
 not-held answer.Full h = refl

@@ -50,10 +50,10 @@ abbrev pub found_for : List Record → List ℕ → Found
 found_for slots name = record { slot = slot_for slots name; «record» = held_in slots (slot_for slots name) }
 
 -- what the code answers, as the slot and the record
-abbrev pub found : code.Found → Found
-found (answer.Held k r) = record { slot = Held k; «record» = r.now }
-found (answer.Free k) = record { slot = Free k; «record» = empty_record }
-found answer.Full = record { slot = Full; «record» = empty_record }
+abbrev pub as_found : code.Found → Found
+as_found (answer.Held k r) = record { slot = Held k; «record» = r.now }
+as_found (answer.Free k) = record { slot = Free k; «record» = empty_record }
+as_found answer.Full = record { slot = Full; «record» = empty_record }
 
 -- the number that a record of that name gets: 21 where there is no slot for it
 abbrev pub slot_number : Slot → ℕ

@@ -9,7 +9,7 @@ ghost use Rattle.refusal.specs.Rules.{first_of};
 ghost use Rattle.refusal.specs.Refusals.{answered};
 ghost use Rattle.table.specs.Network.{head_of, table_with};
 ghost use Rattle.table.specs.Table.{empty_table, good_table, link_rules, relinked as relinked_of, register_answer, unregister_answer, registered_of};
-ghost use Rattle.table.specs.Slots.{found, found_for, slot_number, slot_rules};
+ghost use Rattle.table.specs.Slots.{as_found, found_for, slot_number, slot_rules};
 ghost use Rattle.table.specs.Banned.{banned_answer};
 ghost use Rattle.table.specs.Private.Parts.{banned_as};
 
@@ -137,8 +137,8 @@ pub fn unregister(t: Head, bans: &[u8; BanList::BANS], link: u32) -> Registered
 // first byte that differs leaves for the next slot.
 // Kept (3): document 01 names this form, a labelled loop that the first byte that differs leaves (docs/PROMISES.md, 'Places and their forms').
 pub fn find<'a>(t: &'a Head, name: &[u8]) -> Found<'a>
-    ensures found { found result ≡ found_for t.now.slots name.now }
-    ensures number { slot_number (found result).slot ≡ first_of (slot_rules t.now.slots name.now) }
+    ensures found { as_found result ≡ found_for t.now.slots name.now }
+    ensures number { slot_number (as_found result).slot ≡ first_of (slot_rules t.now.slots name.now) }
 {
     'slots: for k in 0..Record::SLOTS {
         let held = t.slots[k].name();
