@@ -5,7 +5,7 @@ use mathlib.Core.Logic.{◌⊎◌, inl, inr}
 use mathlib.Core.List.{List, [], ◌∷◌, map}
 use Prim.Native.Nat.{ℕ, ◌+◌, ◌≤◌, ◌<◌}
 use native.Mathlib.Omega.{arith}
-use lib.ListN.{length, length-map}
+use lib.ListN.{length, drop, get_or, length-map}
 use lib.Dec.{eqb, leb}
 use lib.Bits.{bit_or}
 use borrow.Author.Tests.{eq-eqb, ne_eqb, eqb-true, eqb-false, leb-true, leb-false}
@@ -14,12 +14,12 @@ use Rattle.octets.proofs.Bytes.{within-bounds, bounds-within, below-within, abov
 use Rattle.laws.specs.Lists.{same_by}
 use Rattle.laws.proofs.Bools.{both_ways}
 use Rattle.laws.proofs.Bounded.{all_below, all-below}
-use Rattle.laws.proofs.Lists.{map-twice, same_by-lengths, same_by-differ, same_by-map-left, same_by-map-right}
-use Rattle.std.specs.List.{list_all, zip}
-use Rattle.laws.proofs.Chains.{same_zipped}
+use Rattle.laws.proofs.Lists.{map-twice, same_by-lengths, same_by-differ, same_by-map-left, same_by-map-right, same_by-past, same_by-stop, same_by-go}
 use Rattle.names.specs.Fold.{caret, tilde, fold, with_caret, alike, same_name}
 use Rattle.names.specs.Names.{hash}
 use Rattle.names.specs.Private.Likeness.{likeness}
+use Rattle.std.specs.List.{list_all, zip}
+use Rattle.laws.proofs.Chains.{same_zipped}
 
 -- ---- single bytes
 -- no byte below 'A' is folded
@@ -200,3 +200,18 @@ module _ (a b : List ℕ) where
   -- names of one length are equal exactly if their bytes are alike in pairs
   pub name-zipped : length a ≡ length b → list_all (λ p. alike p.0 p.1) (zip a b) ≡ same_name a b
   name-zipped e = same_zipped alike a b e ∙ sym (name-bytes a b)
+
+-- at a place of both
+module _ (a b : List ℕ) (i : ℕ) where
+  module _ (h : i < length a) (k : i < length b) where
+    -- other bytes make other names
+    pub name-stop : (fold (get_or a i 0) ≡ fold (get_or b i 0) → ⊥) → same_name (drop i a) (drop i b) ≡ false
+    name-stop ne = name-bytes (drop i a) (drop i b) ∙ same_by-stop alike a b i 0 h k (ne_eqb _ _ ne)
+
+    -- behind equal bytes the others decide
+    pub name-go : fold (get_or a i 0) ≡ fold (get_or b i 0) → same_name (drop i a) (drop i b) ≡ same_name (drop (i + 1) a) (drop (i + 1) b)
+    name-go e = name-bytes (drop i a) (drop i b) ∙ same_by-go alike a b i 0 h k (eq-eqb _ _ e) ∙ sym (name-bytes (drop (i + 1) a) (drop (i + 1) b))
+
+  -- past both there is nothing that could differ
+  pub name-past : length a ≤ i → length b ≤ i → same_name (drop i a) (drop i b) ≡ true
+  name-past h k = name-bytes (drop i a) (drop i b) ∙ same_by-past alike a b i h k
