@@ -5,7 +5,6 @@ use mathlib.Core.Bool.{Bool, true, false, not, cond, or_comm, and-true}
 use mathlib.Core.List.{List, [], ◌∷◌}
 use mathlib.Core.Option.{Option, some, none}
 use native.Mathlib.Omega.{arith}
-use Rattle.std.proofs.Common.{add-zero}
 use lib.Bits.{bit_or, or_zero_l, or_zero_r}
 use lib.ListN.{length, take, drop, get_or, drop_of_length-le}
 use lib.Dec.{eqb}
@@ -23,7 +22,7 @@ use Rattle.channel.specs.Modes.{letters, mode_count, has_mode, with_mode, mode_p
 use Rattle.channel.proofs.Letters.{has-no-mode, has-with, with-union, place_found}
 use Rattle.sjoin.specs.Modes.{letters_of, is_mode, lacks, modes_byte}
 use Rattle.sjoin.specs.Faults.{Site, Letter, letter_checks, own_checks}
-use Rattle.sjoin.specs.Private.Scanning.{seen_checks, letter_at, placed}
+use Rattle.sjoin.specs.Private.Scanning.{seen_checks, letter_place, placed}
 
 -- ---- a letter's place
 -- a mode's place is no other letter's
@@ -64,11 +63,11 @@ seen-letters (x ∷ s) seen i before h = go (is_mode x) refl (λ m. seen-letters
     go false e ih = rw e
 
 -- ---- the first letter at fault
--- whether '+' stands in front, as the code tests it
-signed : (s : List ℕ) → pointwise eqb (take 1 s) (plus ∷ []) ≡ starts_with plus s
+-- whether a mark stands in front, as the code tests it
+pub begins : (mark : ℕ) (s : List ℕ) → pointwise eqb (take 1 s) (mark ∷ []) ≡ starts_with mark s
 unfolding starts_with
-signed [] = refl
-signed (x ∷ s) = and-true (eqb x plus)
+begins mark [] = refl
+begins mark (x ∷ s) = and-true (eqb x mark)
 
 -- without it that is the first byte
 pub sign-missing : (s : List ℕ) → starts_with plus s ≡ false → first_fault (own_checks s) ≡ some (fault unknown_mode (Letter 0))
@@ -84,32 +83,32 @@ sign-seen s e = rw e (sym (seen-letters (drop 1 s) 0 1 [] sees-none))
 abbrev pub left : List ℕ → ℕ → ℕ → Option (Fault Site)
 left letters i seen = first_fault (seen_checks seen (i + 1) (drop i letters))
 
-module _ (start : ℕ) (modes : List ℕ) where
+module _ (modes : List ℕ) where
   -- where the modes begin with another byte it is at fault
-  pub unsigned : pointwise eqb (take 1 modes) (plus ∷ []) ≡ false → some (fault unknown_mode start) ≡ placed (letter_at start) (first_fault (own_checks modes))
-  unfolding placed letter_at
-  unsigned e = rw (sign-missing modes (sym (signed modes) ∙ e), add-zero)
+  pub unsigned : pointwise eqb (take 1 modes) (plus ∷ []) ≡ false → some (fault unknown_mode 0) ≡ placed letter_place (first_fault (own_checks modes))
+  unfolding placed
+  unsigned e = rw (sign-missing modes (sym (begins plus modes) ∙ e))
 
   -- and else a letter behind '+' may be
   pub begun : (letters : List ℕ) → pointwise eqb (take 1 modes) (plus ∷ []) ≡ true → letters ≡ drop 1 modes → left letters 0 0 ≡ first_fault (own_checks modes)
-  begun letters e is = rw is (sym (sign-seen modes (sym (signed modes) ∙ e)))
+  begun letters e is = rw is (sym (sign-seen modes (sym (begins plus modes) ∙ e)))
 
-module _ (letters : List ℕ) (i seen start : ℕ) (given : Option (Fault Site)) (is : left letters i seen ≡ given) where
+module _ (letters : List ℕ) (i seen : ℕ) (given : Option (Fault Site)) (is : left letters i seen ≡ given) where
   -- past the end none is left that could be at fault
-  pub over : length letters ≤ i → none ≡ placed (letter_at start) given
+  pub over : length letters ≤ i → none ≡ placed letter_place given
   unfolding seen_checks first_fault placed
   over h = rw (← is, drop_of_length-le letters h)
 
   module _ (mode : ℕ) (h : i < length letters) (stands : mode ≡ mode_place (get_or letters i 0)) where
     -- a byte that is no mode is unknown
-    pub unknown : mode_count ≤ mode → some (fault unknown_mode (start + 1 + i)) ≡ placed (letter_at start) given
-    unfolding seen_checks first_fault placed letter_at
-    unknown k = let n : start + 1 + i ≡ start + (i + 1) = omega arith in rw (← is, drop-step letters i 0 h, ← stands, le-ltb mode mode_count k, n)
+    pub unknown : mode_count ≤ mode → some (fault unknown_mode (i + 1)) ≡ placed letter_place given
+    unfolding seen_checks first_fault placed
+    unknown k = rw (← is, drop-step letters i 0 h, ← stands, le-ltb mode mode_count k)
 
     -- a mode that was seen stands there twice
-    pub twice : mode < mode_count → has_mode seen mode ≡ true → some (fault mode_twice (start + 1 + i)) ≡ placed (letter_at start) given
-    unfolding seen_checks first_fault placed letter_at
-    twice k e = let n : start + 1 + i ≡ start + (i + 1) = omega arith in rw (← is, drop-step letters i 0 h, ← stands, lt-ltb mode mode_count k, e, n)
+    pub twice : mode < mode_count → has_mode seen mode ≡ true → some (fault mode_twice (i + 1)) ≡ placed letter_place given
+    unfolding seen_checks first_fault placed
+    twice k e = rw (← is, drop-step letters i 0 h, ← stands, lt-ltb mode mode_count k, e)
 
     -- behind a mode that wasn't seen the others decide, with that one seen
     pub goes : mode < mode_count → has_mode seen mode ≡ false → left letters (i + 1) (with_mode seen mode) ≡ given

@@ -1,26 +1,36 @@
 // The member list of an SJOIN line: its entries, each perhaps '@', perhaps '+', then a user id.
-ghost use Rattle.std.specs.Prelude.{◌≡◌, ◌≤◌, length};
+ghost use Rattle.std.specs.Prelude.{◌≡◌, ◌≤◌, cond, length};
+ghost use Rattle.laws.specs.Lists.{starts_with};
 ghost use Rattle.message.specs.Grammar.{line_limit};
-ghost use Rattle.sjoin.specs.Entries.{id_of, status_of};
+ghost use Rattle.sjoin.specs.Entries.{past as past_of, id_of, status_of};
 ghost use Rattle.sjoin.specs.Private.Parts.{entry_in, entries_in};
 
 use channel::{Member, Roster};
-use message::next_word;
+use message::words;
 use names::ids::is_id;
-use names::{USER_ID, user_id};
-use octets::part;
+use names::USER_ID;
 
-// An entry's status, operator with '@' and voice with '+', and its id, which is what follows them.
+// What follows the mark, with its bits; or all, with none, where it doesn't stand first.
+#[tactic(auto, using(crate::proofs::Modes::begins), unfolding(crate::specs::Entries::past))]
+fn past(s: &[u8], mark: u8, bits: u8) -> (u8, &[u8])
+    ensures bits { result.0 ≡ cond (starts_with mark s.now) bits 0 }
+    ensures rest { result.1.now ≡ past_of mark s.now }
+{
+    match s.strip_prefix(&[mark]) {
+        Some(rest) => (bits, rest),
+        None => (0, s),
+    }
+}
+
+// An entry's status, operator with '@' and voice with '+', and its id, which is what follows them in that order.
+#[tactic(auto, using(crate::proofs::Listed::status_by), unfolding(crate::specs::Entries::status_of, crate::specs::Entries::id_of))]
 fn split_status(entry: &[u8]) -> (u8, &[u8])
     ensures status { result.0 ≡ status_of entry.now }
     ensures id { result.1.now ≡ id_of entry.now }
 {
-    match entry {
-        [b'@', b'+', id @ ..] => (Member::OPERATOR | Member::VOICE, id),
-        [b'@', id @ ..] => (Member::OPERATOR, id),
-        [b'+', id @ ..] => (Member::VOICE, id),
-        id => (0, id),
-    }
+    let (operator, rest) = past(entry, b'@', Member::OPERATOR);
+    let (voice, id) = past(rest, b'+', Member::VOICE);
+    (operator | voice, id)
 }
 
 // The member that a word of the list names, if it is an entry: a user id follows '@' and '+'.
@@ -28,10 +38,7 @@ fn entry_of(word: &[u8]) -> Option<Member>
     ensures { result ≡ entry_in word.now }
 {
     let (status, bytes) = split_status(word);
-    if bytes.len() != USER_ID {
-        return None;
-    }
-    let id = user_id(bytes);
+    let id = <[u8; USER_ID]>::try_from(bytes).ok()?;
     is_id(id).then_some(Member { id, status })
 }
 
@@ -42,10 +49,8 @@ pub(crate) fn entries_of(list: &[u8]) -> Option<Roster>
     ensures { result ≡ entries_in list.now }
 {
     let mut members = Roster::empty();
-    let mut word = next_word(list, 0);
-    while word.start != list.len() {
-        members.push(entry_of(part(list, word.start, word.end))?);
-        word = next_word(list, word.end);
+    for word in words(list) {
+        members.push(entry_of(word)?);
     }
     (0 < members.count).then_some(members)
 }

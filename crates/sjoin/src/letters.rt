@@ -1,12 +1,12 @@
 // The modes of an SJOIN line: their letters, and which of them have a parameter.
-ghost use Rattle.std.specs.Prelude.{◌≡◌, ◌+◌, ◌^◌, ◌<◌, cond, length};
+ghost use Rattle.std.specs.Prelude.{◌≡◌, cond};
 ghost use Rattle.refusal.specs.Numbers.{accepted};
 ghost use Rattle.refusal.specs.Faults.{first_fault};
 ghost use Rattle.refusal.specs.Refusals.{answered, told_fault};
 ghost use Rattle.channel.specs.Modes.{with_mode, mode_place};
 ghost use Rattle.sjoin.specs.Modes.{letters_of, has_parameter, modes_byte, good_argument};
 ghost use Rattle.sjoin.specs.Faults.{own_checks, argument_number};
-ghost use Rattle.sjoin.specs.Private.Scanning.{letter_at, placed};
+ghost use Rattle.sjoin.specs.Private.Scanning.{letter_place, placed};
 ghost use Rattle.sjoin.specs.Private.Parts.{limit_in};
 
 use channel::Record;
@@ -16,24 +16,22 @@ use octets::Decimal;
 use octets::decimals::decimal;
 use refusal::{Fault, Refusal};
 
-// The first letter at fault, by its place, where the modes start at one: '+' stands first, then letters of the eight, each at most once.
+// The first letter at fault, by its place in the modes: '+' stands first, then letters of the eight, each at most once.
 #[tactic(auto, using(crate::proofs::Modes::judging))]
-pub(crate) fn check_letters(modes: &[u8], start: usize) -> Result<(), Fault>
-    requires { start + length modes.now < 2 ^ 64 }
-    ensures { told_fault result ≡ placed (letter_at start) (first_fault (own_checks modes.now)) }
+pub(crate) fn check_letters(modes: &[u8]) -> Result<(), Fault>
+    ensures { told_fault result ≡ placed letter_place (first_fault (own_checks modes.now)) }
 {
     let Some(letters) = modes.strip_prefix(b"+") else {
-        return Err(Refusal::UnknownMode.at(start));
+        return Err(Refusal::UnknownMode.at(0));
     };
     let mut seen = 0;
     for (i, letter) in letters.iter().enumerate() {
-        let place = start + 1 + i;
         let mode = mode_place(*letter);
         if MODES <= mode {
-            return Err(Refusal::UnknownMode.at(place));
+            return Err(Refusal::UnknownMode.at(i + 1));
         }
         if has_mode(seen, mode) {
-            return Err(Refusal::ModeTwice.at(place));
+            return Err(Refusal::ModeTwice.at(i + 1));
         }
         seen = with_mode(seen, mode);
     }

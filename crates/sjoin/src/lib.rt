@@ -79,8 +79,9 @@ fn check_modes(text: &[u8], m: Message, last: usize) -> Result<(), Fault>
     ensures { told_fault result ≡ placed (site_at (length text.now) m) (fault_in (content_by text.now m)) }
 {
     let modes = param_in(text, m, MODES_AT);
-    let start = m.params[MODES_AT].start;
-    check_letters(modes, start)?;
+    if let Err(fault) = check_letters(modes) {
+        return Err(fault.refusal.at(m.params[MODES_AT].start + fault.place));
+    }
     check_arguments(text, m, modes, last)
 }
 

@@ -31,10 +31,6 @@ letter_place (Letter i) = i
 letter_place (Param k) = 0
 letter_place End = 0
 
--- the same in a line, where the modes start at a place
-unfoldable pub letter_at : ℕ → Site → ℕ
-letter_at start site = start + letter_place site
-
 -- a fault by its place
 unfoldable pub placed : (Site → ℕ) → Option (Fault Site) → Option (Fault ℕ)
 placed at none = none
