@@ -8,7 +8,7 @@ use lib.ListN.{length, take, drop, replicate, set, take-append-drop, drop_of_len
 use lib.Seq.{take-take, take_all, append_snoc}
 use Rattle.laws.specs.Lists.{padded}
 use Rattle.laws.proofs.Lists.{take_next, drop-next, take-padded, padded-cut, length-padded}
-use Rattle.octets.specs.declared.Order.TheVariants.{Less, Same, More}
+use Rattle.std.specs.declared.cmp.Ordering.TheVariants.{Less, Equal, Greater}
 use Rattle.octets.specs.Order.{compare}
 use Rattle.octets.specs.Room.{part, put_at}
 use Rattle.octets.proofs.Ordered.{compare_same, more-below}
@@ -62,7 +62,7 @@ module _ (e : List ℕ) (l : List (List ℕ)) where
       here = p ∙ ap (λ (x : List (List ℕ)). take i l ++ put by_fold e x) at
 
       -- it goes behind one that comes before it too
-      pub passed-more : compare (by_fold.key e) (by_fold.key d) ≡ More → Behind (i + 1)
+      pub passed-more : compare (by_fold.key e) (by_fold.key d) ≡ Greater → Behind (i + 1)
       passed-more o =
           here
           ∙ ap (◌++◌ (take i l)) (put-more by_fold e d r (more-below (by_fold.key e) (by_fold.key d) o))
@@ -78,7 +78,7 @@ module _ (e : List ℕ) (l : List (List ℕ)) where
       }
 
       -- one with its fold is there
-      pub placed_same : i ≤ length l → compare (by_fold.key e) (by_fold.key d) ≡ Same → PlacedIn e l (record { at = i; there = true })
+      pub placed_same : i ≤ length l → compare (by_fold.key e) (by_fold.key d) ≡ Equal → PlacedIn e l (record { at = i; there = true })
       placed_same h o = record {
         inside = h;
         is = here ∙ ap (◌++◌ (take i l)) (put_same by_fold e d r (compare_same (by_fold.key e) (by_fold.key d) o) ∙ sym at) ∙ take-append-drop i l;

@@ -17,7 +17,7 @@ ghost use Rattle.bans.specs.Records.{well_formed_whole};
 ghost use Rattle.bans.specs.Matching.{some_matches};
 
 use channel::Record;
-use octets::{Class, all_in, lesser, part, zero_from};
+use octets::{Class, all_in, part, zero_from};
 use order::{ascending, place_for};
 use rooms::{good_rooms, inserted, mask_count, mask_in, room_at};
 
@@ -197,7 +197,7 @@ pub fn some_matches(s: &[u8], text: &[u8]) -> bool
 fn offset(k: usize) -> usize
     ensures { result ≡ offset_of k }
 {
-    BanList::LIST * lesser(k, Record::SLOTS)
+    BanList::LIST * k.min(Record::SLOTS)
 }
 
 // The bytes of list k, as that part of the lent ones; past the sixteenth, what lies behind the lists, which of BANS bytes is nothing.

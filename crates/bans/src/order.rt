@@ -10,7 +10,7 @@ ghost use Rattle.bans.specs.Private.Placing.{PlacedIn};
 
 use crate::rooms::{mask_count, mask_in, room_at};
 use names::{fold, unlike};
-use octets::{Order, lesser};
+use std::cmp::Ordering;
 
 // The bytes that are compared at once.
 const BLOCK: usize = 16;
@@ -40,7 +40,7 @@ fn differing(a: &[u8], b: &[u8], at: usize) -> u8
 fn passed(a: &[u8], b: &[u8]) -> usize
     ensures { PassedOver result a.now b.now }
 {
-    let n = lesser(a.len(), b.len());
+    let n = a.len().min(b.len());
     let mut i = 0;
     while BLOCK <= n - i {
         if differing(a, b, i) != 0 {
@@ -52,13 +52,13 @@ fn passed(a: &[u8], b: &[u8]) -> usize
 }
 
 // How a's fold stands to b's. Bytes that are the same need not be folded.
-fn compare_folds(a: &[u8], b: &[u8]) -> Order
+fn compare_folds(a: &[u8], b: &[u8]) -> Ordering
     ensures { result ≡ compare (map fold_of a.now) (map fold_of b.now) }
 {
     let mut i = passed(a, b);
     while i < a.len() {
         if i == b.len() {
-            return Order::More;
+            return Ordering::Greater;
         }
         if a[i] == b[i] {
             i += 1;
@@ -67,28 +67,24 @@ fn compare_folds(a: &[u8], b: &[u8]) -> Order
         let x = fold(a[i]);
         let y = fold(b[i]);
         if x < y {
-            return Order::Less;
+            return Ordering::Less;
         }
         if y < x {
-            return Order::More;
+            return Ordering::Greater;
         }
         i += 1;
     }
     if i < b.len() {
-        return Order::Less;
+        return Ordering::Less;
     }
-    Order::Same
+    Ordering::Equal
 }
 
 // Whether the first room's mask comes before the second's.
 fn is_below(r: &[u8], t: &[u8]) -> bool
     ensures { result ≡ is_less (compare (by_fold.key r.now) (by_fold.key t.now)) }
 {
-    match compare_folds(mask_in(r), mask_in(t)) {
-        Order::Less => true,
-        Order::Same => false,
-        Order::More => false,
-    }
+    compare_folds(mask_in(r), mask_in(t)).is_lt()
 }
 
 // Whether the first n masks ascend.
@@ -115,16 +111,16 @@ pub(crate) fn place_for(s: &[u8], m: &[u8]) -> Place
     let mut i = 0;
     while i < n {
         match compare_folds(m, mask_in(room_at(s, i))) {
-            Order::Less => {
+            Ordering::Less => {
                 return Place {
                     at: i,
                     there: false,
                 };
             }
-            Order::Same => {
+            Ordering::Equal => {
                 return Place { at: i, there: true };
             }
-            Order::More => {}
+            Ordering::Greater => {}
         }
         i += 1;
     }

@@ -10,7 +10,7 @@ ghost use Rattle.bans.specs.Private.Placing.{room_in, spliced};
 
 use crate::{BanList, is_mask};
 use channel::Record;
-use octets::{lesser, part, put, zero_from};
+use octets::{part, put, zero_from};
 
 // The byte as a wide number.
 pub(crate) fn wide(b: u8) -> usize
@@ -26,7 +26,7 @@ pub(crate) fn mask_count(s: &[u8]) -> usize
     if s.len() == 0 {
         return 0;
     }
-    lesser(wide(s[0]), Record::MASKS)
+    wide(s[0]).min(Record::MASKS)
 }
 
 // The room of the mask i.

@@ -17,7 +17,7 @@ use channel::Record;
 use channel::members::within;
 use lists::merged_list;
 use names::equal;
-use octets::{Order, compare, part};
+use octets::{compare, part};
 use refusal::{ACCEPTED, BAD_NAME, NOT_WELL_FORMED, TOO_MANY_MASKS, TOO_MANY_MEMBERS};
 use sides::{earlier, front, given_if, greatest, larger};
 use uniting::united;
@@ -119,11 +119,7 @@ pub fn combine(a: Record, b: Record) -> Combined
 pub fn greater_key<'a>(a: &'a [u8], b: &'a [u8]) -> &'a [u8]
     ensures { result ≡ cond (is_less (compare_of a.now b.now)) b.entry a.entry }
 {
-    match compare(a, b) {
-        Order::Less => b,
-        Order::Same => a,
-        Order::More => a,
-    }
+    if compare(a, b).is_lt() { b } else { a }
 }
 
 // A refused merge answers its first record as given, with its list.

@@ -12,7 +12,6 @@ ghost use Rattle.sjoin.specs.Private.Parts.{limit_in};
 use channel::Record;
 use channel::key::is_key;
 use channel::modes::{MODES, has_mode, mode_place, with_mode};
-use octets::Decimal;
 use octets::decimals::decimal;
 use refusal::{Fault, Refusal};
 
@@ -67,13 +66,11 @@ pub(crate) fn has_parameter(letter: u8) -> bool
 }
 
 // The limit that the bytes are, if they are one: 1 to 65,535.
+#[tactic(auto, unfolding(crate::specs::Private::Parts::limit_in, crate::specs::Modes::is_limit, octets::specs::Decimals::decimal_up_to))]
 pub(crate) fn limit_in(s: &[u8]) -> Option<u16>
     ensures { result ≡ limit_in s.now }
 {
-    match decimal(s, Record::LIMIT) {
-        Decimal::Value(n) if n != 0 => Some(n as u16),
-        _ => None,
-    }
+    decimal(s, Record::LIMIT).filter(|n| *n != 0).map(|n| n as u16)
 }
 
 // Whether a parameter is good for its letter: a key for k, a limit for l.

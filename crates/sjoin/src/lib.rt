@@ -9,9 +9,6 @@ mod letters;
 ghost use Rattle.std.specs.Prelude.{◌≡◌, ◌≤◌, length, IfOk};
 ghost use Rattle.refusal.specs.Rules.{first_of};
 ghost use Rattle.refusal.specs.Refusals.{answered, told_fault};
-ghost use Rattle.laws.specs.Lists.{padded};
-ghost use Rattle.names.specs.Names.{name_limit};
-ghost use Rattle.channel.specs.Limits.{key_limit};
 ghost use Rattle.channel.specs.Record.{encode};
 ghost use Rattle.octets.specs.Decimals.{value_of};
 ghost use Rattle.message.specs.Parts.{content_by};
@@ -28,7 +25,7 @@ use message::spans::{param_in, prefix_in};
 use message::{LINE_LIMIT, Message, parse};
 use names::{is_channel, is_server_id};
 use octets::decimals::decimal;
-use octets::{Decimal, put};
+use octets::padded;
 use refusal::{Fault, Refusal};
 
 // The fewest parameters of a line.
@@ -57,13 +54,12 @@ fn check_source(text: &[u8], m: Message) -> Result<(), Refusal>
 }
 
 // The time that a message says, or the first of the numbers 14 to 16 that applies: of time and name, which lead the line of any command that has them.
+#[tactic(auto, using(crate::proofs::Judged::time_zero), unfolding(crate::specs::Join::is_time, refusal::specs::Rules::first_of, octets::specs::Decimals::decimal_up_to))]
 pub fn read_head(text: &[u8], m: Message) -> Result<u32, Refusal>
     ensures refusal { answered result ≡ first_of (head_rules (content_by text.now m)) }
     ensures time { IfOk result (λ time. time ≡ value_of (time_in (content_by text.now m))) }
 {
-    let Decimal::Value(time) = decimal(param_in(text, m, TIME_AT), Record::TIME) else {
-        return Err(Refusal::BadTime);
-    };
+    let time = decimal(param_in(text, m, TIME_AT), Record::TIME).ok_or(Refusal::BadTime)?;
     if time == 0 {
         return Err(Refusal::ZeroTime);
     }
@@ -85,26 +81,6 @@ fn check_modes(text: &[u8], m: Message, last: usize) -> Result<(), Fault>
     check_arguments(text, m, modes, last)
 }
 
-// A name in its room, the rest of it zero.
-fn name_room(name: &[u8]) -> [u8; Record::NAME]
-    requires { length name.now ≤ name_limit }
-    ensures { result ≡ padded name_limit 0 name.now }
-{
-    let mut room = [0u8; Record::NAME];
-    put(&mut room, 0, name);
-    room
-}
-
-// A key in its room, the rest of it zero.
-fn key_room(key: &[u8]) -> [u8; Record::KEY]
-    requires { length key.now ≤ key_limit }
-    ensures { result ≡ padded key_limit 0 key.now }
-{
-    let mut room = [0u8; Record::KEY];
-    put(&mut room, 0, key);
-    room
-}
-
 // The record of the channel that is told of where no rule refuses it. The list is at `last`, and these are the time and the members that it names.
 fn record_of(text: &[u8], m: Message, last: usize, time: u32, entries: Roster) -> Record
     requires { Tells (content_by text.now m) last time entries }
@@ -114,11 +90,11 @@ fn record_of(text: &[u8], m: Message, last: usize, time: u32, entries: Roster) -
     let key = argument(text, m, b'k', last);
     let members = ordered(entries.list, entries.count);
     Record {
-        name: name_room(name),
+        name: padded(name),
         name_len: name.len(),
         time,
         modes: modes_byte(param_in(text, m, MODES_AT)),
-        key: key_room(key),
+        key: padded(key),
         key_len: key.len(),
         limit: limit_in(argument(text, m, b'l', last)).unwrap_or(0),
         members: members.list,

@@ -34,8 +34,8 @@ returns-in-Less c =
     let l = o.loop-i in
     placed_less (room_of a.m.now) (used_rooms a.s.now) l.i l.invariant.2 (room_in a.s.now l.i) _ (used_step a.s.now l.i (omega arith)) (omega (arith, length-used a.s.now)) (stands ∙ c.in-Less.is)
 
-pub returns-in-Same : goal.returns-in-Same
-returns-in-Same c =
+pub returns-in-Equal : goal.returns-in-Equal
+returns-in-Equal c =
     let given : List ℕ =
     c.args.m.now in
     let room : List ℕ =
@@ -46,7 +46,7 @@ returns-in-Same c =
     let o = c in
     let a = o.args in
     let l = o.loop-i in
-    placed_same (room_of a.m.now) (used_rooms a.s.now) l.i l.invariant.2 (room_in a.s.now l.i) _ (used_step a.s.now l.i (omega arith)) (omega (arith, length-used a.s.now)) (stands ∙ c.in-Same.is)
+    placed_same (room_of a.m.now) (used_rooms a.s.now) l.i l.invariant.2 (room_in a.s.now l.i) _ (used_step a.s.now l.i (omega arith)) (omega (arith, length-used a.s.now)) (stands ∙ c.in-Equal.is)
 
 pub loop-i-preserved : goal.loop-i-preserved
 loop-i-preserved c =
@@ -60,7 +60,7 @@ loop-i-preserved c =
     let o = c in
     let a = o.args in
     let l = o.loop-i in
-    (search rules, l.invariant.1, passed-more (room_of a.m.now) (used_rooms a.s.now) l.i l.invariant.2 (room_in a.s.now l.i) _ (used_step a.s.now l.i (omega arith)) (stands ∙ c.in-More.is))
+    (search rules, l.invariant.1, passed-more (room_of a.m.now) (used_rooms a.s.now) l.i l.invariant.2 (room_in a.s.now l.i) _ (used_step a.s.now l.i (omega arith)) (stands ∙ c.in-Greater.is))
 
 pub returns : goal.returns
 returns c =

@@ -13,4 +13,4 @@ returns-then-s-eq0 c =
 pub returns : goal.returns
 unfolding mask_count
 returns c =
-    c.lesser.ensures ∙ ap (λ (n : ℕ). min n ban_limit) c.wide.ensures.0
+    c.min.ensures ∙ ap (λ (n : ℕ). min n ban_limit) c.wide.ensures.0
