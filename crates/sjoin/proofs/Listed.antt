@@ -170,3 +170,21 @@ gathered-all list left members none gathered =
     go : (k : ℕ) → members ≡ roster (named list) → cond (not (eqb k 0) && true) (Some (roster (named list))) None ≡ then_some (ltb 0 k) members
     go zero e = refl
     go (suc k) e = rw (lt-ltb 0 (suc k) (omega arith), ne_eqb (suc k) 0 (λ z. omega arith)) (ap Some (sym e))
+
+-- ---- by the answer
+-- a list that names members is good, and one that names none isn't
+pub entries-named : (list : List ℕ) (r : Roster) → Some r ≡ entries_in list → (good_entries list ≡ true) × (r ≡ roster (named list))
+unfolding entries_in
+entries-named list r e = go (good_entries list) refl
+  where
+    go : (t : Bool) → good_entries list ≡ t → (good_entries list ≡ true) × (r ≡ roster (named list))
+    go true h = let f : Some r ≡ Some (roster (named list)) = e ∙ rw h in (h, cc)
+    go false h = let f : Some r ≡ None = e ∙ rw h in let z : ◌≡◌ {A = ℕ} 0 1 = cc in absurd (omega arith)
+
+pub entries-odd : (list : List ℕ) → None ≡ entries_in list → good_entries list ≡ false
+unfolding entries_in
+entries-odd list e = go (good_entries list) refl
+  where
+    go : (t : Bool) → good_entries list ≡ t → good_entries list ≡ false
+    go true h = let f : None ≡ Some (roster (named list)) = e ∙ rw h in let z : ◌≡◌ {A = ℕ} 0 1 = cc in absurd (omega arith)
+    go false h = h

@@ -29,7 +29,7 @@ use Rattle.message.specs.Content.{Content}
 use Rattle.message.specs.Parts.{content_by}
 use Rattle.message.proofs.SpanContents.{params-count, param-span-some}
 use Rattle.sjoin.specs.Modes.{key_letter, letters_of, has_parameter, parametered, good_argument, argument_of}
-use Rattle.sjoin.specs.Faults.{Site, Param, End, arguments_at, argument_number, argument_checks, count_checks, site_at}
+use Rattle.sjoin.specs.Faults.{Site, Param, arguments_at, argument_number, argument_checks, count_checks, site_at}
 use Rattle.sjoin.specs.Join.{modes_in, arguments_in}
 use Rattle.sjoin.specs.Private.Scanning.{placed, Parted, Matched, up_to}
 use Rattle.sjoin.specs.Private.Parts.{place_of}

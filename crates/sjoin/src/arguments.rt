@@ -9,12 +9,11 @@ ghost use Rattle.sjoin.specs.Join.{modes_in, arguments_in};
 ghost use Rattle.sjoin.specs.Private.Scanning.{placed, Parted, Matched};
 ghost use Rattle.sjoin.specs.Private.Parts.{place_of};
 
-use std::cmp::Ordering;
-
 use crate::letters::{check_argument, has_parameter, letters_of};
 use message::Message;
 use message::spans::param_in;
 use refusal::{Fault, Refusal};
+use std::cmp::Ordering;
 
 // The place of the modes among the parameters.
 pub(crate) const MODES_AT: usize = 2;
@@ -26,7 +25,10 @@ const ARGUMENTS_AT: usize = 3;
 fn wanted(modes: &[u8]) -> usize
     ensures { result ≡ length (parametered (letters_of modes.now)) }
 {
-    letters_of(modes).iter().filter(|x| has_parameter(**x)).count()
+    letters_of(modes)
+        .iter()
+        .filter(|x| has_parameter(**x))
+        .count()
 }
 
 // The first parameter that is bad for its letter: there are as many between modes and list as letters that have one.
@@ -49,7 +51,12 @@ fn check_each(text: &[u8], m: Message, modes: &[u8], last: usize) -> Result<(), 
 
 // The first fault of the parameters between modes and list: too many, at the first surplus one; too few, at the line's end; a bad one. The list is at `last`.
 #[tactic(auto, using(crate::proofs::Parameters::counting))]
-pub(crate) fn check_arguments(text: &[u8], m: Message, modes: &[u8], last: usize) -> Result<(), Fault>
+pub(crate) fn check_arguments(
+    text: &[u8],
+    m: Message,
+    modes: &[u8],
+    last: usize,
+) -> Result<(), Fault>
     requires { Parted (content_by text.now m) last × (2 ≤ length text.now) }
     ensures { told_fault result ≡ placed (site_at (length text.now) m) (first_fault (count_checks (parametered (letters_of modes.now)) (arguments_in (content_by text.now m)))) }
 {
@@ -65,7 +72,10 @@ pub(crate) fn check_arguments(text: &[u8], m: Message, modes: &[u8], last: usize
 fn argument_place(modes: &[u8], letter: u8) -> Option<usize>
     ensures { result ≡ place_of letter (parametered (letters_of modes.now)) }
 {
-    letters_of(modes).iter().filter(|x| has_parameter(**x)).position(|x| *x == letter)
+    letters_of(modes)
+        .iter()
+        .filter(|x| has_parameter(**x))
+        .position(|x| *x == letter)
 }
 
 // The letter's parameter, empty where it has none. The list is at `last`.

@@ -7,8 +7,8 @@ ghost use Rattle.sjoin.specs.Private.Parts.{entry_in, entries_in};
 
 use channel::{Member, Roster};
 use message::words;
-use names::ids::is_id;
 use names::USER_ID;
+use names::ids::is_id;
 
 // What follows the mark, with its bits; or all, with none, where it doesn't stand first.
 #[tactic(auto, using(crate::proofs::Modes::begins), unfolding(crate::specs::Entries::past))]

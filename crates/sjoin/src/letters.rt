@@ -55,7 +55,9 @@ fn with_letter(byte: u8, letter: u8) -> u8
 pub(crate) fn modes_byte(modes: &[u8]) -> u8
     ensures { result ≡ modes_byte modes.now }
 {
-    letters_of(modes).iter().fold(0, |byte, letter| with_letter(byte, *letter))
+    letters_of(modes)
+        .iter()
+        .fold(0, |byte, letter| with_letter(byte, *letter))
 }
 
 // Whether the letter has a parameter: k and l do.
@@ -70,7 +72,9 @@ pub(crate) fn has_parameter(letter: u8) -> bool
 pub(crate) fn limit_in(s: &[u8]) -> Option<u16>
     ensures { result ≡ limit_in s.now }
 {
-    decimal(s, Record::LIMIT).filter(|n| *n != 0).map(|n| n as u16)
+    decimal(s, Record::LIMIT)
+        .filter(|n| *n != 0)
+        .map(|n| n as u16)
 }
 
 // Whether a parameter is good for its letter: a key for k, a limit for l.

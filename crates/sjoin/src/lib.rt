@@ -87,18 +87,22 @@ fn record_of(text: &[u8], m: Message, last: usize, time: u32, entries: Roster) -
     ensures { result ≡ encode (channel_in (content_by text.now m)) }
 {
     let name = param_in(text, m, NAME_AT);
+    let name_room = padded(name);
     let key = argument(text, m, b'k', last);
-    let members = ordered(entries.list, entries.count);
+    let key_room = padded(key);
+    let list = entries.list;
+    let all = ordered(list, entries.count);
+    let members = all.list;
     Record {
-        name: padded(name),
+        name: name_room,
         name_len: name.len(),
         time,
         modes: modes_byte(param_in(text, m, MODES_AT)),
-        key: padded(key),
+        key: key_room,
         key_len: key.len(),
         limit: limit_in(argument(text, m, b'l', last)).unwrap_or(0),
-        members: members.list,
-        count: members.count,
+        members,
+        count: all.count,
     }
 }
 

@@ -15,8 +15,8 @@ loop-letter-preserved c =
     let content = content_by c.args.text.now c.args.m in
     let test = c.has_parameter.ensures in
     elim c.if-has_parameter.branch [
-      then-has_parameter+in_default w ↦
-        rw w.at-is (weighed-good content c.args.last c.letters_of-letter-items.result.now l.letter-index l.at _ l.invariant c.loop-letter-test.true (sym test ∙ w.if-has_parameter.true) w.param_in.result.now w.param_in.ensures.bytes
-        (ap answered (sym w.in_default.is) ∙ w.check_argument.ensures))
-    | else-has_parameter w ↦ rw w.at-is (weighed-skip content c.args.last c.letters_of-letter-items.result.now l.letter-index l.at _ l.invariant c.loop-letter-test.true (sym test ∙ w.if-has_parameter.false))
+      | then-has_parameter+in_default w ↦
+          rw w.at-is (weighed-good content c.args.last c.letters_of-letter-items.result.now l.letter-index l.at _ l.invariant c.loop-letter-test.true (sym test ∙ w.if-has_parameter.true) w.param_in.result.now w.param_in.ensures.bytes
+          (ap answered (sym w.in_default.is) ∙ w.check_argument.ensures))
+      | else-has_parameter w ↦ rw w.at-is (weighed-skip content c.args.last c.letters_of-letter-items.result.now l.letter-index l.at _ l.invariant c.loop-letter-test.true (sym test ∙ w.if-has_parameter.false))
     ]

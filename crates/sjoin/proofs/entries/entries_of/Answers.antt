@@ -1,7 +1,7 @@
 -- `entries_of` meets its contract, by the laws of the members that are gathered. Assumes nothing.
-use Rattle.std.proofs.Common.{arith, sym, ap, ◌∙◌}
+use Rattle.std.proofs.Common.{ap, ◌∙◌}
 use Rattle.message.specs.Listed.{words_left}
-use Rattle.sjoin.proofs.Listed.{gathered-first, gathered-odd, gathered-room, gathered-next, gathered-all}
+use Rattle.sjoin.proofs.Listed.{gathered-first, gathered-odd, gathered-next, gathered-all}
 use Rattle.sjoin.proofs.entries.entries_of.Goals as goal
 
 pub loop-word-init : goal.loop-word-init

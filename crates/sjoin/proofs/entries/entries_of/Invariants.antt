@@ -1,6 +1,4 @@
 -- `entries_of` meets its contract. The invariant: the words before those that are left are entries, and their members are gathered. Assumes nothing.
-use Rattle.std.proofs.Common.{◌≤◌, length}
-use Rattle.message.specs.Grammar.{line_limit}
 use Rattle.message.specs.Listed.{words_left}
 use Rattle.sjoin.proofs.Listed.{Gathered}
 use Rattle.sjoin.proofs.entries.entries_of.Given as goal

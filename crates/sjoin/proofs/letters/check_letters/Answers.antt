@@ -1,7 +1,4 @@
 -- `check_letters` meets its contract, by the laws of its letters. Assumes nothing.
-use Rattle.std.proofs.Common.{rules, sym, ap, ◌∙◌}
-use Rattle.refusal.specs.Refusals.{number_of}
-use Rattle.refusal.specs.Faults.{Fault, fault}
 use Rattle.sjoin.proofs.Modes.{unknown}
 use Rattle.sjoin.proofs.letters.check_letters.Goals as goal
 

@@ -1,5 +1,5 @@
 -- `modes_byte` meets its contract: the bits are added one after the other. Assumes nothing.
-use Rattle.std.proofs.Common.{◌≡◌, ℕ, rules, ◌∙◌}
+use Rattle.std.proofs.Common.{◌≡◌, rules, ◌∙◌}
 use Rattle.std.specs.List.{fold}
 use Rattle.std.proofs.iter.runs.Made.{chains}
 use Rattle.channel.specs.Modes.{with_mode, mode_place}
