@@ -138,10 +138,6 @@ module _ (list word : List ℕ) (left rest : List (List ℕ)) (members : Roster)
     taken : suc user_id_length * suc members.count + room rest ≤ suc (length list)
     taken = omega (arith, g.takes, leb-true user_id_length (length word) (entry-takes word good))
 
-    -- there is room for its member
-    pub gathered-room : length list ≤ line_limit → members.count < member_limit
-    gathered-room h = omega (arith, taken, h)
-
     -- with its member gathered too, the words behind it are left
     pub gathered-next : Gathered list rest (pushed members m)
     unfolding all
