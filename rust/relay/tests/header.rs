@@ -72,7 +72,9 @@ fn refusals() -> Constants {
     let source = text("crates/refusal/src/lib.rt");
     let mut numbers = of_source(&source);
     for line in source.lines() {
-        let Some((name, number)) = line.trim().trim_end_matches(',').split_once(" = ") else { continue };
+        let Some((name, number)) = line.trim().trim_end_matches(',').split_once(" = ") else {
+            continue;
+        };
         let Ok(number) = number.parse() else { continue };
         if name.chars().all(char::is_alphabetic) {
             numbers.insert(in_capitals(name), number);
