@@ -1,37 +1,28 @@
 // The order of masks: by the bytes of their folds. Where a mask stands, or is to stand, in a list.
-ghost use Rattle.std.specs.Prelude.{◌≡◌, map, ◌+◌, ◌≤◌, length, take, drop};
+ghost use Rattle.std.specs.Prelude.{◌≡◌, map, ◌+◌, ◌≤◌, length, drop};
 ghost use Rattle.octets.specs.Order.{compare, is_less};
 ghost use Rattle.ascending.specs.Ascending.{ascends};
 ghost use Rattle.names.specs.Fold.{fold as fold_of};
-ghost use Rattle.channel.specs.Limits.{mask_limit, ban_limit};
-ghost use Rattle.bans.specs.Masks.{room_of, by_fold, rooms, used_rooms};
+ghost use Rattle.channel.specs.Limits.{mask_limit};
+ghost use Rattle.bans.specs.Masks.{room_of, by_fold, used_rooms};
 ghost use Rattle.bans.specs.Private.Comparing.{block_size, SameFolds, PassedOver};
 ghost use Rattle.bans.specs.Private.Placing.{PlacedIn};
 
-use crate::rooms::{mask_count, mask_in, room_at};
+use crate::rooms::{mask_count, mask_in, room_at, used_rooms};
 use names::{fold, unlike};
 use std::cmp::Ordering;
 
 // The bytes that are compared at once.
 const BLOCK: usize = 16;
 
-// A place among the masks of a list, and whether the mask is there.
-#[derive(Clone, Copy)]
-pub(crate) struct Place {
-    pub at: usize,
-    pub there: bool,
-}
-
 // 0 only if the blocks of a and b at a place have the same fold.
 fn differing(a: &[u8], b: &[u8], at: usize) -> u8
     requires { (at + block_size ≤ length a.now) × (at + block_size ≤ length b.now) }
     ensures { result ≡ 0 → SameFolds block_size (drop at a.now) (drop at b.now) }
 {
-    let mut bits = 0u8;
-    let mut j = 0;
-    while j < BLOCK {
-        bits = bits | unlike(a[at + j], b[at + j]);
-        j += 1;
+    let mut bits = 0;
+    for j in 0..BLOCK {
+        bits |= unlike(a[at + j], b[at + j]);
     }
     bits
 }
@@ -87,45 +78,25 @@ fn is_below(r: &[u8], t: &[u8]) -> bool
     compare_folds(mask_in(r), mask_in(t)).is_lt()
 }
 
-// Whether the first n masks ascend.
-pub(crate) fn ascending(s: &[u8], n: usize) -> bool
-    requires { n ≤ ban_limit }
-    ensures { result ≡ ascends by_fold (take n (rooms s.now)) }
+// Whether the masks of a list ascend.
+pub(crate) fn ascending(s: &[u8]) -> bool
+    ensures { result ≡ ascends by_fold (used_rooms s.now) }
 {
-    let mut i = 0;
-    while i + 1 < n {
-        if !is_below(room_at(s, i), room_at(s, i + 1)) {
-            return false;
-        }
-        i += 1;
-    }
-    true
+    used_rooms(s).is_sorted_by(|r, t| is_below(r, t))
 }
 
-// Where the mask stands, or is to stand: behind all that come before it.
-pub(crate) fn place_for(s: &[u8], m: &[u8]) -> Place
+// Where the mask stands, or else where it is to stand: behind all that come before it.
+pub(crate) fn place_for(s: &[u8], m: &[u8]) -> Result<usize, usize>
     requires { length m.now ≤ mask_limit }
     ensures { PlacedIn (room_of m.now) (used_rooms s.now) result }
 {
     let n = mask_count(s);
-    let mut i = 0;
-    while i < n {
-        match compare_folds(m, mask_in(room_at(s, i))) {
-            Ordering::Less => {
-                return Place {
-                    at: i,
-                    there: false,
-                };
-            }
-            Ordering::Equal => {
-                return Place { at: i, there: true };
-            }
+    for at in 0..n {
+        match compare_folds(m, mask_in(room_at(s, at))) {
+            Ordering::Less => return Err(at),
+            Ordering::Equal => return Ok(at),
             Ordering::Greater => {}
         }
-        i += 1;
     }
-    Place {
-        at: n,
-        there: false,
-    }
+    Err(n)
 }

@@ -1,5 +1,6 @@
 -- Laws of taking a line, for the functions of this crate and for the crates above, and examples.
 mod Words
+mod Refusals
 mod Users
 mod Judgements
 mod Lawful

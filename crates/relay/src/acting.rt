@@ -70,8 +70,9 @@ fn without_user(t: Head, bans: &mut [u8; BanList::BANS], user: [u8; USER_ID]) ->
 fn add_masks(bans: &mut [u8; BanList::BANS], k: usize, line: &[u8], m: Message)
     ensures { bans.new ≡ stored bans.old k (with_masks bans.old k (mask_list_in (content_by line.now m))).list }
 {
-    let added = add_listed(load(bans, k), param_in(line, m, MASKS_AT));
-    store(bans, k, added.list);
+    let list = load(bans, k);
+    let added = add_listed(list, param_in(line, m, MASKS_AT));
+    store(bans, k, added.unwrap_or(list));
 }
 
 // The head with the change made, and the ban lists too.

@@ -98,15 +98,14 @@ fn joins(k: usize, emptied: bool, res: Record, incoming: Record) -> Change
 
 // An incoming record is to be merged into the one that slot k holds; an earlier time empties its ban list. Both are well formed, and of one channel: neither
 // is tested again.
+#[tactic(auto, using(crate::proofs::Refusals::refused_numbers), unfolding(crate::specs::Private::Sjoin::joins_held))]
 fn joins_held(k: usize, held: Record, incoming: Record) -> Change
     ensures { result ≡ joins_held k held incoming }
 {
-    let merged = combine(held, incoming);
-    let number = merged.number;
-    if number != ACCEPTED {
-        return refusal(number);
+    match combine(held, incoming) {
+        Ok(merged) => joins(k, incoming.time < held.time, merged, incoming),
+        Err(refused) => refusal(refused.number()),
     }
-    joins(k, incoming.time < held.time, merged.result, incoming)
 }
 
 // An incoming record is to be merged into the one that has its name, or opens the lowest free slot.

@@ -43,14 +43,14 @@ pub(crate) fn mask_request(line: &[u8], m: Message) -> Asked
 }
 
 // The masks of a list are to be added to those of slot k, if there is room; where they are later than its channel, nothing is.
+#[tactic(auto, unfolding(crate::specs::Private::Bmask::masks_held))]
 fn masks_held(k: usize, held: Record, time: u32, list: &[u8], bans: &[u8; BanList::BANS]) -> Change
     ensures { result ≡ masks_held k held time list.now bans.now }
 {
     if held.time < time {
         return refusal(ACCEPTED);
     }
-    let added = add_listed(load(bans, k), list);
-    if added.full {
+    if add_listed(load(bans, k), list).is_none() {
         return refusal(TOO_MANY_MASKS);
     }
     let none = Record::empty();

@@ -4,8 +4,7 @@ use Rattle.refusal.specs.Numbers.{accepted, no_such_channel, too_many_masks}
 use Rattle.octets.specs.Decimals.{value_of}
 use Rattle.channel.specs.declared.Record.{Record}
 use Rattle.channel.specs.Record.{empty_record}
-use Rattle.bans.specs.declared.Added.{Added}
-use Rattle.bans.specs.Putting.{add_answer}
+use Rattle.bans.specs.Putting.{Added, add_answer}
 use Rattle.bans.specs.Slots.{list_at, list_of}
 use Rattle.sjoin.specs.Join.{time_in}
 use Rattle.bmask.specs.Masks.{mask_list_in, listed, bmask_rules}
