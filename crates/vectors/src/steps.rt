@@ -124,7 +124,7 @@ impl Trial {
     // Whether a text is banned from a channel: its name, a SPACE and the text.
     pub(crate) fn ask(&self, rt: &HostRuntime, question: &[u8]) -> io::Result<()> {
         let answer = is_banned(
-            self.head,
+            &self.head,
             &self.bans,
             before_space(question),
             after_space(question),
