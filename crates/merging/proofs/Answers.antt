@@ -27,7 +27,7 @@ use Rattle.channel.specs.declared.Record.{Record}
 use Rattle.channel.specs.declared.Roster.{Roster}
 use Rattle.names.specs.Names.{name_limit}
 use Rattle.channel.specs.Limits.{member_limit, key_limit, ban_limit}
-use Rattle.channel.specs.Settings.{Settings, no_settings}
+use Rattle.channel.specs.Settings.{Settings}
 use Rattle.channel.specs.Channel.{Channel, member, by_id}
 use Rattle.channel.specs.Record.{encode, decode}
 use Rattle.channel.specs.WellFormed.{well_formed}

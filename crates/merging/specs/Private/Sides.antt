@@ -1,5 +1,5 @@
 -- What a side of a merge gives.
-use Rattle.std.specs.Prelude.{◌≡◌, ℕ, Bool, cond, Option, Some, None, List, [], ◌∷◌, map}
+use Rattle.std.specs.Prelude.{◌≡◌, Bool, cond, Option, Some, None, List, [], ◌∷◌, map}
 use Rattle.channel.specs.declared.Member.{Member}
 use Rattle.channel.specs.Settings.{Settings}
 use Rattle.channel.specs.Channel.{member}

@@ -1,8 +1,6 @@
 -- `united` meets its contract. The invariant: what is gathered so far, with what is left, comes to the whole pass. Assumes nothing.
-use mathlib.Core.Path.{◌≡◌}
 use native.Mathlib.Omega.{arith}
-use Rattle.channel.specs.Limits.{member_limit}
-use Rattle.merging.proofs.OnePass.{begun-step, begun-over, begun-room, begun-end}
+use Rattle.merging.proofs.OnePass.{begun-step, begun-over, begun-room}
 use Rattle.merging.proofs.uniting.united.Goals as goal
 
 pub returns-then-all-eq-MEMBERS : goal.returns-then-all-eq-MEMBERS
