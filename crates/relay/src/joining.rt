@@ -22,22 +22,21 @@ pub(crate) fn join_request(line: &[u8], m: Message) -> Asked
     requires { length line.now ≤ line_limit }
     ensures { result ≡ asked_by Sjoin line.now m }
 {
-    let told = read_message(line, m);
-    let number = told.number;
-    if number != ACCEPTED {
-        return nothing(number, told.place);
+    match read_message(line, m) {
+        Ok(incoming) => {
+            let name = m.params[1];
+            let request = Request {
+                name,
+                user: [0u8; USER_ID],
+                time: 0,
+                command: Command::Sjoin,
+                number: ACCEPTED,
+                place: 0,
+            };
+            Asked { request, incoming }
+        }
+        Err(fault) => nothing(fault.refusal.number(), fault.place),
     }
-    let name = m.params[1];
-    let request = Request {
-        name,
-        user: [0u8; USER_ID],
-        time: 0,
-        command: Command::Sjoin,
-        number,
-        place: 0,
-    };
-    let incoming = told.record;
-    Asked { request, incoming }
 }
 
 // The members without status.

@@ -22,23 +22,23 @@ pub(crate) const MASKS_AT: usize = 3;
 pub(crate) fn mask_request(line: &[u8], m: Message) -> Asked
     ensures { result ≡ asked_by Bmask line.now m }
 {
-    let listing = read_message(line, m);
-    let number = listing.number;
-    if number != ACCEPTED {
-        return nothing(number, 0);
-    }
-    let name = m.params[1];
-    let request = Request {
-        name,
-        user: [0u8; USER_ID],
-        time: listing.time,
-        command: Command::Bmask,
-        number,
-        place: 0,
-    };
-    Asked {
-        request,
-        incoming: Record::empty(),
+    match read_message(line, m) {
+        Ok(time) => {
+            let name = m.params[1];
+            let request = Request {
+                name,
+                user: [0u8; USER_ID],
+                time,
+                command: Command::Bmask,
+                number: ACCEPTED,
+                place: 0,
+            };
+            Asked {
+                request,
+                incoming: Record::empty(),
+            }
+        }
+        Err(refusal) => nothing(refusal.number(), 0),
     }
 }
 

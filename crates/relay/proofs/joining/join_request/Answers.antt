@@ -2,43 +2,34 @@
 use mathlib.Core.Path.{◌≡◌, sym, ap, ◌∙◌}
 use Prim.Native.Nat.{ℕ}
 use Rattle.refusal.specs.Rules.{first_of}
+use Rattle.refusal.specs.Refusals.{number_of}
+use Rattle.refusal.proofs.Refusals.{number-given}
 use Rattle.message.specs.Content.{Content}
 use Rattle.message.specs.Parts.{content_by}
 use Rattle.channel.specs.Record.{encode}
-use Rattle.sjoin.specs.declared.Told.{Told}
-use Rattle.sjoin.specs.Join.{join_rules, channel_in, span_place, told_in}
+use Rattle.sjoin.specs.Join.{join_rules, channel_in, span_place, Told, told_in}
 use Rattle.sjoin.proofs.Judged.{span-rules}
 use Rattle.relay.specs.declared.Command.TheVariants.{Sjoin}
 use Rattle.relay.specs.Private.Work.{nothing}
 use Rattle.relay.proofs.Asking.{asked-refused, asked-passes}
 use Rattle.relay.proofs.joining.join_request.Goals as goal
 
-pub returns-then-number-ne-ACCEPTED : goal.returns-then-number-ne-ACCEPTED
+pub returns-in-Err : goal.returns-in-Err
 unfolding told_in
-returns-then-number-ne-ACCEPTED c =
-    let content : Content =
-    content_by c.args.line.now c.args.m in
-    let number : first_of (join_rules (content)) ≡ c.read_message-told.result.number =
-    let s = c in
-    sym (ap (λ (t : Told). t.number) c.read_message-told.ensures ∙ span-rules s.args.line.now s.args.m s.requires) in
-    let place : c.read_message-told.result.place ≡ span_place c.read_message-told.result.number c.args.line.now c.args.m =
-    let s = c in
-    ap (λ (t : Told). t.place) c.read_message-told.ensures ∙ ap (λ (k : ℕ). span_place k s.args.line.now s.args.m) (sym (ap (λ (t : Told). t.number) c.read_message-told.ensures)) in
-    let s = c in
-    let r = c in
-    c.nothing.ensures ∙ ap (nothing _) (place) ∙ asked-refused Sjoin s.args.line.now s.args.m _ (number) c.if-number-ne-ACCEPTED.true
+returns-in-Err c =
+    let a = c.args in
+    let k = number_of c.in-Err.fault.refusal in
+    let e = c.in-Err.ensures in
+    let number : first_of (join_rules (content_by a.line.now a.m)) ≡ k = sym (ap (λ (t : Told). t.number) e ∙ span-rules a.line.now a.m a.requires) in
+    let place : c.in-Err.fault.place ≡ span_place k a.line.now a.m = ap (λ (t : Told). t.place) e ∙ ap (λ (n : ℕ). span_place n a.line.now a.m) (sym (ap (λ (t : Told). t.number) e)) in
+    c.nothing.ensures ∙ rw (c.number.ensures, place) (asked-refused Sjoin a.line.now a.m k number (number-given c.in-Err.fault.refusal))
 
-pub returns : goal.returns
+pub returns-in-Ok : goal.returns-in-Ok
 unfolding told_in
-returns c =
-    let content : Content =
-    content_by c.args.line.now c.args.m in
-    let number : first_of (join_rules (content)) ≡ c.read_message-told.result.number =
-    let s = c in
-    sym (ap (λ (t : Told). t.number) c.read_message-told.ensures ∙ span-rules s.args.line.now s.args.m s.requires) in
-    let s = c in
-    let r = c in
-    let none = c.if-number-ne-ACCEPTED.false in
-    let e = r.read_message-told.ensures in
-    let tells : r.read_message-told.result.«record» ≡ encode (channel_in (content)) = ap (λ (t : Told). t.«record») e ∙ rw (sym (ap (λ (t : Told). t.number) e) ∙ none) in
-    rw (none, tells) (asked-passes Sjoin s.args.line.now s.args.m (number ∙ none))
+returns-in-Ok c =
+    let a = c.args in
+    let content : Content = content_by a.line.now a.m in
+    let e = c.in-Ok.ensures in
+    let none : first_of (join_rules content) ≡ 0 = sym (ap (λ (t : Told). t.number) e ∙ span-rules a.line.now a.m a.requires) in
+    let tells : c.in-Ok.incoming ≡ encode (channel_in content) = ap (λ (t : Told). t.«record») e ∙ rw (sym (ap (λ (t : Told). t.number) e)) in
+    rw tells (asked-passes Sjoin a.line.now a.m none)
