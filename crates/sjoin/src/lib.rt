@@ -126,5 +126,9 @@ pub fn read_message(text: &[u8], m: Message) -> Result<Record, Fault>
 pub fn read_join(line: &[u8]) -> Result<Record, Fault>
     ensures { as_told result ≡ told_by line.now }
 {
-    read_message(line, parse(line)?)
+    let answer = parse(line);
+    let Ok(m) = answer else {
+        return Err(answer.unwrap_err().into());
+    };
+    read_message(line, m)
 }
