@@ -1,10 +1,10 @@
 -- A channel found by its name, without an enum.
-use Rattle.std.specs.Prelude.{ℕ, List}
+use Rattle.std.specs.Prelude.{ℕ, List, Result, Ok, Err}
+use Rattle.refusal.specs.declared.Refusal.{Refusal}
 use Rattle.refusal.specs.Numbers.{accepted, no_such_channel}
+use Rattle.refusal.specs.Refusals.{number_of}
 use Rattle.channel.specs.declared.Record.{Record}
-use Rattle.table.specs.declared.Slot.{Slot}
-use Rattle.table.specs.declared.Slot.TheVariants.{Held, Free, Full}
-use Rattle.table.specs.Slots.{slot_for}
+use Rattle.table.specs.Slots.{Slot, Held, Free, Full, slot_for}
 use Rattle.capi.specs.declared.ChannelFound.{ChannelFound}
 
 -- number 19: channel not in the table
@@ -20,3 +20,8 @@ held_at Full = absent
 -- where among some slots the name is held: in the slot that it uses, if that isn't a free one
 abbrev pub find_answer : List Record → List ℕ → ChannelFound
 find_answer slots name = held_at (slot_for slots name)
+
+-- the same of what is found
+abbrev pub found_as : Result ℕ Refusal → ChannelFound
+found_as (Ok k) = record { number = accepted; slot = k }
+found_as (Err e) = record { number = number_of e; slot = 0 }

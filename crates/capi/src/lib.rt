@@ -15,7 +15,7 @@ ghost use Rattle.message.specs.Parts.{content_by};
 ghost use Rattle.feed.specs.Lines.{nothing};
 ghost use Rattle.feed.specs.Feeder.{state_of, feed_answer};
 ghost use Rattle.writer.specs.Form.{written};
-ghost use Rattle.writer.specs.Writing.{write_rules, written_answer};
+ghost use Rattle.writer.specs.Writing.{write_rules, written_of, written_answer};
 ghost use Rattle.names.specs.Fold.{same_name};
 ghost use Rattle.glob.specs.Mask.{match_answer};
 ghost use Rattle.channel.specs.Record.{decode};
@@ -29,8 +29,9 @@ ghost use Rattle.relay.specs.Relay.{process_answer, taken_of, sent};
 ghost use Rattle.journal.specs.Journal.{log_rules, record_of, logged_answer};
 ghost use Rattle.journal.specs.Reading.{read_answer as record_answer};
 ghost use Rattle.wording.specs.Wording.{text_of};
-ghost use Rattle.capi.specs.Reading.{read_answer};
-ghost use Rattle.capi.specs.Finding.{held_at, find_answer};
+ghost use Rattle.capi.specs.Reading.{read_as, read_answer};
+ghost use Rattle.table.specs.Slots.{as_found};
+ghost use Rattle.capi.specs.Finding.{found_as, held_at, find_answer};
 ghost use Rattle.capi.specs.Describing.{describe_rules};
 ghost use Rattle.capi.specs.Layout.{layout as layout_of};
 
@@ -41,9 +42,9 @@ use glob::Match;
 use journal::{Logged, RecordRead};
 use merging::Merged;
 use message::Message;
-use refusal::{ACCEPTED, NO_ROOM, NO_SUCH_CHANNEL, NOT_WELL_FORMED};
+use refusal::Refusal;
 use relay::Taken;
-use table::{Banned, Head, Registered, Slot};
+use table::{Banned, Found, Head, Registered};
 use wording::Text;
 use writer::Written;
 
@@ -63,16 +64,36 @@ pub struct ChannelFound {
     pub slot: usize,
 }
 
+// A line that is refused has no count.
+impl From<Result<usize, Refusal>> for LineRead {
+    ghost from_gives = { λ answer r. r ≡ read_as answer };
+
+    fn from(answer: Result<usize, Refusal>) -> LineRead {
+        LineRead {
+            number: refusal::number(&answer),
+            count: answer.unwrap_or(0),
+        }
+    }
+}
+
+// A channel that isn't there has no place.
+impl From<Result<usize, Refusal>> for ChannelFound {
+    ghost from_gives = { λ answer r. r ≡ found_as answer };
+
+    fn from(answer: Result<usize, Refusal>) -> ChannelFound {
+        ChannelFound {
+            number: refusal::number(&answer),
+            slot: answer.unwrap_or(0),
+        }
+    }
+}
+
 // What the line reads as.
 #[unsafe(no_mangle)]
 pub extern "C" fn relay_read(line: &[u8]) -> LineRead
     ensures { result ≡ read_answer line.now }
 {
-    let reading = message::read(line);
-    LineRead {
-        number: refusal::number(&reading),
-        count: reading.unwrap_or(0),
-    }
+    message::read(line).into()
 }
 
 // The parts of the line, by their places.
@@ -140,29 +161,27 @@ pub extern "C" fn relay_merge(a: WholeRecord, b: WholeRecord) -> Merged
     merging::merge(a, b)
 }
 
+// Writes what an SJOIN tells of a record, unless the record isn't well formed, or its text has no room.
+fn describe(r: Record, out: &mut [u8]) -> Result<usize, Refusal>
+    ensures answer { written_of result ≡ written_answer (describe_rules r out.old) (described (decode r)) }
+    ensures output { out.new ≡ front (emitted (describe_rules r out.old) (described (decode r))) out.old }
+{
+    if !channel::is_well_formed(&r) {
+        return Err(Refusal::NotWellFormed);
+    }
+    match telling::describe(r, out) {
+        0 => Err(Refusal::NoRoom),
+        len => Ok(len),
+    }
+}
+
 // Writes what an SJOIN tells of a record, as a text of its own, to the front of the output.
 #[unsafe(no_mangle)]
 pub extern "C" fn relay_describe(r: Record, out: &mut [u8]) -> Written
     ensures answer { result ≡ written_answer (describe_rules r out.old) (described (decode r)) }
     ensures output { out.new ≡ front (emitted (describe_rules r out.old) (described (decode r))) out.old }
 {
-    if !channel::is_well_formed(r) {
-        return Written {
-            number: NOT_WELL_FORMED,
-            len: 0,
-        };
-    }
-    let len = telling::describe(r, out);
-    if len == 0 {
-        return Written {
-            number: NO_ROOM,
-            len: 0,
-        };
-    }
-    Written {
-        number: ACCEPTED,
-        len,
-    }
+    describe(r, out).into()
 }
 
 // Every slot free, no link registered; and every byte of the lists is made zero.
@@ -190,23 +209,13 @@ pub extern "C" fn relay_unregister(t: Head, bans: &[u8; BanList::BANS], link: u3
     table::unregister(t, bans, link)
 }
 
-// Where the channel is that a slot which a name uses holds.
-fn held_at(slot: Slot) -> ChannelFound
-    ensures { result ≡ held_at slot }
+// The place of a channel that was looked for.
+fn place_of(found: Found<'_>) -> Result<usize, Refusal>
+    ensures { found_as result ≡ held_at (as_found found.entry).slot }
 {
-    match slot {
-        Slot::Held(k) => ChannelFound {
-            number: ACCEPTED,
-            slot: k,
-        },
-        Slot::Free(_) => ChannelFound {
-            number: NO_SUCH_CHANNEL,
-            slot: 0,
-        },
-        Slot::Full => ChannelFound {
-            number: NO_SUCH_CHANNEL,
-            slot: 0,
-        },
+    match found {
+        Found::Held(k, _) => Ok(k),
+        Found::Free(_) | Found::Full => Err(Refusal::NoSuchChannel),
     }
 }
 
@@ -215,9 +224,7 @@ fn held_at(slot: Slot) -> ChannelFound
 pub extern "C" fn relay_find(t: Head, name: &[u8]) -> ChannelFound
     ensures { result ≡ find_answer t.slots name.now }
 {
-    let found = table::find(t, name);
-    let slot = found.slot;
-    held_at(slot)
+    place_of(table::find(&t, name)).into()
 }
 
 // Whether a text is banned from the channel of a name.
@@ -230,7 +237,7 @@ pub extern "C" fn relay_is_banned(
 ) -> Banned
     ensures { result ≡ banned_answer (table_with t bans.now) name.now text.now }
 {
-    table::is_banned(t, bans, name, text)
+    table::is_banned(&t, bans, name, text)
 }
 
 // Takes a line that came from a link: the head after, the lent lists after, and the line that goes out at the front of the output. The link comes last: behind the

@@ -1,4 +1,4 @@
--- Laws of the input split into lines: the first line's length, and the line under way with more of its bytes. Assumes nothing.
+-- Laws of the input split into lines: what is cut off first, and the line under way with more of its bytes. Assumes nothing.
 use Prim.Native.Nat.{ℕ, zero, suc, ◌+◌, ◌-◌, ◌≤◌, min}
 use mathlib.Core.Path.{◌≡◌, refl, sym, ap, ◌∙◌}
 use mathlib.Core.Bool.{Bool, true, false, cond, true≢false}
@@ -14,16 +14,6 @@ use Rattle.octets.specs.Search.{before}
 use Rattle.console.specs.Lines.{input_limit, kept, first_line}
 
 -- ---- the first line
--- the bytes before the first LF, and that one, if there is one
-pub length-first : (s : List ℕ) → length (first_line s) ≡ min (suc (length (before lf s))) (length s)
-unfolding first_line before
-length-first [] = refl
-length-first (b ∷ s) = go (eqb b lf) (length-first s)
-  where
-    go : (t : Bool) → length (first_line s) ≡ min (suc (length (before lf s))) (length s) → length (cond t (b ∷ []) (b ∷ first_line s)) ≡ min (suc (length (cond t [] (b ∷ before lf s)))) (suc (length s))
-    go true ih = omega arith
-    go false ih = omega arith
-
 -- up to and with the first LF, or else to the end
 first-is : (s : List ℕ) (i : ℕ) → IsFirstMatchOrLen (λ b. eqb b lf) s i → take (i + 1) s ≡ first_line s
 unfolding first_line

@@ -1,7 +1,7 @@
 -- The room of buffers in which texts are put together.
 use Rattle.std.specs.Prelude.{ℕ}
 
--- the room for an answer, for the records and the answers of a group, and for a line that was typed and gets CR LF
+-- the room for an answer, and for the records and the answers of a group
 abbrev pub answer_room : ℕ
 answer_room = 1152
 
@@ -10,6 +10,3 @@ records_room = 8192
 
 abbrev pub answers_room : ℕ
 answers_room = 40960
-
-abbrev pub typed_room : ℕ
-typed_room = 575

@@ -31,6 +31,7 @@ const ROOM: usize = 1024;
 const PIECE: usize = 4096;
 
 // What the writer put at the front of the output; or its number, though it refuses no line that was read.
+// Kept (1): what C has of the call (`Written`) is tried, and tells a refusal by its number.
 fn print_written(rt: &HostRuntime, label: &[u8], w: Written, out: &[u8]) -> io::Result<()> {
     if w.number != ACCEPTED {
         return print_refusal(rt, w.number);
@@ -93,6 +94,7 @@ fn show_same(rt: &HostRuntime, pair: &[u8]) -> io::Result<()> {
 }
 
 // Whether a mask matches a text.
+// Kept (1): what C has of the call (`Match`) is tried, and tells a refusal by its number.
 fn show_mask(rt: &HostRuntime, pair: &[u8]) -> io::Result<()> {
     let m = glob::matches(before_space(pair), after_space(pair));
     if m.number != ACCEPTED {

@@ -1,5 +1,6 @@
 // The output: labels with what belongs to them, in part of a line or as a line of its own. Of a write that fails each function answers the error, and main ends by it.
 use refusal::ACCEPTED;
+use std::fmt::Display;
 use std::io;
 use std::io::Write;
 
@@ -13,8 +14,8 @@ pub(crate) fn add_bytes(rt: &HostRuntime, label: &[u8], s: &[u8]) -> io::Result<
     print(rt, s)
 }
 
-// A label and a number.
-pub(crate) fn add_number(rt: &HostRuntime, label: &[u8], n: usize) -> io::Result<()> {
+// A label and a number of any type.
+pub(crate) fn add_number(rt: &HostRuntime, label: &[u8], n: impl Display + Drop) -> io::Result<()> {
     print(rt, label)?;
     print!(rt; "{n}")
 }
@@ -26,7 +27,11 @@ pub(crate) fn print_bytes(rt: &HostRuntime, label: &[u8], s: &[u8]) -> io::Resul
 }
 
 // One line of output: a label and a number.
-pub(crate) fn print_number(rt: &HostRuntime, label: &[u8], n: usize) -> io::Result<()> {
+pub(crate) fn print_number(
+    rt: &HostRuntime,
+    label: &[u8],
+    n: impl Display + Drop,
+) -> io::Result<()> {
     add_number(rt, label, n)?;
     print(rt, b"\n")
 }
@@ -36,11 +41,12 @@ pub(crate) fn print_answer(rt: &HostRuntime, label: &[u8], yes: bool) -> io::Res
     print_bytes(rt, label, if yes { b"yes" } else { b"no" })
 }
 
-pub(crate) fn print_refusal(rt: &HostRuntime, k: u8) -> io::Result<()> {
-    print_number(rt, b"refused ", usize::from(k))
+pub(crate) fn print_refusal(rt: &HostRuntime, number: u8) -> io::Result<()> {
+    print_number(rt, b"refused ", number)
 }
 
 // Whether what was asked for is done, or the number of its refusal.
+// Kept (1): what C has of a call (`Registered`, `Taken`, `Merged`) is tried, and tells a refusal by its number.
 pub(crate) fn print_outcome(rt: &HostRuntime, number: u8) -> io::Result<()> {
     if number != ACCEPTED {
         return print_refusal(rt, number);

@@ -12,7 +12,7 @@ pub(crate) fn show_links(rt: &HostRuntime, label: &[u8], set: u32) -> io::Result
     print(rt, label)?;
     for link in 0..Links::COUNT {
         if has_link(set, link) {
-            add_number(rt, b" ", link as usize)?;
+            add_number(rt, b" ", link)?;
         }
     }
     print(rt, b"\n")
@@ -20,7 +20,7 @@ pub(crate) fn show_links(rt: &HostRuntime, label: &[u8], set: u32) -> io::Result
 
 fn show_member(rt: &HostRuntime, m: Member) -> io::Result<()> {
     add_bytes(rt, b"member ", &m.id)?;
-    print_number(rt, b" ", usize::from(m.status))
+    print_number(rt, b" ", m.status)
 }
 
 // One line of output for each mask of a list.
@@ -33,9 +33,9 @@ fn show_masks(rt: &HostRuntime, list: &[u8]) -> io::Result<()> {
 
 // What every channel has.
 fn add_channel(rt: &HostRuntime, r: &Record) -> io::Result<()> {
-    add_number(rt, b" time ", r.time as usize)?;
+    add_number(rt, b" time ", r.time)?;
     add_bytes(rt, b" name ", part(&r.name, 0, r.name_len))?;
-    add_number(rt, b" modes ", usize::from(r.modes))
+    add_number(rt, b" modes ", r.modes)
 }
 
 // The key and the limit, where there is one. Each is looked for in its own place and not among the modes, so that it is seen whether they agree.
@@ -44,7 +44,7 @@ fn add_key_and_limit(rt: &HostRuntime, r: &Record) -> io::Result<()> {
         add_bytes(rt, b" key ", part(&r.key, 0, r.key_len))?;
     }
     if r.limit != 0 {
-        add_number(rt, b" limit ", usize::from(r.limit))?;
+        add_number(rt, b" limit ", r.limit)?;
     }
     Ok(())
 }

@@ -116,12 +116,13 @@ impl Trial {
         print_outcome(rt, answer.number)?;
         print_number(rt, b"at ", answer.place)?;
         show_links(rt, b"to", answer.set)?;
-        print_number(rt, b"count ", answer.count as usize)?;
+        print_number(rt, b"count ", answer.count)?;
         show_sent(rt, &out, answer.len)?;
         self.show(rt)
     }
 
     // Whether a text is banned from a channel: its name, a SPACE and the text.
+    // Kept (1): what C has of the call (`Banned`) is tried, and tells a refusal by its number.
     pub(crate) fn ask(&self, rt: &HostRuntime, question: &[u8]) -> io::Result<()> {
         let answer = is_banned(
             &self.head,
