@@ -33,10 +33,9 @@ use Rattle.table.specs.Slots.{slot_in}
 use Rattle.sjoin.specs.Join.{mode_rules, join_rules, channel_in}
 use Rattle.sjoin.proofs.Wellformed.{read-proper}
 use Rattle.telling.specs.Telling.{sjoin}
-use Rattle.relay.specs.declared.Command.TheVariants.{Sjoin}
 use Rattle.relay.specs.Arrival.{Arrival, said}
 use Rattle.relay.specs.Sjoin.{resulting, joined_rules, is_earlier, joined}
-use Rattle.relay.specs.Commands.{command_among, command_in}
+use Rattle.relay.specs.Commands.{Sjoin, command_among, command_in}
 use Rattle.relay.specs.Relay.{meaning_in, taken_rules, process_rules}
 use Rattle.relay.proofs.Results.{slot-told, room-left, earlier-free}
 

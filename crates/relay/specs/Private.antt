@@ -6,3 +6,5 @@ pub mod Quit
 pub mod Bmask
 pub mod Commands
 pub mod Acting
+pub mod Answering
+pub mod Stubs

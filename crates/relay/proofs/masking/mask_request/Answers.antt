@@ -1,40 +1,33 @@
 -- `mask_request` meets its contract: a BMASK is refused by its own rules, or asks for its masks, with their time. Assumes nothing.
 use mathlib.Core.Path.{◌≡◌, sym, ap, ◌∙◌}
-use Rattle.refusal.specs.Numbers.{is_mode_number}
+use Prim.Native.Nat.{ℕ}
+use borrow.Author.Tests.{ne_eqb}
+use Rattle.std.proofs.lemmas.Result.{err_from_is_err_and}
+use Rattle.refusal.specs.Numbers.{accepted}
+use Rattle.refusal.specs.Refusals.{number_of}
 use Rattle.refusal.specs.Rules.{first_of}
-use Rattle.refusal.proofs.Rules.{first_plain}
 use Rattle.octets.specs.Decimals.{value_of}
 use Rattle.message.specs.Content.{Content}
 use Rattle.message.specs.Parts.{content_by}
 use Rattle.sjoin.specs.Join.{time_in}
 use Rattle.bmask.specs.declared.Listing.{Listing}
 use Rattle.bmask.specs.Masks.{bmask_rules, listing_in}
-use Rattle.bmask.proofs.Rules.{rules-plain}
-use Rattle.relay.specs.declared.Command.TheVariants.{Bmask}
-use Rattle.relay.proofs.Asking.{asked-plain, asked-passes}
+use Rattle.relay.proofs.Deciding.{some-number}
 use Rattle.relay.proofs.masking.mask_request.Goals as goal
 
-pub returns-then-number-ne-ACCEPTED : goal.returns-then-number-ne-ACCEPTED
+pub returns-in_err-time : goal.returns-in_err-time
 unfolding listing_in
-returns-then-number-ne-ACCEPTED c =
-    let content : Content =
-    content_by c.args.line.now c.args.m in
-    let number : first_of (bmask_rules (content)) ≡ c.read_message-listing.result.number =
-    sym (ap (λ (l : Listing). l.number) c.read_message-listing.ensures) in
-    let s = c in
-    let e = number in
-    c.nothing.ensures ∙ asked-plain Bmask s.args.line.now s.args.m _ e c.if-number-ne-ACCEPTED.true (ap is_mode_number (sym e) ∙ first_plain (bmask_rules (content)) (rules-plain (content)))
+returns-in_err-time c =
+    let content : Content = content_by c.args.line.now c.args.m in
+    let p = err_from_is_err_and c.from_residual.result c.from_residual.ensures.1 in
+    let e = c.in_err-time.field-0.0 in
+    let number : first_of (bmask_rules content) ≡ number_of e = sym (ap (λ (l : Listing). l.number) c.in_err-time.ensures) in
+    rw (p.1, p.2, number, ne_eqb _ accepted (some-number e))
 
 pub returns : goal.returns
 unfolding listing_in
 returns c =
-    let content : Content =
-    content_by c.args.line.now c.args.m in
-    let number : first_of (bmask_rules (content)) ≡ c.read_message-listing.result.number =
-    sym (ap (λ (l : Listing). l.number) c.read_message-listing.ensures) in
-    let s = c in
-    let r = c in
-    let none = c.if-number-ne-ACCEPTED.false in
-    let e = r.read_message-listing.ensures in
-    let timed : r.read_message-listing.result.time ≡ value_of (time_in (content)) = ap (λ (l : Listing). l.time) e ∙ rw (sym (ap (λ (l : Listing). l.number) e) ∙ none) in
-    rw (none, timed, c.empty.ensures.value) (asked-passes Bmask s.args.line.now s.args.m (number ∙ none))
+    let content : Content = content_by c.args.line.now c.args.m in
+    let number : first_of (bmask_rules content) ≡ accepted = sym (ap (λ (l : Listing). l.number) c.in_ok-time.ensures) in
+    let time : c.in_ok-time.time ≡ value_of (time_in content) = ap (λ (l : Listing). l.time) c.in_ok-time.ensures ∙ rw number in
+    rw (number, time)
