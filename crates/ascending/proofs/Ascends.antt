@@ -313,6 +313,16 @@ module _ {E P : Type 0} (K : Kind E P) (S : Stays K) where
       go Same q k = (rw (S.stays e d (compare_same (K.key e) (K.key d) q)) h.0, h.1)
       go More q k = (h.0, k)
 
+  pub under-put : (x : List ℕ) (e : E) (l : List E) → Below (K.key e) x → Under K x l → Under K x (put K e l)
+  unfolding put insert
+  under-put x e [] p h = (p, tt)
+  under-put x e (d ∷ l) p h = go (compare (K.key e) (K.key d)) refl (under-put x e l p h.1)
+    where
+      go : (o : Order) → compare (K.key e) (K.key d) ≡ o → Under K x (put K e l) → Under K x (insert K o e d l (put K e l))
+      go Less q k = (p, h)
+      go Same q k = (rw (S.stays e d (compare_same (K.key e) (K.key d) q)) h.0, h.1)
+      go More q k = (h.0, k)
+
   pub ascending-put : (e : E) (l : List E) → Ascending K l → Ascending K (put K e l)
   unfolding put insert
   ascending-put e [] h = (tt, tt)

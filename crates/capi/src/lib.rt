@@ -10,7 +10,7 @@ ghost use Rattle.std.specs.Prelude.{◌≡◌, length, get_or};
 ghost use Rattle.refusal.specs.Rules.{emitted};
 ghost use Rattle.octets.specs.Room.{front};
 ghost use Rattle.octets.specs.Order.{compare as compare_of, is_less};
-ghost use Rattle.message.specs.Reading.{count_of, message_of};
+ghost use Rattle.message.specs.Reading.{message_of};
 ghost use Rattle.message.specs.Parts.{content_by};
 ghost use Rattle.feed.specs.Lines.{nothing};
 ghost use Rattle.feed.specs.Feeder.{state_of, feed_answer};
@@ -40,7 +40,7 @@ use feed::{Fed, Feeder};
 use glob::Match;
 use journal::{Logged, RecordRead};
 use merging::Merged;
-use message::{Message, Reading};
+use message::Message;
 use octets::Order;
 use refusal::{ACCEPTED, NO_ROOM, NO_SUCH_CHANNEL, NOT_WELL_FORMED};
 use relay::Taken;
@@ -64,16 +64,6 @@ pub struct ChannelFound {
     pub slot: usize,
 }
 
-// The count of parameters that a reading tells: 0 of a refusal.
-fn count(reading: Reading) -> usize
-    ensures { result ≡ count_of reading }
-{
-    match reading {
-        Reading::Line(n) => n,
-        Reading::Refused(_) => 0,
-    }
-}
-
 // What the line reads as.
 #[unsafe(no_mangle)]
 pub extern "C" fn relay_read(line: &[u8]) -> LineRead
@@ -81,8 +71,8 @@ pub extern "C" fn relay_read(line: &[u8]) -> LineRead
 {
     let reading = message::read(line);
     LineRead {
-        number: reading.number(),
-        count: count(reading),
+        number: refusal::number(&reading),
+        count: reading.unwrap_or(0),
     }
 }
 

@@ -1,5 +1,5 @@
 -- A list of members gathered one behind the other, in room whose unused places are vacant. Assumes nothing.
-use mathlib.Core.Path.{◌≡◌, ap}
+use mathlib.Core.Path.{◌≡◌, refl, ap}
 use mathlib.Core.List.{List, [], ◌∷◌, ◌++◌}
 use Prim.Native.Nat.{ℕ, ◌+◌, ◌≤◌}
 use native.Mathlib.Omega.{arith}
@@ -10,7 +10,7 @@ use Rattle.channel.specs.declared.Member.{Member}
 use Rattle.channel.specs.declared.Roster.{Roster}
 use Rattle.channel.specs.Limits.{member_limit}
 use Rattle.channel.specs.Record.{nobody}
-use Rattle.channel.specs.Members.{roster}
+use Rattle.channel.specs.Members.{roster, pushed}
 
 -- The list holds the members l, and no other.
 pub record Gathers (list : List Member) (count : ℕ) (l : List Member) : Type 0 where
@@ -37,3 +37,8 @@ roster-gathers r l e = record { holds = ap (λ (s : Roster). s.list) e; counts =
 -- they stand at the front
 pub gathers-take : (list : List Member) (count : ℕ) (l : List Member) → count ≤ member_limit → Gathers list count l → take count list ≡ l
 gathers-take list count l h g = rw (g.holds, g.counts) (take-padded nobody member_limit l (omega (arith, g.counts)))
+
+-- ---- a roster, and one member more
+pub pushed-roster : (l : List Member) (m : Member) → pushed (roster l) m ≡ roster (l ++ (m ∷ []))
+unfolding roster
+pushed-roster l m = let g = gathers-more (roster l).list (length l) l m (roster-gathers (roster l) l refl) in gathers-roster _ _ (l ++ (m ∷ [])) g

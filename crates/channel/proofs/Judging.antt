@@ -9,16 +9,16 @@ use lib.ListN.{length, take, drop, length-take}
 use lib.Dec.{leb}
 use borrow.Author.Tests.{le-leb, lt-leb, lt-ltb, leb-true, leb-false}
 use Rattle.laws.specs.Lists.{all}
-use Rattle.laws.proofs.Bools.{and_right}
 use Rattle.octets.specs.Bytes.{is_zero}
-use Rattle.names.specs.Names.{name_limit, is_channel}
+use Rattle.ascending.specs.Ascending.{ascends}
+use Rattle.names.specs.Names.{is_channel}
 use Rattle.channel.specs.declared.Member.{Member}
 use Rattle.channel.specs.declared.Record.{Record}
-use Rattle.channel.specs.Limits.{member_limit, key_limit, time_limit}
+use Rattle.channel.specs.Limits.{member_limit, time_limit}
 use Rattle.channel.specs.Modes.{mode_count}
+use Rattle.channel.specs.Channel.{by_id}
 use Rattle.channel.specs.Record.{decode}
-use Rattle.channel.specs.WellFormed.{is_vacant, good_time, good_key, good_limit, good_settings, good_members, channel_tests, in_room, clear, well_formed}
-use Rattle.channel.proofs.Places.{places}
+use Rattle.channel.specs.WellFormed.{is_vacant, good_time, good_key, good_limit, good_settings, good_member, good_members, channel_tests, in_room, clear, well_formed}
 
 -- every test of a list passes
 abbrev pub passed : List Bool → Bool
@@ -46,15 +46,9 @@ tests r =
     ∷ all is_zero (drop r.name_len r.name)
     ∷ all is_zero (drop r.key_len r.key)
     ∷ (is_channel (take r.name_len r.name) && (leb 1 r.time && (good_key r.modes (take r.key_len r.key) && good_limit r.modes r.limit)))
-    ∷ places r.members r.count
+    ∷ all is_vacant (drop r.count r.members)
+    ∷ (all good_member (take r.count r.members) && ascends by_id (take r.count r.members))
     ∷ []
-
--- once what is in use keeps to its room, there are no more members than there is room for
-pub in-room-count : (r : Record) → in_room r ≡ true → r.count ≤ member_limit
-unfolding in_room
-in-room-count r e =
-    let k : leb r.key_len key_limit && leb r.count member_limit ≡ true = and_right (leb r.name_len name_limit) (leb r.key_len key_limit && leb r.count member_limit) e in
-    leb-true r.count member_limit (and_right (leb r.key_len key_limit) (leb r.count member_limit) k)
 
 -- of an array of members some are in use exactly if the count isn't 0, and never too many
 module _ (l : List Member) (n : ℕ) (h : length l ≡ member_limit) where
@@ -68,9 +62,9 @@ module _ (l : List Member) (n : ℕ) (h : length l ≡ member_limit) where
   not-over : leb (length (take n l)) member_limit ≡ true
   not-over = le-leb (length (take n l)) member_limit (omega (arith, length-take n l))
 
--- the tests in another order: whether there are members comes first, and whether the other places are vacant last
-reordered : (s v i n k c t q l m a : Bool) → i && (n && (k && (v && (c && (t && (q && (l && (s && (m && a))))))))) ≡ s && (i && (n && (k && (c && (t && (q && (l && (m && (a && v)))))))))
-reordered true true i n k c t q l m a = simp and-true
+-- the tests in another order: whether there are members comes first, and whether the other places are vacant right before they are looked at
+reordered : (s v i n k c t q l m a : Bool) → i && (n && (k && (v && (c && (t && (q && (l && (s && (m && a))))))))) ≡ s && (i && (n && (k && (c && (t && (q && (l && (v && (m && a)))))))))
+reordered true true i n k c t q l m a = refl
 reordered true false i n k c t q l m a = simp and-false
 reordered false v i n k c t q l m a = simp and-false
 
@@ -85,4 +79,4 @@ module _ (r : Record) (m : length r.members ≡ member_limit) (t : r.time ≤ ti
     not-over r.members r.count m,
     and-true,
     and_assoc,
-  ) (rw (reordered (leb 1 r.count) (all is_vacant (drop r.count r.members))) (simp and_assoc))
+  ) (rw (reordered (leb 1 r.count) (all is_vacant (drop r.count r.members))))

@@ -10,7 +10,9 @@ use Rattle.octets.specs.Bytes.{colon, is_key_byte}
 use Rattle.laws.specs.Lists.{all, is_nil, starts_with}
 use Rattle.laws.proofs.Bools.{and_left, and_right, and-three}
 use Rattle.channel.specs.Limits.{key_limit}
+use Rattle.channel.specs.Modes.{has_mode, key_mode}
 use Rattle.channel.specs.Key.{is_key}
+use Rattle.channel.specs.WellFormed.{good_key}
 
 -- it keeps to its room
 pub key-length : (k : List ℕ) → is_key k ≡ true → length k ≤ key_limit
@@ -31,3 +33,17 @@ pub key-some : (k : List ℕ) → is_key k ≡ true → is_nil k ≡ false
 unfolding is_key
 key-some [] h = absurd (true≢false (sym h))
 key-some (b ∷ k) h = refl
+
+-- ---- a key and its mode
+module _ (modes : ℕ) where
+  -- with the mode there is a key, and a good one
+  pub key-with : (k : List ℕ) → has_mode modes key_mode ≡ true → good_key modes k ≡ is_key k
+  unfolding good_key is_key
+  key-with [] e = rw e
+  key-with (b ∷ k) e = rw e
+
+  -- without it there is none
+  pub key_without : (k : List ℕ) → has_mode modes key_mode ≡ false → good_key modes k ≡ is_nil k
+  unfolding good_key
+  key_without [] e = rw e
+  key_without (b ∷ k) e = rw e

@@ -1,15 +1,16 @@
 -- Laws of the members that stay when one is removed, and of the record that is left. Assumes nothing.
 use mathlib.Core.Path.{◌≡◌, refl, sym, ap, ◌∙◌}
-use mathlib.Core.Bool.{Bool, true, false}
+use mathlib.Core.Bool.{Bool, true, false, ◌||◌}
 use mathlib.Core.List.{List, [], ◌∷◌, ◌++◌, append-nil}
 use Prim.Native.Nat.{ℕ, suc, ◌+◌, ◌≤◌, ◌<◌}
 use native.Mathlib.Numerals.{add-one}
 use native.Mathlib.Omega.{arith}
-use lib.ListN.{length, take, drop, get_or, drop_of_length-le}
+use lib.ListN.{length, take, get_or}
 use lib.Seq.{take-suc}
 use borrow.Author.Tests.{eq-eqb, ne_eqb}
+use Rattle.std.specs.List.{list_any}
 use Rattle.laws.specs.Lists.{same}
-use Rattle.laws.proofs.Lists.{nil-length, drop-step}
+use Rattle.laws.proofs.Lists.{nil-length}
 use Rattle.channel.specs.declared.Member.{Member}
 use Rattle.channel.specs.declared.Record.{Record}
 use Rattle.channel.specs.declared.Roster.{Roster}
@@ -51,23 +52,11 @@ module _ (id : List ℕ) where
     unfolding others
     others-stay e = next ∙ rw e
 
--- ---- whether one has the id, at a place
-module _ (id : List ℕ) (l : List Member) (i : ℕ) where
-  module _ (d : Member) (h : i < length l) where
-    -- a member with the id decides
-    pub has-stop : same id (get_or l i d).id ≡ true → has_member id (drop i l) ≡ true
-    unfolding has_member
-    has-stop e = rw (drop-step l i d h, e)
-
-    -- behind a member with another id the others decide
-    pub has-go : same id (get_or l i d).id ≡ false → has_member id (drop i l) ≡ has_member id (drop (i + 1) l)
-    unfolding has_member
-    has-go e = rw (drop-step l i d h, e)
-
-  -- past the end nobody has the id
-  pub has-past : length l ≤ i → has_member id (drop i l) ≡ false
-  unfolding has_member
-  has-past h = rw (drop_of_length-le l h)
+-- whether one has the id, as the library's test of them answers
+pub has-listed : (id : List ℕ) (l : List Member) → list_any (λ m. same id m.id) l ≡ has_member id l
+unfolding has_member
+has-listed id [] = refl
+has-listed id (m ∷ l) = ap (λ (t : Bool). same id m.id || t) (has-listed id l)
 
 -- ---- the record without a member, by the roster of those that stay
 module _ (id : List ℕ) (r : Record) (s : Roster) (is : s ≡ roster (others id (decode r).members)) where

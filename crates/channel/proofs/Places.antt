@@ -1,61 +1,36 @@
--- The places of a record's members: of those in use each is a member and smaller than the next, looked at one after the other, and the rest is vacant.
--- Assumes nothing.
-use mathlib.Core.Path.{◌≡◌, refl, ap, ◌∙◌}
-use mathlib.Core.Bool.{Bool, true, false, ◌&&◌, and-true}
+-- Members in their order: each id smaller than the next one's. Assumes nothing.
+use mathlib.Core.Path.{◌≡◌, refl, sym}
+use mathlib.Core.Bool.{Bool, true, false, and-false}
 use mathlib.Core.List.{List, [], ◌∷◌}
-use Prim.Native.Nat.{ℕ, ◌+◌, ◌≤◌, ◌<◌}
+use Prim.Native.Nat.{ℕ, zero, suc, ◌<◌}
+use native.Mathlib.Numerals.{add-one}
 use native.Mathlib.Omega.{arith}
-use lib.ListN.{length, take, drop, get_or, length-take, length-drop}
-use lib.Seq.{length-take-le, get_or-take}
-use Rattle.laws.specs.Lists.{all}
+use lib.ListN.{length, get_or}
+use Rattle.std.specs.List.{IsAllAdjacentAnswer}
 use Rattle.octets.specs.Order.{compare, is_less}
-use Rattle.laws.proofs.Lists.{front-step, all_past, all-step}
 use Rattle.ascending.specs.Ascending.{ascends}
 use Rattle.channel.specs.declared.Member.{Member}
 use Rattle.channel.specs.Channel.{by_id}
-use Rattle.channel.specs.WellFormed.{is_vacant, good_member}
+use Rattle.channel.specs.Record.{nobody}
 
--- members that ascend
-abbrev pub proper : List Member → Bool
-proper l = all good_member l && ascends by_id l
+-- a member's id is smaller than another's
+abbrev pub precedes : Member → Member → Bool
+precedes m next = is_less (compare m.id next.id)
 
--- a list of one, or of none, ascends
-short : (l : List Member) → length l ≤ 1 → ascends by_id l ≡ true
+each : (l : List Member) → ((k : ℕ) → suc k < length l → precedes (get_or l k nobody) (get_or l (suc k) nobody) ≡ true) → ascends by_id l ≡ true
 unfolding ascends
-short [] = λ h. refl
-short (m ∷ []) = λ h. refl
-short (m ∷ n ∷ l) = λ h. absurd (omega arith)
+each [] h = refl
+each (m ∷ []) h = refl
+each (m ∷ n ∷ l) h = rw (h 0 (omega arith)) (each (n ∷ l) (λ k lt. h (suc k) (omega arith)))
 
-mixed : (g o a s : Bool) → (g && a) && (o && s) ≡ (g && o) && (a && s)
-mixed true true a s = refl
-mixed true false true s = refl
-mixed true false false s = refl
-mixed false o a s = refl
+one : (l : List Member) (k : ℕ) → suc k < length l → precedes (get_or l k nobody) (get_or l (suc k) nobody) ≡ false → ascends by_id l ≡ false
+unfolding ascends
+one [] k = λ lt e. absurd (omega arith)
+one (m ∷ []) k = λ lt e. absurd (omega arith)
+one (m ∷ n ∷ l) zero = λ lt e. rw e
+one (m ∷ n ∷ l) (suc k) = λ lt e. rw (one (n ∷ l) k (omega arith) e) (and-false (precedes m n))
 
-module _ (l : List Member) (n : ℕ) where
-  -- the first n are members that ascend, and the other places are vacant
-  abbrev pub places : Bool
-  places = proper (take n l) && all is_vacant (drop n l)
-
-  module _ (i : ℕ) (d : Member) (k : n ≤ length l) where
-    proper-step : i + 1 < n
-        → proper (drop i (take n l)) ≡ (good_member (get_or l i d) && is_less (compare (get_or l i d).id (get_or l (i + 1) d).id)) && proper (drop (i + 1) (take n l))
-    unfolding ascends all
-    proper-step h =
-        rw (front-step l n i d (omega arith) k, front-step l n (i + 1) d h k)
-        (mixed (good_member (get_or l i d)) (is_less (compare (get_or l i d).id (get_or l (i + 1) d).id)) _ _)
-
-    module _ (h : i + 1 < n) where
-      -- one that is no member, or not smaller than the next, decides
-      pub proper-stop : good_member (get_or l i d) && is_less (compare (get_or l i d).id (get_or l (i + 1) d).id) ≡ false → proper (drop i (take n l)) ≡ false
-      proper-stop e = proper-step h ∙ rw e
-
-      -- behind a member that is smaller than the next the others decide
-      pub proper-go : good_member (get_or l i d) && is_less (compare (get_or l i d).id (get_or l (i + 1) d).id) ≡ true → proper (drop i (take n l)) ≡ proper (drop (i + 1) (take n l))
-      proper-go e = proper-step h ∙ rw e
-
-    -- the last one only has to be a member
-    pub proper-last : i + 1 ≡ n → proper (drop i (take n l)) ≡ good_member (get_or l i d)
-    proper-last h =
-        rw (short (drop i (take n l)) (omega (arith, length-drop i (take n l), length-take n l)), and-true (all good_member (drop i (take n l))))
-        ((all-step good_member (take n l) i d (omega (arith, length-take-le n l k)) ∙ ap (λ (m : Member). good_member m && all good_member (drop (i + 1) (take n l))) (get_or-take n l i d (omega arith))) ∙ rw (all_past good_member (take n l) (i + 1) (omega (arith, length-take n l))) (and-true (good_member (get_or l i d))))
+-- what the test of all neighbours answers
+pub neighbours : (l : List Member) (r : Bool) → IsAllAdjacentAnswer (λ m next b. b ≡ precedes m next) l r → r ≡ ascends by_id l
+neighbours l true h = sym (each l (λ k lt. rw add-one at (sym (h k nobody (omega arith)))))
+neighbours l false h = sym (one l h.0 (omega (arith, h.1)) (rw add-one at (sym (h.2 nobody))))

@@ -1,5 +1,5 @@
 -- Member lists in their room, which ids and statuses they give, and a member removed.
-use Rattle.std.specs.Prelude.{ℕ, Bool, false, cond, ◌||◌, List, [], ◌∷◌, length}
+use Rattle.std.specs.Prelude.{ℕ, Bool, false, cond, ◌||◌, ◌+◌, List, [], ◌∷◌, length, set}
 use Rattle.std.specs.Int.Bits.{bit_or}
 use Rattle.laws.specs.Lists.{is_nil, padded, same}
 use Rattle.laws.specs.Joins.{total}
@@ -14,6 +14,10 @@ use Rattle.channel.specs.Record.{nobody, decode, empty_record}
 -- these members in a roster's room, its unused places vacant
 unfoldable pub roster : List Member → Roster
 roster l = record { list = padded member_limit nobody l; count = length l }
+
+-- with one member more, behind the others
+abbrev pub pushed : Roster → Member → Roster
+pushed r m = record { list = set r.list r.count m; count = r.count + 1 }
 
 -- every id once, ascending, an id given twice having both statuses
 abbrev pub ordered : List Member → List Member

@@ -1,5 +1,5 @@
 -- Modes kept as one byte: i 1, m 2, n 4, p 8, s 16, t 32, k 64, l 128.
-use Rattle.std.specs.Prelude.{ℕ, suc, ◌^◌, Bool, cond, List, [], ◌∷◌, eqb, ltb}
+use Rattle.std.specs.Prelude.{ℕ, suc, ◌^◌, Bool, cond, Option, Some, None, List, [], ◌∷◌, eqb, ltb}
 use Rattle.std.specs.Int.Bits.{bit_or}
 use Rattle.laws.specs.Bits.{has_bit}
 
@@ -36,3 +36,7 @@ place_among (x ∷ s) letter = cond (eqb x letter) 0 (suc (place_among s letter)
 
 abbrev pub mode_place : ℕ → ℕ
 mode_place letter = place_among letters letter
+
+-- the letter's place, if it is one of the eight
+abbrev pub place_of : ℕ → Option ℕ
+place_of letter = cond (ltb (mode_place letter) mode_count) (Some (mode_place letter)) None

@@ -7,17 +7,16 @@ pub mod members;
 pub mod modes;
 mod well;
 
-ghost use Rattle.std.specs.Prelude.{◌≡◌};
+ghost use Rattle.std.specs.Prelude.{◌≡◌, ◌≤◌, length, drop};
 ghost use Rattle.names.specs.Names.{name_limit};
 ghost use Rattle.channel.specs.Limits.{member_limit, key_limit, time_limit, limit_limit, slot_count, ban_limit, mask_limit};
 ghost use Rattle.channel.specs.Channel.{voice, operator, voice_place, operator_place};
-ghost use Rattle.channel.specs.Record.{empty_record};
+ghost use Rattle.channel.specs.Record.{decode, empty_record};
 ghost use Rattle.channel.specs.WellFormed.{well_formed, is_blank};
 
-use members::vacant;
 use names::{NAME_LIMIT, USER_ID};
-use octets::{part, zero_from};
-use well::{good_head, good_member, in_room, member_bits, precedes};
+use octets::zero_from;
+use well::{are_members, are_vacant};
 
 // A member of a channel: its user id, held whole, and its status, VOICE plus OPERATOR.
 #[repr(C)]
@@ -28,6 +27,12 @@ pub struct Member {
 }
 
 impl Member {
+    // An unused place.
+    pub const NOBODY: Member = Member {
+        id: [0; USER_ID],
+        status: 0,
+    };
+
     // The place of voice's bit in a status.
     pub const VOICE_PLACE: u32 = 0;
 
@@ -82,6 +87,7 @@ impl Record {
     pub const MASK: usize = 100;
 
     // No channel: a free slot. The limits and statuses of the code are those of the definitions.
+    #[tactic(auto, unfolding(crate::specs::Record::empty_record, crate::specs::Record::encode, laws::specs::Lists::padded))]
     pub fn empty() -> Record
         ensures value { result ≡ empty_record }
         ensures sizes { (Record.MEMBERS ≡ member_limit) × (Record.NAME ≡ name_limit) × (Record.KEY ≡ key_limit) × (Record.SLOTS ≡ slot_count) }
@@ -90,18 +96,46 @@ impl Record {
         ensures statuses { (Member.VOICE ≡ voice) × (Member.OPERATOR ≡ operator) }
         ensures places { (Member.VOICE_PLACE ≡ voice_place) × (Member.OPERATOR_PLACE ≡ operator_place) }
     {
-        let members = vacant();
         Record {
-            name: [0u8; Record::NAME],
+            name: [0; Record::NAME],
             name_len: 0,
             time: 0,
             modes: 0,
-            key: [0u8; Record::KEY],
+            key: [0; Record::KEY],
             key_len: 0,
             limit: 0,
-            members,
+            members: [Member::NOBODY; Record::MEMBERS],
             count: 0,
         }
+    }
+
+    // The name: what is in use of its room.
+    pub fn name(&self) -> &[u8]
+        ensures { result.now ≡ (decode self.now).name }
+    {
+        &self.name[..self.name_len.min(Record::NAME)]
+    }
+
+    // The key: what is in use of its room.
+    pub fn key(&self) -> &[u8]
+        ensures { result.now ≡ (decode self.now).settings.key }
+    {
+        &self.key[..self.key_len.min(Record::KEY)]
+    }
+
+    // The members: the places in use.
+    pub fn members(&self) -> &[Member]
+        ensures list { result.now ≡ (decode self.now).members }
+        ensures few { length result.now ≤ member_limit }
+    {
+        &self.members[..self.count.min(Record::MEMBERS)]
+    }
+
+    // The places of members that aren't in use.
+    fn unused(&self) -> &[Member]
+        ensures { result.now ≡ drop self.now.count self.now.members }
+    {
+        &self.members[self.count.min(Record::MEMBERS)..]
     }
 }
 
@@ -112,82 +146,30 @@ pub struct Roster {
     pub count: usize,
 }
 
-// Whether every part of the record is zero, as in a free slot. The places of members are read where they stand, by an or over their bytes and one test.
+// Whether every part of the record is zero, as in a free slot.
+#[tactic(auto, unfolding(crate::specs::WellFormed::is_blank, laws::specs::Lists::all))]
 pub fn is_blank(r: Record) -> bool
     ensures { result ≡ is_blank r }
 {
-    let name = r.name;
-    let key = r.key;
-    if !zero_from(&name, 0) {
-        return false;
-    }
-    if r.name_len != 0 {
-        return false;
-    }
-    if r.time != 0 {
-        return false;
-    }
-    if r.modes != 0 {
-        return false;
-    }
-    if !zero_from(&key, 0) {
-        return false;
-    }
-    if r.key_len != 0 {
-        return false;
-    }
-    if r.limit != 0 {
-        return false;
-    }
-    let mut bits = 0u64;
-    for i in 0..Record::MEMBERS {
-        let m = r.members[i];
-        bits = bits | member_bits(m);
-    }
-    if bits != 0 {
-        return false;
-    }
-    r.count == 0
+    zero_from(&r.name, 0)
+        && r.name_len == 0
+        && r.time == 0
+        && r.modes == 0
+        && zero_from(&r.key, 0)
+        && r.key_len == 0
+        && r.limit == 0
+        && are_vacant(&r.members)
+        && r.count == 0
 }
 
-// Whether the record is well formed: what is in use keeps to its room, unused room is zero, and what it holds is a channel. One function with two loops, so that
-// the members are read where they stand and handed to no other: first the places that are not in use, then those that are, each against the next.
+// Whether the record is well formed: what is in use keeps to its room, unused room is zero, and what it holds is a channel.
 pub fn is_well_formed(r: Record) -> bool
     ensures { result ≡ well_formed r }
 {
-    let name = r.name;
-    let key = r.key;
-    if !in_room(r.name_len, r.key_len, r.count) {
-        return false;
-    }
-    if !zero_from(&name, r.name_len) {
-        return false;
-    }
-    if !zero_from(&key, r.key_len) {
-        return false;
-    }
-    let named = part(&name, 0, r.name_len);
-    let keyed = part(&key, 0, r.key_len);
-    if !good_head(named, r.time, r.modes, keyed, r.limit) {
-        return false;
-    }
-    let mut bits = 0u64;
-    for j in r.count..Record::MEMBERS {
-        let m = r.members[j];
-        bits = bits | member_bits(m);
-    }
-    if bits != 0 {
-        return false;
-    }
-    let mut i = 0;
-    while i + 1 < r.count {
-        let m = r.members[i];
-        let next = r.members[i + 1];
-        if !precedes(m, next) {
-            return false;
-        }
-        i += 1;
-    }
-    let last = r.members[i];
-    good_member(last)
+    r.is_in_room()
+        && zero_from(&r.name, r.name_len)
+        && zero_from(&r.key, r.key_len)
+        && r.has_good_head()
+        && are_vacant(r.unused())
+        && are_members(r.members())
 }

@@ -1,91 +1,105 @@
-// Member lists: with every place unused, put in order, and a member removed.
-ghost use Rattle.std.specs.Prelude.{◌≡◌, [], min, take};
-ghost use Rattle.laws.specs.Lists.{same, padded};
+// Member lists: those of a record, a member removed, and lists put in order.
+ghost use Rattle.std.specs.Prelude.{◌≡◌, ◌<◌, ◌≤◌, [], length, take, min};
+ghost use Rattle.laws.specs.Lists.{padded};
 ghost use Rattle.octets.specs.Order.{compare, is_less};
 ghost use Rattle.ascending.specs.Ascending.{put};
 ghost use Rattle.channel.specs.Limits.{member_limit};
-ghost use Rattle.channel.specs.Record.{nobody as nobody_of, decode};
+ghost use Rattle.channel.specs.Record.{nobody, decode};
 ghost use Rattle.channel.specs.Channel.{by_id};
 ghost use Rattle.channel.specs.Private.Rosters.{Sorted};
-ghost use Rattle.channel.specs.Members.{roster, ordered as ordered_of, has_member, others as others_of, without as without_of};
+ghost use Rattle.channel.specs.Members.{roster, pushed, ordered as ordered_of, has_member, others as others_of, without as without_of};
 
 use crate::{Member, Record, Roster};
 use names::USER_ID;
 use names::ids::{is_before, is_same};
 
-// An unused place.
-pub(crate) fn nobody() -> Member
-    ensures { result ≡ nobody_of }
-{
-    Member {
-        id: [0u8; USER_ID],
-        status: 0,
+impl Member {
+    // Whether its id is smaller than the other's.
+    pub(crate) fn is_below(self, other: Member) -> bool
+        ensures { result ≡ is_less (compare self.id other.id) }
+    {
+        is_before(self.id, other.id)
+    }
+}
+
+impl Roster {
+    // No members.
+    #[tactic(auto, unfolding(crate::specs::Members::roster, laws::specs::Lists::padded))]
+    pub fn empty() -> Roster
+        ensures { result ≡ roster [] }
+    {
+        Roster {
+            list: [Member::NOBODY; Record::MEMBERS],
+            count: 0,
+        }
+    }
+
+    // The members.
+    pub fn members(&self) -> &[Member]
+        ensures list { result.now ≡ take self.now.count self.now.list }
+        ensures few { length result.now ≤ member_limit }
+    {
+        &self.list[..self.count.min(Record::MEMBERS)]
+    }
+
+    // One member more, behind the others.
+    pub fn push(&mut self, m: Member)
+        requires { self.old.count < member_limit }
+        ensures { self.new ≡ pushed self.old m }
+    {
+        self.list[self.count] = m;
+        self.count += 1;
+    }
+
+    // One member more, in its place among the others. Where the id is there already, it has both statuses.
+    fn insert(&mut self, m: Member)
+        requires { Sorted self.old.list self.old.count }
+        ensures { self.new ≡ roster (put by_id m (take self.old.count self.old.list)) }
+    {
+        let place = self.members().partition_point(|other| other.is_below(m));
+        if place < self.count && is_same(self.list[place].id, m.id) {
+            self.list[place].status |= m.status;
+        } else {
+            self.list.copy_within(place..self.count, place + 1);
+            self.list[place] = m;
+            self.count += 1;
+        }
     }
 }
 
 // A list with every place unused.
+#[tactic(auto, unfolding(laws::specs::Lists::padded))]
 pub fn vacant() -> [Member; Record::MEMBERS]
-    ensures { result ≡ padded member_limit nobody_of [] }
+    ensures { result ≡ padded member_limit nobody [] }
 {
-    let none = nobody();
-    [none; Record::MEMBERS]
+    [Member::NOBODY; Record::MEMBERS]
 }
 
 // A number of members, or all that there is room for where it is more.
 pub fn within(n: usize) -> usize
     ensures { result ≡ min n member_limit }
 {
-    if n < Record::MEMBERS {
-        return n;
-    }
-    Record::MEMBERS
-}
-
-// Whether the member has the id.
-fn has_id(m: Member, id: [u8; USER_ID]) -> bool
-    ensures { result ≡ same id m.id }
-{
-    let other = m.id;
-    is_same(id, other)
-}
-
-// Whether the first one's id is smaller.
-pub(crate) fn is_below(m: Member, next: Member) -> bool
-    ensures { result ≡ is_less (compare m.id next.id) }
-{
-    let id = m.id;
-    let other = next.id;
-    is_before(id, other)
+    n.min(Record::MEMBERS)
 }
 
 // Whether the record has a member with the id.
 pub fn has_member(r: Record, id: [u8; USER_ID]) -> bool
     ensures { result ≡ has_member id (decode r).members }
 {
-    for i in 0..within(r.count) {
-        let m = r.members[i];
-        if has_id(m, id) {
-            return true;
-        }
-    }
-    false
+    r.members().iter().any(|m| is_same(id, m.id))
 }
 
 // The record's members but for those with the id.
 fn others(r: Record, id: [u8; USER_ID]) -> Roster
     ensures { result ≡ roster (others_of id (decode r).members) }
 {
-    let mut list = vacant();
-    let mut count = 0;
-    for i in 0..within(r.count) {
-        let m = r.members[i];
-        if has_id(m, id) {
-            continue;
+    let mut left = Roster::empty();
+    for m in r.members() {
+        if !is_same(id, m.id) {
+            left.push(*m);
         }
-        list[count] = m;
-        count += 1;
     }
-    Roster { list, count }
+    left
 }
 
 // The record without the member that has the id: the rest moves up, and the freed place is zero. Where nobody is left, the empty record.
@@ -96,70 +110,39 @@ pub fn without(r: Record, id: [u8; USER_ID]) -> Record
     if left.count == 0 {
         return Record::empty();
     }
-    let list = left.list;
-    let mut next = r;
-    next.members = list;
-    next.count = left.count;
-    next
-}
-
-// The list with one member more in its place, which is looked for from the end: those with a greater id move up by one. Where the id is there
-// already, it has both statuses.
-fn with_member(list: [Member; Record::MEMBERS], count: usize, e: Member) -> Roster
-    requires { Sorted list count }
-    ensures { result ≡ roster (put by_id e (take count list)) }
-{
-    let mut next = list;
-    let id = e.id;
-    let mut p = count;
-    while 0 < p {
-        let m = next[p - 1];
-        let other = m.id;
-        if !is_before(id, other) {
-            break;
-        }
-        next[p] = m;
-        p -= 1;
-    }
-    if 0 < p {
-        let m = next[p - 1];
-        let other = m.id;
-        if is_same(id, other) {
-            let mut same = list;
-            same[p - 1] = Member {
-                id: other,
-                status: e.status | m.status,
-            };
-            return Roster { list: same, count };
-        }
-    }
-    next[p] = e;
-    Roster {
-        list: next,
-        count: count + 1,
+    let members = left.list;
+    let count = left.count;
+    Record {
+        members,
+        count,
+        ..r
     }
 }
 
-// Every id of the first n once, ascending, an id given twice having both statuses. One that comes behind all before it costs one comparison.
+// Every id of the entries once, ascending, an id given twice having both statuses. One that comes behind all before it costs one comparison.
 pub fn ordered(entries: [Member; Record::MEMBERS], n: usize) -> Roster
     ensures { result ≡ roster (ordered_of (take n entries)) }
 {
-    let mut list = vacant();
-    let mut count = 0;
+    in_order(&Roster {
+        list: entries,
+        count: n,
+    })
+}
+
+// The same of a roster.
+fn in_order(entries: &Roster) -> Roster
+    ensures { result ≡ roster (ordered_of (take entries.now.count entries.now.list)) }
+{
+    let mut all = Roster::empty();
     // No id is smaller than this one's.
-    let mut last = nobody();
-    for i in 0..within(n) {
-        let e = entries[i];
-        if is_below(last, e) {
-            list[count] = e;
-            count += 1;
-            last = e;
-            continue;
+    let mut last = Member::NOBODY;
+    for m in entries.members() {
+        if last.is_below(*m) {
+            all.push(*m);
+            last = *m;
+        } else {
+            all.insert(*m);
         }
-        let r = with_member(list, count, e);
-        list = r.list;
-        count = r.count;
-        last = list[count - 1];
     }
-    Roster { list, count }
+    all
 }

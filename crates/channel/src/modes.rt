@@ -12,6 +12,7 @@ pub const KEY_MODE: u32 = 6;
 pub const LIMIT_MODE: u32 = 7;
 
 // The letter's place, or MODES where it is none of the eight.
+#[tactic(auto, unfolding(crate::specs::Modes::place_among))]
 pub fn mode_place(letter: u8) -> u32
     ensures { result ≡ mode_place letter }
 {
@@ -29,21 +30,21 @@ pub fn mode_place(letter: u8) -> u32
 }
 
 // Whether the byte has the mode at a place.
+// Kept (2): `links::has_link` is the same of 32 bits, as `with_link` is of `with_mode`: each is one expression, and a trait of bits would be longer.
 pub fn has_mode(modes: u8, place: u32) -> bool
     ensures { result ≡ has_mode modes place }
 {
-    if MODES <= place {
-        return false;
-    }
-    (modes >> place) & 1 == 1
+    place < MODES && (modes >> place) & 1 == 1
 }
 
 // The byte with the mode at a place, if it is one of the eight.
+#[tactic(auto, using(laws::proofs::Bitwise::shifted_one), unfolding(crate::specs::Modes::with_mode))]
 pub fn with_mode(modes: u8, place: u32) -> u8
     ensures { result ≡ with_mode modes place }
 {
-    if MODES <= place {
-        return modes;
+    if place < MODES {
+        modes | 1 << place
+    } else {
+        modes
     }
-    modes | (1u8 << place)
 }

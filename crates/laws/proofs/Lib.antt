@@ -8,3 +8,4 @@ pub mod Bitwise
 pub mod Mapped
 pub mod Replaced
 pub mod Texts
+pub mod Chains

@@ -58,6 +58,14 @@ module _ {A : Type 0} where
       go true h = let q : i ≡ n = omega (arith, leb-true n (length l) h) in rw q
       go false h = rw (take_all n l (omega (arith, leb-false n (length l) h))) (take_all i l (omega (arith, leb-false n (length l) h)))
 
+  -- nor is less left behind them than nothing
+  pub drop_within : (l : List A) (n i : ℕ) → i ≡ min n (length l) → drop i l ≡ drop n l
+  drop_within l n i e = go (leb n (length l)) refl
+    where
+      go : (t : Bool) → leb n (length l) ≡ t → drop i l ≡ drop n l
+      go true h = let q : i ≡ n = omega (arith, leb-true n (length l) h) in rw q
+      go false h = rw (drop_of_length-le l {i = n} (omega (arith, leb-false n (length l) h))) (drop_of_length-le l {i = i} (omega (arith, leb-false n (length l) h)))
+
 -- ---- an empty list
 pub nil-length : {A : Type 0} (l : List A) → is_nil l ≡ eqb (length l) 0
 nil-length [] = refl

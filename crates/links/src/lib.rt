@@ -34,25 +34,21 @@ impl Links {
 }
 
 // Whether the link is in the set.
+// Kept (2): beside `channel::modes::has_mode`, and so are `with_link` and `with_mode`: at two widths each is one expression, and a trait of bits would be longer.
 pub fn has_link(set: u32, link: u32) -> bool
     ensures { result ≡ has_bit set link }
 {
-    if Links::COUNT <= link {
-        return false;
-    }
-    (set >> link) & 1 == 1
+    link < Links::COUNT && (set >> link) & 1 == 1
 }
 
 // The links with one more registered.
-pub fn with_link(links: Links, link: u32) -> Links
+pub fn with_link(mut links: Links, link: u32) -> Links
     ensures { result ≡ with_link links link }
 {
-    if Links::COUNT <= link {
-        return links;
+    if link < Links::COUNT {
+        links.set |= 1 << link;
     }
-    Links {
-        set: links.set | (1u32 << link),
-    }
+    links
 }
 
 // The set without a link.
@@ -60,9 +56,10 @@ fn less(set: u32, link: u32) -> u32
     ensures { result ≡ less_link set link }
 {
     if has_link(set, link) {
-        return set - (1u32 << link);
+        set - (1 << link)
+    } else {
+        set
     }
-    set
 }
 
 // The links with one dropped.
@@ -85,5 +82,5 @@ pub fn relay_set(links: Links, source: u32) -> u32
 pub fn count(set: u32) -> u32
     ensures { result ≡ length (links_in set) }
 {
-    u32::count_ones(set)
+    set.count_ones()
 }

@@ -12,5 +12,6 @@ pub mod Words
 pub mod Prefixes
 pub mod Sequence
 pub mod Former
+mod Firsts
 mod Gathered
 mod Examples

@@ -1,32 +1,34 @@
 -- Laws of readings: what a line that is read keeps to, what the tests that a line passes and fails make of its reading, and where its
 -- parts lie. Assumes nothing.
 use mathlib.Core.Path.{◌≡◌, refl, sym, ap, ◌∙◌}
-use mathlib.Core.Bool.{Bool, true, false, true≢false, not, ◌&&◌, and-false, and-true}
+use mathlib.Core.Bool.{Bool, true, false, not, ◌&&◌, and-false, and-true}
 use mathlib.Core.List.{List, [], ◌∷◌}
 use mathlib.Core.Option
 use Prim.Native.Nat.{ℕ, ◌+◌, ◌-◌, ◌≤◌, ◌<◌}
 use native.Mathlib.Omega.{arith}
-use lib.ListN.{length, drop, get_or, length-take, length-map, get_or-replicate, drop_of_length-le, get_or-eq_default}
+use lib.ListN.{length, drop, get_or, length-take, length-drop, length-map, get_or-replicate, drop_of_length-le, get_or-eq_default}
 use lib.Dec.{eqb, ltb}
-use borrow.Author.Tests.{eq-eqb, ne_eqb, lt-ltb, le-ltb, ltb-true, ltb-false, eqb-true, eqb-false, not-false}
+use lib.Pointwise.{pointwise}
+use borrow.Author.Tests.{eq-eqb, ne_eqb, lt-ltb, le-ltb, ltb-false, eqb-true, eqb-false, not-false}
+use Rattle.std.proofs.Common.{Result, Ok, Err}
+use Rattle.refusal.specs.declared.Refusal.{Refusal}
+use Rattle.refusal.specs.Refusals as refusals
+use Rattle.refusal.specs.Refusals.{answered}
 use Rattle.refusal.specs.Numbers.{accepted, line_too_long, no_line_end, forbidden_byte, empty_line, empty_prefix, bad_command}
 use Rattle.refusal.specs.Rules.{◌when◌, first_of, ascend, ascend_from, place_in}
+use Rattle.refusal.proofs.Refusals.{not-accepted}
 use Rattle.refusal.proofs.Rules.{skip, stop, first-nil, first-none, first-lacks, numbered}
 use Rattle.octets.specs.Bytes.{cr, lf, is_plain}
 use Rattle.octets.proofs.Bytes.{same_true}
 use Rattle.laws.specs.Lists.{all, is_nil, same_by}
-use Rattle.octets.specs.Room.{part}
-use Rattle.octets.proofs.Room.{part-front}
 use Rattle.laws.proofs.Lists.{nil-length, drop-step}
 use Rattle.message.specs.declared.Span.{Span}
 use Rattle.message.specs.declared.Message.{Message}
-use Rattle.message.specs.declared.Parsed.{Parsed}
-use Rattle.message.specs.declared.Reading.TheVariants.{Line, Refused}
 use Rattle.message.specs.Grammar.{Part, line_limit, param_limit, has_prefix, prefix, prefix_end, command, is_command, params}
 use Rattle.message.specs.Content.{Content, bytes_of, content_in}
 use Rattle.message.specs.Parts.{empty_at, message_in, blank}
-use Rattle.message.specs.Reading.{crlf, ends_line, body_of, body_rules, grammar_rules, line_rules, number_for, is_read, number_of, count_of, answer, reading_of, content_of, message_of, parsed_of}
-use Rattle.message.specs.Private.Scan.{unread, body_parsed}
+use Rattle.message.specs.Reading.{Parsed, Line, Refused, crlf, ends_line, body_of, body_rules, grammar_rules, line_rules, number_for, is_read, number_of, count_of, answer, reading_of, content_of, message_of, parsed_of, parsed_as}
+use Rattle.message.specs.Private.Scan.{body_parsed}
 use Rattle.message.proofs.Fifteenth.{params-few}
 use Rattle.message.proofs.Places.{Placed, empty-placed, command-placed, prefix-in-line, command-in-line, param-in-line}
 
@@ -41,7 +43,18 @@ unfolding line_rules body_rules
 rules-numbered line = refl
 
 -- ---- the end of a line
+pub same-pointwise : (s t : List ℕ) → pointwise eqb s t ≡ same_by eqb s t
+unfolding same_by
+same-pointwise [] [] = refl
+same-pointwise [] (y ∷ t) = refl
+same-pointwise (x ∷ s) [] = refl
+same-pointwise (x ∷ s) (y ∷ t) = ap (λ (b : Bool). eqb x y && b) (same-pointwise s t)
+
 module _ (line : List ℕ) where
+  pub ends-as : pointwise eqb (drop (length line - 2) line) crlf ≡ ends_line line
+  unfolding ends_line
+  ends-as = same-pointwise (drop (length line - 2) line) crlf
+
   pub ends-short : length line < 2 → false ≡ ends_line line
   unfolding ends_line same_by
   ends-short h = go line h
@@ -63,15 +76,8 @@ module _ (line : List ℕ) where
   ends_by h = rw (last-two h, and-true (eqb (get_or line (length line - 1) 0) lf))
 
   pub ends-long : ends_line line ≡ true → 2 ≤ length line
-  ends-long e = go (ltb (length line) 2) refl
-    where
-      go : (t : Bool) → ltb (length line) 2 ≡ t → 2 ≤ length line
-      go true h = absurd (true≢false (sym e ∙ sym (ends-short (ltb-true (length line) 2 h))))
-      go false h = ltb-false (length line) 2 h
-
-  pub body_is : part line 0 (length line - 2) ≡ body_of line
-  unfolding body_of
-  body_is = part-front line (length line - 2)
+  unfolding ends_line
+  ends-long e = let n : length (drop (length line - 2) line) ≡ 2 = ap (λ (l : List ℕ). length l) (same_true (drop (length line - 2) line) crlf e) in omega (arith, length-drop (length line - 2) line)
 
   pub body-length : length (body_of line) ≡ length line - 2
   unfolding body_of
@@ -139,6 +145,10 @@ unfolding is_read
 refused-number line h = eqb-false (number_for line) accepted h
 
 -- ---- the answer
+answered-reading : (n : ℕ) (r : Result Message Refusal) → number_of (parsed_as n r).reading ≡ answered r
+answered-reading n (Ok m) = refl
+answered-reading n (Err e) = refl
+
 module _ (line : List ℕ) where
   pub reading-line : (n : ℕ) → reading_of line ≡ Line n → is_read line ≡ true
   unfolding reading_of answer is_read
@@ -179,18 +189,34 @@ module _ (line : List ℕ) where
       go false h = rw h
 
   -- the answer settles its number and its count
-  pub answers : (r : Parsed) → r ≡ parsed_of line → (r ≡ parsed_of line) × ((number_of r.reading ≡ number_for line) × (count_of r.reading ≡ length (content_of line).params))
-  answers r e = let q : r.reading ≡ reading_of line = ap (λ (x : Parsed). x.reading) e in (e, (ap number_of q ∙ reading-number, ap count_of q ∙ reading-count))
+  module _ (r : Result Message Refusal) (is : parsed_as (length line) r ≡ parsed_of line) where
+    reading-is : (parsed_as (length line) r).reading ≡ reading_of line
+    reading-is = ap (λ (x : Parsed). x.reading) is
+
+    pub answer-number : answered r ≡ number_for line
+    answer-number = sym (answered-reading (length line) r) ∙ ap number_of reading-is ∙ reading-number
+
+    pub answer-count : count_of (parsed_as (length line) r).reading ≡ length (content_of line).params
+    answer-count = ap count_of reading-is ∙ reading-count
+
+  -- an answer with parts is that of a line that is read, and has its parts
+  pub parsed-read : (m : Message) → parsed_as (length line) (Ok m) ≡ parsed_of line → (is_read line ≡ true) × (m ≡ message_of line)
+  parsed-read m e = (reading-line m.count (sym (ap (λ (x : Parsed). x.reading) e)), ap (λ (x : Parsed). x.message) e)
+
+  -- a refusal is that of a line that isn't read, and has its number
+  pub parsed-refused : (e : Refusal) → parsed_as (length line) (Err e) ≡ parsed_of line → (is_read line ≡ false) × (refusals.number_of e ≡ number_for line)
+  parsed-refused e q = (reading-refused (refusals.number_of e) (sym (ap (λ (x : Parsed). x.reading) q)), answer-number (Err e) q)
 
 -- ---- what the line comes to at its number
-module _ (line : List ℕ) (r : Parsed) where
-  pub parses-refused : (k : ℕ) → number_for line ≡ k → (k ≡ accepted → ⊥) → r ≡ unread k (length line) → r ≡ parsed_of line
+module _ (line : List ℕ) where
+  pub parses-refused : (e : Refusal) → number_for line ≡ refusals.number_of e → parsed_as (length line) (Err e) ≡ parsed_of line
   unfolding reading_of answer message_of is_read
-  parses-refused k e ne q = simp (e, ne_eqb k accepted ne, q)
+  parses-refused e is = simp (is, not-accepted e)
 
-  pub parses-body : (b : List ℕ) → b ≡ body_of line → number_for line ≡ first_of (body_rules (body_of line)) → r ≡ body_parsed b (length line) → r ≡ parsed_of line
+  pub parses-body : (r : Result Message Refusal) (b : List ℕ) → b ≡ body_of line → number_for line ≡ first_of (body_rules (body_of line)) → parsed_as (length line) r ≡ body_parsed b (length line)
+      → parsed_as (length line) r ≡ parsed_of line
   unfolding reading_of message_of is_read body_parsed
-  parses-body b is e q = rw e (rw is at q)
+  parses-body r b is e q = rw e (rw is at q)
 
 -- ---- what each test makes of the number
 module _ (line : List ℕ) where
@@ -275,14 +301,14 @@ module _ (b : List ℕ) (n : ℕ) (m : Message) (is : m ≡ message_in b n) wher
       unfolding body_rules
       body-accepted = skip _ _ (sym tested ∙ full) ∙ skip _ _ (rw named) ∙ first-nil
 
-      pub body_reads : record { reading = Line m.count; message = m } ≡ body_parsed b n
+      pub body_reads : parsed_as n (Ok m) ≡ body_parsed b n
       unfolding body_parsed answer
       body_reads = rw (body-accepted, ← counted, ← is)
 
 -- what a body comes to that gets a number
-pub body_refused : (b : List ℕ) (n : ℕ) (r : Parsed) (k : ℕ) → first_of (body_rules b) ≡ k → (k ≡ accepted → ⊥) → r ≡ unread k n → r ≡ body_parsed b n
+pub body_refused : (b : List ℕ) (n : ℕ) (e : Refusal) → first_of (body_rules b) ≡ refusals.number_of e → parsed_as n (Err e) ≡ body_parsed b n
 unfolding body_parsed answer
-body_refused b n r k e ne q = rw (e, ne_eqb k accepted ne) q
+body_refused b n e is = simp (is, not-accepted e)
 
 -- ---- where the parts of any line lie
 pub prefix-nil : (b : List ℕ) → has_prefix b ≡ false → prefix b ≡ []

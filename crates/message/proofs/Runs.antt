@@ -63,10 +63,10 @@ unfolding spaces
 spaces-go s i h e = rw (drop-step s i 0 h, eq-eqb _ space e)
 
 -- ---- where a run stops
-spaces-in : (s : List ℕ) → spaces s ≤ length s
+pub spaces_in : (s : List ℕ) → spaces s ≤ length s
 unfolding spaces
-spaces-in [] = omega arith
-spaces-in (b ∷ s) = go (eqb b space) refl (spaces-in s)
+spaces_in [] = omega arith
+spaces_in (b ∷ s) = go (eqb b space) refl (spaces_in s)
   where
     go : (t : Bool) → eqb b space ≡ t → spaces s ≤ length s → spaces (b ∷ s) ≤ suc (length s)
     go true e ih = rw e (omega arith)
@@ -116,7 +116,7 @@ middle-skip (b ∷ s) k at = go (eqb b space) refl (middle-skip s k (at + 1))
 -- ---- the same at a place of the body
 module _ (b : List ℕ) (at start : ℕ) (within : at ≤ length b) (is : start ≡ at + spaces (drop at b)) where
   pub start-in : start ≤ length b
-  start-in = omega (arith, spaces-in (drop at b), length-drop at b)
+  start-in = omega (arith, spaces_in (drop at b), length-drop at b)
 
   pub rest_from : (k : ℕ) → rest k at (drop at b) ≡ rest k start (drop start b)
   rest_from k = rest-skip (drop at b) k at ∙ rw (is, drop-drop (spaces (drop at b)) at b)

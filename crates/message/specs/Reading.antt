@@ -1,16 +1,25 @@
 -- What a line reads as: the numbers 4 to 9 of document 01, and the answer.
-use Rattle.std.specs.Prelude.{ℕ, ◌-◌, Bool, not, cond, ◌&&◌, List, [], ◌∷◌, length, take, drop, eqb, ltb}
+use Rattle.std.specs.Prelude.{ℕ, ◌-◌, Bool, not, cond, ◌&&◌, List, [], ◌∷◌, Result, Ok, Err, length, take, drop, eqb, ltb}
+use Rattle.refusal.specs.declared.Refusal.{Refusal}
+use Rattle.refusal.specs.Refusals as refusals
 use Rattle.refusal.specs.Numbers.{accepted, line_too_long, no_line_end, forbidden_byte, empty_line, empty_prefix, bad_command}
 use Rattle.refusal.specs.Rules.{Rule, ◌when◌, first_of}
 use Rattle.octets.specs.Bytes.{cr, lf, is_plain}
 use Rattle.laws.specs.Lists.{all, is_nil, same}
 use Rattle.message.specs.declared.Message.{Message}
-use Rattle.message.specs.declared.Parsed.{Parsed}
-use Rattle.message.specs.declared.Reading.{Reading}
-use Rattle.message.specs.declared.Reading.TheVariants.{Line, Refused}
 use Rattle.message.specs.Grammar.{line_limit, has_prefix, prefix, command, is_command, params}
 use Rattle.message.specs.Content.{Content, content_in, no_content}
 use Rattle.message.specs.Parts.{message_in, blank}
+
+-- The reader's answer: the count of parameters of a line that is read, or the number of its refusal.
+pub data Reading : Type 0 where
+  Line : ℕ → Reading
+  Refused : ℕ → Reading
+
+-- What a line comes to that is read once: the reader's answer, and the parts.
+pub record Parsed : Type 0 where
+  pub reading : Reading
+  pub message : Message
 
 abbrev pub crlf : List ℕ
 crlf = cr ∷ lf ∷ []
@@ -75,3 +84,13 @@ message_of line = cond (is_read line) (message_in (body_of line) (length line)) 
 -- the answer, and the parts
 abbrev pub parsed_of : List ℕ → Parsed
 parsed_of line = record { reading = reading_of line; message = message_of line }
+
+-- ---- the same of what the code answers
+abbrev pub reading_as : Result ℕ Refusal → Reading
+reading_as (Ok n) = Line n
+reading_as (Err e) = Refused (refusals.number_of e)
+
+-- of a line of n bytes: one that isn't read has no part
+abbrev pub parsed_as : ℕ → Result Message Refusal → Parsed
+parsed_as n (Ok m) = record { reading = Line m.count; message = m }
+parsed_as n (Err e) = record { reading = Refused (refusals.number_of e); message = blank n }

@@ -9,16 +9,15 @@ ghost use Rattle.std.specs.Prelude.{◌≡◌, ◌&&◌, [], eqb, length, get_or
 ghost use Rattle.std.proofs.Math.Option;
 ghost use Rattle.octets.specs.Room.{place_in};
 ghost use Rattle.message.specs.Grammar.{is_command};
-ghost use Rattle.message.specs.Parts.{empty_at};
-ghost use Rattle.message.specs.Reading.{ends_line, number_of, count_of, number_for, reading_of, content_of, message_of, parsed_of};
+ghost use Rattle.message.specs.Parts.{empty_at, blank};
+ghost use Rattle.message.specs.Reading.{count_of, number_for, reading_of, content_of, message_of, parsed_of, reading_as, parsed_as};
 ghost use Rattle.message.specs.Words.{next_word};
-ghost use Rattle.message.specs.Private.Scan.{unread as unread_of, body_parsed};
+ghost use Rattle.message.specs.Private.Scan.{body_parsed};
+ghost use Rattle.refusal.specs.Refusals.{answered};
 
 use octets::{Class, all_in, part};
-use refusal::{
-    ACCEPTED, BAD_COMMAND, EMPTY_LINE, EMPTY_PREFIX, FORBIDDEN_BYTE, LINE_TOO_LONG, NO_LINE_END,
-};
-use scan::{blank, message_in, spaces_end, word_end};
+use refusal::Refusal;
+use scan::{message_in, spaces_end, word_end};
 use spans::{command_in, param_in, prefix_in};
 
 // The most bytes of a line, CR LF counted.
@@ -50,142 +49,88 @@ pub struct Message {
     pub params: [Span; PARAM_LIMIT],
 }
 
-// The reader's answer: the count of parameters of a line that is read, or the number of its refusal.
-#[derive(Clone, Copy)]
-pub enum Reading {
-    Line(usize),
-    Refused(u8),
-}
-
-impl Reading {
-    // The number of the refusal, or ACCEPTED.
-    pub fn number(self) -> u8
-        ensures { result ≡ number_of self }
+impl Message {
+    // No part at all, of a line of `end` bytes.
+    fn blank(end: usize) -> Message
+        ensures { result ≡ blank end }
     {
-        match self {
-            Reading::Line(_) => ACCEPTED,
-            Reading::Refused(k) => k,
+        let none = Span { start: end, end };
+        Message {
+            has_prefix: false,
+            prefix: none,
+            command: none,
+            count: 0,
+            params: [none; PARAM_LIMIT],
         }
     }
-}
 
-// What a line comes to that is read once: the reader's answer, and the parts.
-#[derive(Clone, Copy)]
-pub struct Parsed {
-    pub reading: Reading,
-    pub message: Message,
-}
-
-// Whether the last two bytes are CR LF.
-fn ends_line(line: &[u8]) -> bool
-    ensures { result ≡ ends_line line.now }
-{
-    let n = line.len();
-    if n < 2 {
-        return false;
+    // Whether a prefix is there and empty.
+    fn has_empty_prefix(&self) -> bool
+        ensures { result ≡ (self.now.has_prefix && eqb self.now.prefix.start self.now.prefix.end) }
+    {
+        self.has_prefix && self.prefix.start == self.prefix.end
     }
-    if line[n - 2] != b'\r' {
-        return false;
-    }
-    line[n - 1] == b'\n'
 }
 
 // One or more letters, or exactly three digits.
+#[tactic(auto, unfolding(crate::specs::Grammar::is_command))]
 pub fn is_command(word: &[u8]) -> bool
     ensures { result ≡ is_command word.now }
 {
-    let n = word.len();
-    if n == 0 {
-        return false;
-    }
-    if all_in(word, Class::Letter) {
-        return true;
-    }
-    if n == 3 {
-        return all_in(word, Class::Digit);
-    }
-    false
+    (!word.is_empty() && all_in(word, Class::Letter))
+        || (word.len() == 3 && all_in(word, Class::Digit))
 }
 
-// Whether a prefix is there and empty.
-fn empty_prefix(m: Message) -> bool
-    ensures { result ≡ (m.has_prefix && eqb m.prefix.start m.prefix.end) }
-{
-    if m.has_prefix {
-        let p = m.prefix;
-        return p.start == p.end;
-    }
-    false
-}
-
-// What a line of n bytes comes to that is refused: no part at all.
-fn unread(k: u8, n: usize) -> Parsed
-    ensures { result ≡ unread_of k n }
-{
-    Parsed {
-        reading: Reading::Refused(k),
-        message: blank(n),
-    }
-}
-
-// What a line of n bytes comes to by the bytes before CR LF.
-fn parse_body(body: &[u8], n: usize) -> Parsed
-    ensures { result ≡ body_parsed body.now n }
+// What a line of n bytes comes to by the bytes before CR LF, which are some.
+fn parse_body(body: &[u8], n: usize) -> Result<Message, Refusal>
+    ensures { parsed_as n result ≡ body_parsed body.now n }
 {
     let message = message_in(body, n);
-    if empty_prefix(message) {
-        return unread(EMPTY_PREFIX, n);
+    if message.has_empty_prefix() {
+        return Err(Refusal::EmptyPrefix);
     }
-    let c = message.command;
-    if !is_command(part(body, c.start, c.end)) {
-        return unread(BAD_COMMAND, n);
+    if !is_command(command_in(body, message)) {
+        return Err(Refusal::BadCommand);
     }
-    Parsed {
-        reading: Reading::Line(message.count),
-        message,
-    }
+    Ok(message)
 }
 
-// What the line reads as, and its parts, from one scan. A part that is missing, and every part of a line that isn't read, is the empty one at
-// the line's end.
-pub fn parse(line: &[u8]) -> Parsed
-    ensures parsed { result ≡ parsed_of line.now }
-    ensures number { number_of result.reading ≡ number_for line.now }
-    ensures count { count_of result.reading ≡ length (content_of line.now).params }
+// The parts of the line, from one scan; or why it isn't read. A part that is missing is the empty one at the line's end.
+pub fn parse(line: &[u8]) -> Result<Message, Refusal>
+    ensures parsed { parsed_as (length line.now) result ≡ parsed_of line.now }
+    ensures number { answered result ≡ number_for line.now }
+    ensures count { count_of (parsed_as (length line.now) result).reading ≡ length (content_of line.now).params }
 {
-    let n = line.len();
-    if LINE_LIMIT < n {
-        return unread(LINE_TOO_LONG, n);
+    if LINE_LIMIT < line.len() {
+        return Err(Refusal::LineTooLong);
     }
-    if !ends_line(line) {
-        return unread(NO_LINE_END, n);
-    }
-    let body = part(line, 0, n - 2);
+    let Some(body) = line.strip_suffix(b"\r\n") else {
+        return Err(Refusal::NoLineEnd);
+    };
     if !all_in(body, Class::Plain) {
-        return unread(FORBIDDEN_BYTE, n);
+        return Err(Refusal::ForbiddenByte);
     }
-    if n == 2 {
-        return unread(EMPTY_LINE, n);
+    if body.is_empty() {
+        return Err(Refusal::EmptyLine);
     }
-    parse_body(body, n)
+    parse_body(body, line.len())
 }
 
-// What the line reads as.
-pub fn read(line: &[u8]) -> Reading
-    ensures reading { result ≡ reading_of line.now }
-    ensures number { number_of result ≡ number_for line.now }
-    ensures count { count_of result ≡ length (content_of line.now).params }
+// The count of the line's parameters, or why it isn't read.
+pub fn read(line: &[u8]) -> Result<usize, Refusal>
+    ensures reading { reading_as result ≡ reading_of line.now }
+    ensures number { answered result ≡ number_for line.now }
+    ensures count { count_of (reading_as result) ≡ length (content_of line.now).params }
 {
-    let parsed = parse(line);
-    parsed.reading
+    let message = parse(line)?;
+    Ok(message.count)
 }
 
 // The parts of the line. A part that is missing, and every part of a line that isn't read, is the empty one at the line's end.
 pub fn parts(line: &[u8]) -> Message
     ensures { result ≡ message_of line.now }
 {
-    let parsed = parse(line);
-    parsed.message
+    parse(line).unwrap_or_else(|_| Message::blank(line.len()))
 }
 
 // The prefix, or the empty part at the line's end.

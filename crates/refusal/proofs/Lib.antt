@@ -1,2 +1,3 @@
 pub mod Rules
 pub mod Faults
+pub mod Refusals

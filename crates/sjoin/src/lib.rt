@@ -22,7 +22,7 @@ use channel::{Record, Roster};
 use entries::entries_of;
 use letters::{letter_fault, limit_in, modes_byte};
 use message::spans::{param_in, prefix_in};
-use message::{LINE_LIMIT, Message, Reading, parse};
+use message::{LINE_LIMIT, Message, parse};
 use names::{is_channel, is_server_id};
 use octets::decimals::decimal;
 use octets::{Decimal, put};
@@ -227,10 +227,8 @@ pub fn read_message(text: &[u8], m: Message) -> Told
 pub fn read_join(line: &[u8]) -> Told
     ensures { result ≡ told_by line.now }
 {
-    let parsed = parse(line);
-    let reading = parsed.reading;
-    let Reading::Line(_) = reading else {
-        return refused(reading.number(), 0);
-    };
-    read_message(line, parsed.message)
+    match parse(line) {
+        Ok(m) => read_message(line, m),
+        Err(refusal) => refused(refusal.number(), 0),
+    }
 }

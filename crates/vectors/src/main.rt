@@ -10,7 +10,7 @@ mod steps;
 mod text;
 
 use bans::BanList;
-use message::{LINE_LIMIT, Reading};
+use message::LINE_LIMIT;
 use octets::part;
 use printing::{print, print_answer, print_bytes, print_number, print_refusal, print_unknown};
 use refusal::ACCEPTED;
@@ -67,9 +67,9 @@ fn show_forwarded(rt: &HostRuntime, line: &[u8]) -> io::Result<()> {
 
 // What the line reads as, and how it is written again.
 fn show_line(rt: &HostRuntime, line: &[u8]) -> io::Result<()> {
-    let reading = message::read(line);
-    let Reading::Line(count) = reading else {
-        return print_refusal(rt, reading.number());
+    let count = match message::read(line) {
+        Ok(count) => count,
+        Err(refusal) => return print_refusal(rt, refusal.number()),
     };
     print_number(rt, b"read ", count)?;
     let m = message::parts(line);

@@ -16,7 +16,7 @@ ghost use Rattle.writer.specs.Private.Fit.{cased, refused_by};
 
 use fit::fit;
 use form::put_message;
-use message::{LINE_LIMIT, Message, Reading};
+use message::{LINE_LIMIT, Message};
 use octets::put;
 use refusal::{ACCEPTED, NO_ROOM, OUTPUT_TOO_SHORT, UNWRITABLE};
 
@@ -82,10 +82,8 @@ pub fn forward(line: &[u8], out: &mut [u8]) -> Written
     if out.len() < LINE_LIMIT {
         return refused(OUTPUT_TOO_SHORT);
     }
-    let parsed = message::parse(line);
-    let reading = parsed.reading;
-    let Reading::Line(_) = reading else {
-        return refused(reading.number());
-    };
-    forward_message(line, parsed.message, out)
+    match message::parse(line) {
+        Ok(m) => forward_message(line, m, out),
+        Err(refusal) => refused(refusal.number()),
+    }
 }

@@ -1,24 +1,12 @@
 -- What the scan of a body makes of it: a message that parameters are added to, one by one.
-use Rattle.std.specs.Prelude.{ℕ, ◌+◌, Bool, cond, List, [], ◌∷◌, length, drop, set, replicate, eqb}
+use Rattle.std.specs.Prelude.{ℕ, ◌+◌, cond, List, [], ◌∷◌, length, drop, set, eqb}
 use Rattle.refusal.specs.Numbers.{accepted}
 use Rattle.refusal.specs.Rules.{first_of}
 use Rattle.message.specs.declared.Span.{Span}
 use Rattle.message.specs.declared.Message.{Message}
-use Rattle.message.specs.declared.Parsed.{Parsed}
-use Rattle.message.specs.declared.Reading.TheVariants.{Refused}
-use Rattle.message.specs.Grammar.{Part, param_limit, word, rest, params}
-use Rattle.message.specs.Reading.{body_rules, answer}
-use Rattle.message.specs.Parts.{span, span_of, empty_at, message_in, blank}
-
--- a message with no parameter yet, in a line of n bytes
-unfoldable pub opened : Bool → Span → Span → ℕ → Message
-opened has before named n = record {
-  has_prefix = has;
-  prefix = before;
-  command = named;
-  count = 0;
-  params = replicate param_limit (empty_at n);
-}
+use Rattle.message.specs.Grammar.{Part, word, rest, params}
+use Rattle.message.specs.Reading.{Parsed, body_rules, answer}
+use Rattle.message.specs.Parts.{span, span_of, message_in, blank}
 
 -- one parameter more
 unfoldable pub with_param : Message → Span → Message
@@ -34,15 +22,11 @@ unfoldable pub with_params : Message → List Part → Message
 with_params m [] = m
 with_params m (p ∷ ps) = with_params (with_param m (span_of p)) ps
 
--- the parts of a body whose command begins at a place
-unfoldable pub from_command : List ℕ → ℕ → Bool → Span → ℕ → Message
-from_command body at has before n =
+-- a message that has no parameter yet, with the command at a place of the body and the parameters behind it
+unfoldable pub from_command : List ℕ → ℕ → Message → Message
+from_command body at m =
     let stop : ℕ = at + length (word (drop at body)) in
-    with_params (opened has before (span at stop) n) (rest 0 stop (drop stop body))
-
--- what a line of n bytes that gets the number k comes to
-abbrev pub unread : ℕ → ℕ → Parsed
-unread k n = record { reading = Refused k; message = blank n }
+    with_params (record m { command = span at stop }) (rest 0 stop (drop stop body))
 
 -- what a line of n bytes comes to whose body isn't empty, at the number that the body gets
 unfoldable pub body_parsed : List ℕ → ℕ → Parsed

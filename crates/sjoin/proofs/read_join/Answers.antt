@@ -1,21 +1,19 @@
 -- `read_join` meets its contract: the reader refuses, or what the line's spans say is what it says. Assumes nothing.
-use mathlib.Core.Path.{sym, ap, ◌∙◌}
+use mathlib.Core.Path.{ap, ◌∙◌}
 use Rattle.message.specs.declared.Message.{Message}
-use Rattle.message.specs.declared.Parsed.{Parsed}
-use Rattle.message.proofs.Readings.{reading-line, reading-refused}
+use Rattle.message.proofs.Readings.{parsed-read, parsed-refused}
 use Rattle.sjoin.specs.Join.{told_in}
 use Rattle.sjoin.proofs.Answers.{told-unread, told_same}
 use Rattle.sjoin.proofs.read_join.Goals as goal
 
-pub returns-in_default : goal.returns-in_default
-returns-in_default c =
+pub returns-in-Err : goal.returns-in-Err
+returns-in-Err c =
     let s = c.args.line.now in
-    let read = c in
-    c.refused.ensures ∙ told-unread s _ (reading-refused s _ (sym (ap (λ (x : Parsed). x.reading) read.parse-parsed.ensures.parsed) ∙ c.in_default.is)) (c.number.ensures ∙ read.parse-parsed.ensures.number)
+    let is = parsed-refused s c.in-Err.refusal c.in-Err.ensures.parsed in
+    c.refused.ensures ∙ told-unread s _ is.0 (c.number.ensures ∙ is.1)
 
-pub returns : goal.returns
-returns c =
+pub returns-in-Ok : goal.returns-in-Ok
+returns-in-Ok c =
     let s = c.args.line.now in
-    let read = c in
-    let is = reading-line s _ (sym (ap (λ (x : Parsed). x.reading) read.parse-parsed.ensures.parsed) ∙ c.in-Line.is) in
-    c.read_message.ensures ∙ ap (λ (m : Message). told_in s m) (ap (λ (x : Parsed). x.message) read.parse-parsed.ensures.parsed) ∙ told_same s is
+    let is = parsed-read s c.in-Ok.m c.in-Ok.ensures.parsed in
+    c.read_message.ensures ∙ ap (λ (m : Message). told_in s m) is.1 ∙ told_same s is.0

@@ -1,15 +1,13 @@
 -- `forward` meets its contract: the parts that the reader found are written, to which none of the writer's rules applies. Assumes nothing.
-use mathlib.Core.Path.{◌≡◌, sym, ap, ◌∙◌}
-use mathlib.Core.Bool.{true, false}
+use mathlib.Core.Path.{ap, ◌∙◌}
 use mathlib.Core.List.{List}
 use Prim.Native.Nat.{ℕ, ◌≤◌}
 use native.Mathlib.Omega.{arith}
 use lib.ListN.{length}
 use Rattle.refusal.specs.Numbers.{output_too_short}
-use Rattle.message.specs.declared.Parsed.{Parsed}
 use Rattle.message.specs.Grammar.{line_limit}
-use Rattle.message.specs.Reading.{is_read, number_for}
-use Rattle.message.proofs.Readings.{reading-line, reading-refused, number-none, refused-number}
+use Rattle.message.specs.Reading.{number_for}
+use Rattle.message.proofs.Readings.{parsed-read, parsed-refused, number-none, refused-number}
 use Rattle.writer.specs.Writing.{forward_rules, forwarded}
 use Rattle.writer.specs.Private.Fit.{refused_by}
 use Rattle.writer.proofs.Rules.{forward-number, forward-short}
@@ -21,23 +19,22 @@ pub returns-then-out-lt-LINE_LIMIT : goal.returns-then-out-lt-LINE_LIMIT
 returns-then-out-lt-LINE_LIMIT c =
     let a = c.args in let both = answers-refused (forward_rules a.line.now a.out.now) _ _ output_too_short (forward-short a.line.now a.out.now c.if-out-lt-LINE_LIMIT.true) (λ q. omega arith) c.refused.result c.refused.ensures in record { answer = both.0; output = both.1 }
 
-pub returns-in_default : goal.returns-in_default
-returns-in_default c =
-    let a = c.args in
-    let read = c in
-    let unread : is_read a.line.now ≡ false = reading-refused a.line.now _ (sym (ap (λ (x : Parsed). x.reading) read.parse-parsed.ensures.parsed) ∙ c.in_default.is) in let both = answers-refused (forward_rules a.line.now a.out.now) _ _ (number_for a.line.now) (forward-number a.line.now a.out.now read.if-out-lt-LINE_LIMIT.false) (refused-number a.line.now unread)
-    c.refused-in_default.result (c.refused-in_default.ensures ∙ ap refused_by (c.number.ensures ∙ read.parse-parsed.ensures.number)) in record { answer = both.0; output = both.1 }
+pub returns-in-Err : goal.returns-in-Err
+returns-in-Err c =
+    let line : List ℕ = c.args.line.now in
+    let out : List ℕ = c.args.out.now in
+    let is = parsed-refused line c.in-Err.refusal c.in-Err.ensures.parsed in
+    let both = answers-refused (forward_rules line out) _ _ (number_for line) (forward-number line out c.if-out-lt-LINE_LIMIT.false) (refused-number line is.0)
+    c.refused-in-Err.result (c.refused-in-Err.ensures ∙ ap refused_by (c.number.ensures ∙ is.1)) in
+    record { answer = both.0; output = both.1 }
 
-pub returns : goal.returns
-returns c =
-    let line : List ℕ =
-    c.args.line.now in
-    let out : List ℕ =
-    c.args.out.now in
-    let room : line_limit ≤ length (out) =
-    c.if-out-lt-LINE_LIMIT.false in
-    let reads : is_read (line) ≡ true =
-    reading-line (line) _ (sym (ap (λ (x : Parsed). x.reading) c.parse-parsed.ensures.parsed) ∙ c.in-Line.is) in
-    let p = c in
-    let made = read-forwards (line) (out) p.parse-parsed.result.message (ap (λ (x : Parsed). x.message) p.parse-parsed.ensures.parsed) (reads) (room) in let both = answers-same _ (forward_rules (line) (out)) made.0 (forward-number (line) (out) (room) ∙ number-none (line) (reads)) _ (forwarded (line)) (out) made.1 _ _
-    (c.forward_message.ensures.answer, c.forward_message.ensures.output) in record { answer = both.0; output = both.1 }
+pub returns-in-Ok : goal.returns-in-Ok
+returns-in-Ok c =
+    let line : List ℕ = c.args.line.now in
+    let out : List ℕ = c.args.out.now in
+    let room : line_limit ≤ length out = c.if-out-lt-LINE_LIMIT.false in
+    let is = parsed-read line c.in-Ok.m c.in-Ok.ensures.parsed in
+    let made = read-forwards line out c.in-Ok.m is.1 is.0 room in
+    let both = answers-same _ (forward_rules line out) made.0 (forward-number line out room ∙ number-none line is.0) _ (forwarded line) out made.1 _ _
+    (c.forward_message.ensures.answer, c.forward_message.ensures.output) in
+    record { answer = both.0; output = both.1 }

@@ -1,48 +1,37 @@
--- `others` meets its contract. The invariant: the list gathers those of the first i that stay. Assumes nothing.
-use mathlib.Core.Path.{◌≡◌, refl, sym, ap, ◌∙◌}
-use mathlib.Core.List.{List}
+-- `others` meets its contract. The invariant: those of the members so far that stay are left. Assumes nothing.
+use mathlib.Core.Path.{sym, ap, ◌∙◌}
+use mathlib.Core.List.{[]}
 use native.Mathlib.Omega.{arith}
-use lib.ListN.{length}
-use borrow.Author.Rules.{rules}
-use Rattle.laws.proofs.Lists.{unmapped, take_within}
+use lib.ListN.{get_or}
 use Rattle.channel.specs.declared.Member.{Member}
-use Rattle.channel.specs.Limits.{member_limit}
-use Rattle.channel.specs.Members.{roster, others}
-use Rattle.channel.specs.Record.{decode}
-use Rattle.channel.proofs.Gathering.{gathers-more, gathers-roster}
+use Rattle.channel.specs.declared.Roster.{Roster}
+use Rattle.channel.specs.Members.{roster, pushed, others}
+use Rattle.channel.proofs.Gathering.{pushed-roster}
 use Rattle.channel.proofs.Others.{others-gone, others-stay}
 use Rattle.channel.proofs.members.others.Goals as goal
+use Rattle.channel.proofs.members.others.Goals.{then-not-is_same, else-not-is_same}
 
-pub loop-i-init : goal.loop-i-init
-unfolding others
-loop-i-init c =
-    (omega arith, omega arith, record { holds = c.vacant-list.ensures; counts = refl })
+-- what the code reads past the list's end
+abbrev none : Member
+none = record { id = []; status = 0 }
 
-pub loop-i-preserved-then-has_id : goal.loop-i-preserved-then-has_id
-loop-i-preserved-then-has_id c =
-    let long : length c.args.r.members ≡ member_limit =
-    search (rules, unmapped) in
-    let w = c in
-    let l = c.loop-i in
-    let n = long in
-    (omega arith, omega arith, rw (others-gone _ w.args.r.members l.i _ (omega (arith, w.within-i-end.ensures)) (sym c.has_id.ensures ∙ c.if-has_id.true)) l.invariant.2)
+pub loop-m-init : goal.loop-m-init
+unfolding others roster
+loop-m-init c =
+    (omega (arith, ap (λ (r : Roster). r.count) c.empty-left.ensures), c.empty-left.ensures)
 
-pub loop-i-preserved : goal.loop-i-preserved
-loop-i-preserved c =
-    let long : length c.args.r.members ≡ member_limit =
-    search (rules, unmapped) in
-    let w = c in
-    let l = c.loop-i in
-    let n = long in
-    (omega arith, omega arith, rw (others-stay _ w.args.r.members l.i _ (omega (arith, w.within-i-end.ensures)) (sym c.has_id.ensures ∙ c.if-has_id.false)) (gathers-more l.list l.count _ _ l.invariant.2))
+pub push-requires : goal.push-requires
+push-requires c =
+    omega (arith, c.members-m-items.ensures.few)
 
-pub returns : goal.returns
-unfolding decode
-returns c =
-    let long : length c.args.r.members ≡ member_limit =
-    search (rules, unmapped) in
-    let w = c in
-    let a = w.args in
-    let l = c.loop-i in
-    let n = long in
-    gathers-roster l.list l.count _ l.invariant.2 ∙ ap (λ (m : List Member). roster (others a.id m)) (take_within a.r.members a.r.count l.i (omega (arith, w.within-i-end.ensures)))
+pub loop-m-preserved : goal.loop-m-preserved
+loop-m-preserved c =
+    let l = c.loop-m in
+    let items = c.members-m-items.result.now in
+    elim c.if-not-is_same.branch [
+      | then-not-is_same w ↦
+          let new = w.left-is ∙ w.push.ensures in
+          (omega (arith, ap (λ (r : Roster). r.count) new), new ∙ ap (λ (r : Roster). pushed r (get_or items l.m-index none)) l.invariant.1 ∙ pushed-roster _ _ ∙ ap roster (sym (others-stay c.args.id items l.m-index none c.loop-m-test.true (sym w.if-not-is_same.ensures))))
+      | else-not-is_same w ↦
+          (omega (arith, ap (λ (r : Roster). r.count) w.left-is), w.left-is ∙ l.invariant.1 ∙ ap roster (sym (others-gone c.args.id items l.m-index none c.loop-m-test.true (sym w.if-not-is_same.ensures))))
+    ]

@@ -1,6 +1,6 @@
 -- `without` meets its contract: the roster of those that stay tells whether anyone is left. Assumes nothing.
-use native.Mathlib.Omega.{arith}
 use mathlib.Core.Path.{sym, ◌∙◌}
+use native.Mathlib.Omega.{arith}
 use Rattle.channel.proofs.Others.{without_all, without-some}
 use Rattle.channel.proofs.members.without.Goals as goal
 
