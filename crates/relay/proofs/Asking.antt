@@ -3,15 +3,16 @@
 use mathlib.Core.Path.{◌≡◌, refl, sym, ap, ◌∙◌}
 use mathlib.Core.Bool.{Bool, true, false, cond}
 use mathlib.Core.Logic.{◌⊎◌, inl, inr}
-use mathlib.Core.List.{List, []}
+use mathlib.Core.List.{List, [], ◌∷◌}
 use Prim.Native.Nat.{ℕ, ◌≤◌, ◌<◌}
 use lib.ListN.{length, get_or}
 use lib.Dec.{eqb}
 use borrow.Author.Tests.{ne_eqb, eqb-true, eqb-false}
 use Rattle.std.specs.Prelude.{Result, Ok, Err}
-use Rattle.refusal.specs.Numbers.{accepted, is_mode_number}
-use Rattle.refusal.specs.Rules.{first_of}
+use Rattle.refusal.specs.Numbers.{accepted, unknown_command, is_mode_number}
+use Rattle.refusal.specs.Rules.{◌when◌, first_of}
 use Rattle.refusal.specs.Faults.{Fault, fault}
+use Rattle.refusal.proofs.Rules.{stop}
 use Rattle.message.specs.declared.Message.{Message}
 use Rattle.message.specs.Grammar.{line_limit, param_limit}
 use Rattle.message.specs.Content.{Content}
@@ -30,7 +31,7 @@ use Rattle.sjoin.proofs.Answers.{place_none}
 use Rattle.relay.specs.declared.Request.{Request}
 use Rattle.relay.specs.declared.Request.TheVariants.{Sjoin as Sjoins}
 use Rattle.relay.specs.Arrival.{Arrival, said}
-use Rattle.relay.specs.Commands.{Command, Sjoin, command_in}
+use Rattle.relay.specs.Commands.{Command, Sjoin, Unknown, command_in}
 use Rattle.relay.specs.Relay.{taken_rules}
 use Rattle.relay.specs.Private.Work.{nowhere, ruled}
 use Rattle.relay.specs.Private.Commands.{work_of, asked_by, looked_up}
@@ -75,6 +76,11 @@ module _ (k : Command) (line : List ℕ) (m : Message) where
       go false h e =
           let is : number ≡ own = cc in
           rw is (ap (λ (place : ℕ). Err (fault own place)) (sym (place_none own line m p)) ∙ sym (asked-refused (eqb-false own accepted h)))
+
+-- ---- a command that isn't known asks for nothing
+pub asked-unknown : (line : List ℕ) (m : Message) → Err (fault unknown_command 0) ≡ asked_by Unknown line m
+unfolding asked_by
+asked-unknown line m = rw (stop (unknown_command when true) [] refl, place_none unknown_command line m refl)
 
 -- ---- an SJOIN, of which some have
 module _ (line : List ℕ) (m : Message) (short : length line ≤ line_limit) where

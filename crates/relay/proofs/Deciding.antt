@@ -19,7 +19,7 @@ use Rattle.octets.specs.Room.{front}
 use Rattle.message.specs.declared.Message.{Message}
 use Rattle.message.specs.Content.{Content}
 use Rattle.message.specs.Parts.{content_by}
-use Rattle.message.specs.Reading.{number_for, is_read, message_of}
+use Rattle.message.specs.Reading.{Parsed, number_for, is_read, message_of, parsed_of, parsed_as}
 use Rattle.message.proofs.SpanContents.{message-holds}
 use Rattle.channel.specs.Limits.{slot_count}
 use Rattle.table.specs.declared.Head.{Head}
@@ -53,6 +53,10 @@ some-number e z = ?
 pub read-line : (line : List ℕ) → accepted ≡ number_for line → is_read line ≡ true
 unfolding is_read
 read-line line e = eq-eqb (number_for line) accepted (sym e)
+
+-- and its parts are those that the reader finds
+pub message-is : (line : List ℕ) (m : Message) → parsed_as (length line) (Ok m) ≡ parsed_of line → m ≡ message_of line
+message-is line m e = ap (λ (p : Parsed). p.message) e
 
 -- what is asked by its parts is what the line asks
 pub parts-ask : (line : List ℕ) (m : Message) → m ≡ message_of line → asked_by (command_of (content_by line m).command) line m ≡ asked_by (command_in line) line (message_of line)

@@ -1,6 +1,4 @@
-ghost use Rattle.std.specs.Prelude.{◌≡◌, ◌≤◌, length, IfOk};
-ghost use Rattle.refusal.specs.Refusals.{answered};
-ghost use Rattle.message.specs.Reading.{number_for, message_of};
+ghost use Rattle.std.specs.Prelude.{◌≡◌, ◌≤◌, length};
 ghost use Rattle.sjoin.specs.Join.{told_in};
 ghost use Rattle.bmask.specs.Masks.{listing_in, listed};
 ghost use Rattle.bans.specs.Putting.{add_answer};
@@ -11,14 +9,6 @@ use bans::BanList;
 use channel::Record;
 use message::Message;
 use refusal::{Fault, Refusal};
-
-pub(crate) fn parse(line: &[u8]) -> Result<Message, Refusal>
-    ensures number { answered result ≡ number_for line.now }
-    ensures parsed { IfOk result (λ m. m ≡ message_of line.now) }
-{
-    let _ = line;
-    Err(Refusal::NoMark)
-}
 
 pub(crate) fn read_join(text: &[u8], m: Message) -> Result<Record, Fault>
     ensures { told result ≡ told_in text.now m }

@@ -21,7 +21,7 @@ use Rattle.relay.specs.Arrival.{Arrival, arrival, said}
 use Rattle.relay.specs.Relay.{entry_rules, entering_rules}
 use Rattle.relay.specs.Private.Acting.{head_with, done_by, written_by}
 use Rattle.relay.specs.Private.Commands.{settled_in}
-use Rattle.relay.proofs.Deciding.{read-line, parts-ask, entry-refused, reader-refused, request-refused, change-refused, change-inside, change-made}
+use Rattle.relay.proofs.Deciding.{read-line, message-is, parts-ask, entry-refused, reader-refused, request-refused, change-refused, change-inside, change-made}
 use Rattle.relay.proofs.take.Goals as goal
 
 pub returns-in_err-entry : goal.returns-in_err-entry
@@ -48,7 +48,7 @@ returns-in_err-request c =
     let p = err_from_is_err_and c.from_residual-in_err-request.result c.from_residual-in_err-request.ensures.1 in
     let passes = ap (λ (g : Bool). first_of (entry_rules g (length a.out.now) a.t.now.links a.link)) (sym c.is_well_formed-good.ensures) ∙ sym c.in_ok-entry.ensures in
     let read = read-line a.line.now c.in_ok-m.ensures.number in
-    let asks = c.in_err-request.ensures ∙ parts-ask a.line.now c.in_ok-m.m c.in_ok-m.ensures.parsed in
+    let asks = c.in_err-request.ensures ∙ parts-ask a.line.now c.in_ok-m.m (message-is c.args.line.now c.in_ok-m.m c.in_ok-m.ensures.parsed) in
     rw (p.1, p.2) (request-refused (table_with a.t.now a.bans.now) (arrival a.link a.line.now) a.out.now passes read _ asks)
 
 pub returns-in_err-change : goal.returns-in_err-change
@@ -58,8 +58,8 @@ returns-in_err-change c =
     let p = err_from_is_err_and c.from_residual-in_err-change.result c.from_residual-in_err-change.ensures.1 in
     let passes = ap (λ (g : Bool). first_of (entry_rules g (length a.out.now) a.t.now.links a.link)) (sym c.is_well_formed-good.ensures) ∙ sym c.in_ok-entry.ensures in
     let read = read-line a.line.now c.in_ok-m.ensures.number in
-    let asks = c.in_ok-request.ensures ∙ parts-ask a.line.now c.in_ok-m.m c.in_ok-m.ensures.parsed in
-    let says = ap (content_by a.line.now) c.in_ok-m.ensures.parsed ∙ message-holds a.line.now in
+    let asks = c.in_ok-request.ensures ∙ parts-ask a.line.now c.in_ok-m.m (message-is c.args.line.now c.in_ok-m.m c.in_ok-m.ensures.parsed) in
+    let says = ap (content_by a.line.now) (message-is c.args.line.now c.in_ok-m.m c.in_ok-m.ensures.parsed) ∙ message-holds a.line.now in
     let is = c.in_err-change.ensures ∙ ap (settled_in (network_of t) a.line.now c.in_ok-request.request) says in
     rw (p.1, p.2) (change-refused t (arrival a.link a.line.now) a.out.now passes read _ asks _ is)
 
@@ -69,8 +69,8 @@ act-requires c =
     let t : Table = table_with a.t.now a.bans.now in
     let passes = ap (λ (g : Bool). first_of (entry_rules g (length a.out.now) a.t.now.links a.link)) (sym c.is_well_formed-good.ensures) ∙ sym c.in_ok-entry.ensures in
     let read = read-line a.line.now c.in_ok-m.ensures.number in
-    let asks = c.in_ok-request.ensures ∙ parts-ask a.line.now c.in_ok-m.m c.in_ok-m.ensures.parsed in
-    let says = ap (content_by a.line.now) c.in_ok-m.ensures.parsed ∙ message-holds a.line.now in
+    let asks = c.in_ok-request.ensures ∙ parts-ask a.line.now c.in_ok-m.m (message-is c.args.line.now c.in_ok-m.m c.in_ok-m.ensures.parsed) in
+    let says = ap (content_by a.line.now) (message-is c.args.line.now c.in_ok-m.m c.in_ok-m.ensures.parsed) ∙ message-holds a.line.now in
     let is = c.in_ok-change.ensures ∙ ap (settled_in (network_of t) a.line.now c.in_ok-request.request) says in
     change-inside t (arrival a.link a.line.now) a.out.now passes read _ asks _ is
 
@@ -81,10 +81,10 @@ returns c =
     let j = c.in_ok-change.change in
     let passes = ap (λ (g : Bool). first_of (entry_rules g (length a.out.now) a.t.now.links a.link)) (sym c.is_well_formed-good.ensures) ∙ sym c.in_ok-entry.ensures in
     let read = read-line a.line.now c.in_ok-m.ensures.number in
-    let asks = c.in_ok-request.ensures ∙ parts-ask a.line.now c.in_ok-m.m c.in_ok-m.ensures.parsed in
-    let says = ap (content_by a.line.now) c.in_ok-m.ensures.parsed ∙ message-holds a.line.now in
+    let asks = c.in_ok-request.ensures ∙ parts-ask a.line.now c.in_ok-m.m (message-is c.args.line.now c.in_ok-m.m c.in_ok-m.ensures.parsed) in
+    let says = ap (content_by a.line.now) (message-is c.args.line.now c.in_ok-m.m c.in_ok-m.ensures.parsed) ∙ message-holds a.line.now in
     let is = c.in_ok-change.ensures ∙ ap (settled_in (network_of t) a.line.now c.in_ok-request.request) says in
-    let writes = ap (λ (m : Message). written_by j.sending a.line.now m a.out.now) c.in_ok-m.ensures.parsed in
+    let writes = ap (λ (m : Message). written_by j.sending a.line.now m a.out.now) (message-is c.args.line.now c.in_ok-m.m c.in_ok-m.ensures.parsed) in
     change-made t (arrival a.link a.line.now) a.out.now passes read _ asks j is _ _ _ _ _
     c.receivers-set.ensures
     (c.send-len.ensures.answer ∙ ap (λ (l : List ℕ). length l) writes)

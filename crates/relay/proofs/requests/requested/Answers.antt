@@ -1,15 +1,13 @@
 -- `requested` meets its contract: each command asks by its own function. Assumes nothing.
 use mathlib.Core.Path.{◌≡◌, refl, sym, ap, ◌∙◌}
 use mathlib.Core.Bool.{Bool, true, false, false≢true}
-use mathlib.Core.List.{List, [], ◌∷◌}
+use mathlib.Core.List.{List}
 use Prim.Native.Nat.{ℕ}
 use native.Mathlib.Omega.{arith}
 use Rattle.std.specs.Prelude.{Result, Ok, Err}
 use Rattle.std.proofs.lemmas.Result.{err_from_is_err_and}
-use Rattle.refusal.specs.Numbers.{unknown_command}
-use Rattle.refusal.specs.Rules.{◌when◌}
 use Rattle.refusal.specs.Faults.{Fault, fault}
-use Rattle.refusal.proofs.Rules.{first_plain, stop}
+use Rattle.refusal.proofs.Rules.{first_plain}
 use Rattle.message.specs.Content.{Content}
 use Rattle.message.specs.Parts.{content_by}
 use Rattle.bmask.specs.Masks.{bmask_rules}
@@ -20,7 +18,7 @@ use Rattle.relay.specs.Part.{part_rules}
 use Rattle.relay.specs.Quit.{quit_rules}
 use Rattle.relay.specs.Private.Commands.{asked_by}
 use Rattle.relay.proofs.Words.{word-join, word-part, word-quit, word-mask, word-unknown}
-use Rattle.relay.proofs.Asking.{asked-ok, asked-err}
+use Rattle.relay.proofs.Asking.{asked-ok, asked-err, asked-unknown}
 use Rattle.relay.proofs.requests.requested.Goals as goal
 
 pub returns-in_err-part_request : goal.returns-in_err-part_request
@@ -78,4 +76,4 @@ returns-else-eq_ignore_ascii_case-4 c =
     rw (c.into.ensures, ← word, word-unknown c.command_in-word.result.now (other _ _ c.if-eq_ignore_ascii_case.false c.eq_ignore_ascii_case.ensures.test.1)
     (other _ _ c.if-eq_ignore_ascii_case-2.false c.eq_ignore_ascii_case-else-eq_ignore_ascii_case.ensures.test.1)
     (other _ _ c.if-eq_ignore_ascii_case-3.false c.eq_ignore_ascii_case-else-eq_ignore_ascii_case-2.ensures.test.1)
-    (other _ _ c.if-eq_ignore_ascii_case-4.false c.eq_ignore_ascii_case-else-eq_ignore_ascii_case-3.ensures.test.1)) (asked-err Unknown c.args.line.now c.args.m (first_plain (unknown_command when true ∷ []) refl) _ (rw (stop _ _ refl)))
+    (other _ _ c.if-eq_ignore_ascii_case-4.false c.eq_ignore_ascii_case-else-eq_ignore_ascii_case-3.ensures.test.1)) (asked-unknown c.args.line.now c.args.m)

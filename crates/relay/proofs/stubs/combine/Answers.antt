@@ -1,6 +1,4 @@
-use Rattle.std.proofs.Common.{rules, ◌≡◌, ◌≤◌, length, IfOk, ℕ, ◌+◌, ◌-◌, ◌*◌, ◌<◌, ◌/◌, ◌%◌, Bool, true, false, nat_eq, nat_lt, List, [], ◌∷◌, ◌++◌, slice_index_or, slice_set, bit_and, bit_or, Fits, w8, w32, w64, Bor, MutBor}
-use Rattle.refusal.specs.Refusals.{answered}
-use Rattle.message.specs.Reading.{number_for, message_of}
+use Rattle.std.proofs.Common.{rules, ◌≡◌, ◌≤◌, length, ℕ, ◌+◌, ◌-◌, ◌*◌, ◌<◌, ◌/◌, ◌%◌, Bool, true, false, nat_eq, nat_lt, List, [], ◌∷◌, ◌++◌, slice_index_or, slice_set, bit_and, bit_or, Fits, w8, w32, w64, Bor, MutBor}
 use Rattle.sjoin.specs.Join.{told_in}
 use Rattle.bmask.specs.Masks.{listing_in, listed}
 use Rattle.bans.specs.Putting.{add_answer}
@@ -8,6 +6,6 @@ use Rattle.merging.specs.Merging.{combined}
 use Rattle.relay.specs.Private.Stubs.{told, listing_as, combined_as, added}
 use Rattle.relay.proofs.stubs.combine.Goals as goal
 
--- src/stubs.rt:39:1
+-- src/stubs.rt:29:1
 pub returns : goal.returns
 returns c = ?
