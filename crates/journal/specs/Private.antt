@@ -1,3 +1,2 @@
--- What private functions promise. No public contract cites these files: nobody needs to believe them.
-pub mod Refusal
-pub mod Faults
+-- What only private functions promise. No public contract cites this file: nobody needs to believe it.
+pub mod Logged

@@ -9,13 +9,13 @@ ghost use Rattle.refusal.specs.Rules.{emitted};
 ghost use Rattle.octets.specs.Room.{front};
 ghost use Rattle.journal.specs.Journal.{log_rules, record_of, logged_answer};
 ghost use Rattle.journal.specs.Reading.{record_limit, missing_for, read_answer};
-ghost use Rattle.journal.specs.Private.Refusal.{refused_by};
+ghost use Rattle.journal.specs.Private.Logged.{logged_by};
 
-use faults::{byte_at, fault_in, length_in};
+use faults::{byte_at, check_record, length_in};
 use links::Links;
 use message::{LINE_LIMIT, Span};
-use octets::{part, put};
-use refusal::{ACCEPTED, BAD_LINK, LINE_TOO_LONG, NO_ROOM};
+use octets::part;
+use refusal::{ACCEPTED, Refusal, number};
 
 // The bytes of a record before its line: mark, link and length.
 pub const HEAD: usize = 5;
@@ -29,6 +29,7 @@ pub(crate) const FIRST_MARK: u8 = 73;
 pub(crate) const SECOND_MARK: u8 = 82;
 
 // The number of a refusal, or ACCEPTED, and the size of the record.
+// Kept (1): it is what C's relay_log answers.
 #[repr(C)]
 #[derive(Clone, Copy)]
 pub struct Logged {
@@ -36,11 +37,16 @@ pub struct Logged {
     pub size: usize,
 }
 
-// Nothing was written.
-fn refused(number: u8) -> Logged
-    ensures { result ≡ refused_by number }
-{
-    Logged { number, size: 0 }
+// An answer as C gets it.
+impl From<Result<usize, Refusal>> for Logged {
+    ghost from_gives = { λ answer logged. logged ≡ logged_by answer };
+
+    fn from(answer: Result<usize, Refusal>) -> Logged {
+        Logged {
+            number: number(&answer),
+            size: answer.unwrap_or(0),
+        }
+    }
 }
 
 // Writes the record of a line, received by a link, to the front of the log.
@@ -48,33 +54,34 @@ pub fn write_record(link: u32, line: &[u8], log: &mut [u8]) -> Logged
     ensures answer { result ≡ logged_answer link line.now log.old }
     ensures log { log.new ≡ front (emitted (log_rules link line.now log.old) (record_of link line.now)) log.old }
 {
-    let n = line.len();
+    put_record(link, line, log).into()
+}
+
+// The same, with the size of the record as the answer.
+#[tactic(auto, unfolding(crate::specs::Journal::log_rules, crate::specs::Journal::logged_answer, crate::specs::Journal::record_of, crate::specs::Journal::head_of, refusal::specs::Rules::first_of, refusal::specs::Rules::emitted))]
+fn put_record(link: u32, line: &[u8], log: &mut [u8]) -> Result<usize, Refusal>
+    ensures answer { logged_by result ≡ logged_answer link line.now log.old }
+    ensures log { log.new ≡ front (emitted (log_rules link line.now log.old) (record_of link line.now)) log.old }
+{
     if Links::COUNT <= link {
-        return refused(BAD_LINK);
+        return Err(Refusal::BadLink);
     }
-    if LINE_LIMIT < n {
-        return refused(LINE_TOO_LONG);
+    if LINE_LIMIT < line.len() {
+        return Err(Refusal::LineTooLong);
     }
-    if log.len() < n + HEAD {
-        return refused(NO_ROOM);
+    let size = HEAD + line.len();
+    if log.len() < size {
+        return Err(Refusal::NoRoom);
     }
-    let head = [
-        FIRST_MARK,
-        SECOND_MARK,
-        link as u8,
-        (n / 256) as u8,
-        (n % 256) as u8,
-    ];
-    put(log, 0, &head);
-    put(log, HEAD, line);
-    Logged {
-        number: ACCEPTED,
-        size: n + HEAD,
-    }
+    let [high, low] = (line.len() as u16).to_be_bytes();
+    log[..HEAD].copy_from_slice(&[FIRST_MARK, SECOND_MARK, link as u8, high, low]);
+    log[HEAD..size].copy_from_slice(line);
+    Ok(size)
 }
 
 // What stands at a place of a log. A record: the link, and the part of the log that is the line, behind which the next record begins. Else, by the number, the
 // log's end or a fault, with the place of the first byte at fault. What isn't told of is zero.
+// Kept (1): it is what C's relay_read_record answers.
 #[repr(C)]
 #[derive(Clone, Copy)]
 pub struct RecordRead {
@@ -100,17 +107,17 @@ fn missing(number: u8, place: usize) -> RecordRead
 
 // Reads what stands at a place of the log; a place past the end is the end. No more than RECORD_LIMIT bytes from there are looked at, so a log can be read in
 // pieces: but for the end and LOG_CUT, which come where a piece ends, more bytes behind it change no answer.
+#[tactic(auto, using(crate::proofs::Answers::reading))]
 pub fn read_record(log: &[u8], at: usize) -> RecordRead
     ensures answer { result ≡ read_answer log.now at }
     ensures limit { RECORD_LIMIT ≡ record_limit }
 {
     let s = part(log, at, log.len());
-    if s.len() == 0 {
+    if s.is_empty() {
         return missing(ACCEPTED, 0);
     }
-    let fault = fault_in(s);
-    if fault.number != ACCEPTED {
-        return missing(fault.number, at + fault.place);
+    if let Err(fault) = check_record(s) {
+        return missing(fault.refusal.number(), at + fault.place);
     }
     let start = at + HEAD;
     RecordRead {
@@ -119,7 +126,7 @@ pub fn read_record(log: &[u8], at: usize) -> RecordRead
             end: start + length_in(s),
         },
         place: 0,
-        link: byte_at(s, 2) as u32,
+        link: u32::from(byte_at(s, 2)),
         number: ACCEPTED,
         found: true,
     }

@@ -8,7 +8,7 @@ pub mod Readings
 pub mod SpanContents
 pub mod Splits
 pub mod Sizes
-pub mod Words
+pub mod Separated
 pub mod Prefixes
 pub mod Sequence
 pub mod Former

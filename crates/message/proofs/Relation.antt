@@ -19,7 +19,7 @@ use Rattle.message.specs.Syntax.Spaces.{one, more}
 use Rattle.message.specs.Syntax.Rest.{nothing, trailing, middle, remains}
 use Rattle.message.specs.Syntax.Middle.{ends, followed}
 use Rattle.message.specs.Syntax.Parameters.{absent, follow}
-use Rattle.message.proofs.Words.{word-append}
+use Rattle.message.proofs.Separated.{word-append}
 use Rattle.message.proofs.Induction.{Claim, Clauses, of-rest}
 
 -- t is empty or begins with a SPACE

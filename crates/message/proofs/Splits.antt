@@ -1,11 +1,11 @@
 -- Laws of words parted by SPACEs: the first word at a place, and what follows it. Assumes nothing.
-use mathlib.Core.Path.{◌≡◌, refl, sym, ap, ◌∙◌}
+use mathlib.Core.Path.{◌≡◌, refl, sym, ap, ap₂, ◌∙◌}
 use mathlib.Core.Bool.{Bool, true, false, cond}
 use mathlib.Core.List.{List, [], ◌∷◌, map}
-use Prim.Native.Nat.{ℕ, ◌+◌, ◌-◌, ◌≤◌, ◌<◌}
+use Prim.Native.Nat.{ℕ, suc, ◌+◌, ◌-◌, ◌≤◌, ◌<◌}
 use native.Mathlib.Omega.{arith}
-use lib.ListN.{length, drop, get_or, drop_of_length-le, length-drop}
-use lib.Seq.{drop-drop}
+use lib.ListN.{length, take, drop, get_or, drop_of_length-le, length-drop}
+use lib.Seq.{drop-drop, take_all}
 use lib.Dec.{eqb}
 use borrow.Author.Tests.{eq-eqb, ne_eqb, eqb-true, eqb-false}
 use Rattle.octets.specs.Bytes.{space}
@@ -15,7 +15,7 @@ use Rattle.message.specs.declared.Span.{Span}
 use Rattle.message.specs.Grammar.{Part, part_at, word, spaces}
 use Rattle.message.specs.Content.{bytes_of}
 use Rattle.message.specs.Parts.{span, empty_at, span_of}
-use Rattle.message.specs.Words.{words_at, after_word, next_word}
+use Rattle.message.specs.Words.{words_at, after_word, words_of, next_word}
 use Rattle.message.proofs.Runs.{word-past, word-front, word_in, start-in, start-stops}
 
 -- ---- SPACEs before a word, and the rest of one, are passed over
@@ -146,3 +146,90 @@ module _ (s : List ℕ) (w : Span) where
       go : (t : Bool) → eqb w.start (length s) ≡ t → left s w ≡ words_from s at
       go true e = rw e (sym (next-none s at w h is (eqb-true w.start (length s) e)))
       go false e = rw e (sym (next_one s at w h is (eqb-false w.start (length s) e)))
+
+-- ---- the words of a text, taken one after the other from its front: their places don't matter
+mutual
+  unfolding words_at
+
+  words-shift : (s : List ℕ) (i j : ℕ) → bytes_of (words_at i s) ≡ bytes_of (words_at j s)
+  words-shift [] i j = refl
+  words-shift (b ∷ s) i j = go (eqb b space) refl (words-shift s (i + 1) (j + 1)) (after-shift s (i + 1) (j + 1))
+    where
+      go : (t : Bool) → eqb b space ≡ t → bytes_of (words_at (i + 1) s) ≡ bytes_of (words_at (j + 1) s) → bytes_of (after_word (i + 1) s) ≡ bytes_of (after_word (j + 1) s)
+          → bytes_of (words_at i (b ∷ s)) ≡ bytes_of (words_at j (b ∷ s))
+      go true e w a = rw e w
+      go false e w a = rw e (ap (λ (l : List (List ℕ)). (b ∷ word s) ∷ l) a)
+
+  after-shift : (s : List ℕ) (i j : ℕ) → bytes_of (after_word i s) ≡ bytes_of (after_word j s)
+  after-shift [] i j = refl
+  after-shift (b ∷ s) i j = go (eqb b space) refl (words-shift s (i + 1) (j + 1)) (after-shift s (i + 1) (j + 1))
+    where
+      go : (t : Bool) → eqb b space ≡ t → bytes_of (words_at (i + 1) s) ≡ bytes_of (words_at (j + 1) s) → bytes_of (after_word (i + 1) s) ≡ bytes_of (after_word (j + 1) s)
+          → bytes_of (after_word i (b ∷ s)) ≡ bytes_of (after_word j (b ∷ s))
+      go true e w a = rw e w
+      go false e w a = rw e a
+
+-- those of a text that doesn't begin with SPACE
+abbrev first_word : List ℕ → List (List ℕ)
+first_word [] = []
+first_word (b ∷ s) = word (b ∷ s) ∷ words_of (drop (length (word (b ∷ s))) (b ∷ s))
+
+words-first : (s : List ℕ) (i : ℕ) → bytes_of (words_at i s) ≡ first_word (drop (spaces s) s)
+unfolding words_at spaces word
+words-first [] i = refl
+words-first (b ∷ s) i = go (eqb b space) refl (words-first s (i + 1))
+  where
+    go : (t : Bool) → eqb b space ≡ t → bytes_of (words_at (i + 1) s) ≡ first_word (drop (spaces s) s) → bytes_of (words_at i (b ∷ s)) ≡ first_word (drop (spaces (b ∷ s)) (b ∷ s))
+    go true e ih = rw e ih
+    go false e ih = rw (e, e) (ap (λ (l : List (List ℕ)). (b ∷ word s) ∷ l) (ap bytes_of (after-skip s (i + 1)) ∙ words-shift (drop (length (word s)) s) (i + 1 + length (word s)) 0))
+
+bare : (s : List ℕ) → spaces (drop (spaces s) s) ≡ 0
+unfolding spaces
+bare [] = refl
+bare (b ∷ s) = go (eqb b space) refl (bare s)
+  where
+    go : (t : Bool) → eqb b space ≡ t → spaces (drop (spaces s) s) ≡ 0 → spaces (drop (spaces (b ∷ s)) (b ∷ s)) ≡ 0
+    go true e ih = rw e ih
+    go false e ih = rw (e, e)
+
+first-none : (t : List ℕ) → spaces t ≡ 0 → length (word t) ≡ 0 → (first_word t ≡ []) × (words_of (drop (length (word t)) t) ≡ [])
+unfolding words_at spaces word
+first-none [] n e = (refl, refl)
+first-none (b ∷ t) n e = go (eqb b space) refl
+  where
+    go : (u : Bool) → eqb b space ≡ u → (first_word (b ∷ t) ≡ []) × (words_of (drop (length (word (b ∷ t))) (b ∷ t)) ≡ [])
+    go true h = let z : suc (spaces t) ≡ 0 = rw h at n in absurd (omega arith)
+    go false h = let z : suc (length (word t)) ≡ 0 = rw h at e in absurd (omega arith)
+
+first-one : (t : List ℕ) → (length (word t) ≡ 0 → ⊥) → first_word t ≡ word t ∷ words_of (drop (length (word t)) t)
+unfolding word
+first-one [] ne = absurd (ne refl)
+first-one (b ∷ t) ne = refl
+
+-- what is taken from the front of a text, and what is left of it: a word of m bytes behind k SPACEs
+module _ (s w rest : List ℕ) (k m : ℕ) (spaced : k ≡ spaces s) (sized : m ≡ length (word (take (length s - k) (drop k s)))) (front : w ≡ take m (take (length s - k) (drop k s))) (back : rest ≡ drop m (take (length s - k) (drop k s))) where
+  abbrev text : List ℕ
+  text = drop (spaces s) s
+
+  text-is : take (length s - k) (drop k s) ≡ text
+  text-is = take_all (length s - k) (drop k s) (omega (arith, length-drop k s)) ∙ ap (λ (n : ℕ). drop n s) spaced
+
+  taken-size : m ≡ length (word text)
+  taken-size = sized ∙ ap (λ (l : List ℕ). length (word l)) text-is
+
+  taken-is : w ≡ word text
+  taken-is = front ∙ ap (take m) text-is ∙ ap (λ (n : ℕ). take n text) taken-size ∙ word-front text
+
+  kept-is : rest ≡ drop (length (word text)) text
+  kept-is = back ∙ ap (drop m) text-is ∙ ap (λ (n : ℕ). drop n text) taken-size
+
+  pub taken-none : length w ≡ 0 → (words_of s ≡ []) × (words_of rest ≡ [])
+  taken-none e =
+      let none = first-none text (bare s) (ap (λ (l : List ℕ). length l) (sym taken-is) ∙ e) in
+      (words-first s 0 ∙ none.0, ap (λ (l : List ℕ). words_of l) kept-is ∙ none.1)
+
+  pub taken-one : (length w ≡ 0 → ⊥) → words_of s ≡ w ∷ words_of rest
+  taken-one ne =
+      words-first s 0
+      ∙ first-one text (λ e. ne (ap (λ (l : List ℕ). length l) taken-is ∙ e))
+      ∙ ap₂ (λ (x l : List ℕ). x ∷ words_of l) (sym taken-is) (sym kept-is)

@@ -4,5 +4,6 @@ pub mod Content
 pub mod Parts
 pub mod Reading
 pub mod Words
+pub mod Listed
 pub mod Former
 pub mod Private

@@ -2,6 +2,7 @@
 // command and parameters, each as a part of the caller's line. Any bytes are taken; a line that isn't read is refused by a number of crate `refusal`.
 #![tactic(auto)]
 
+pub mod lists;
 mod scan;
 pub mod spans;
 
@@ -11,10 +12,12 @@ ghost use Rattle.octets.specs.Room.{place_in};
 ghost use Rattle.message.specs.Grammar.{is_command};
 ghost use Rattle.message.specs.Parts.{empty_at, blank};
 ghost use Rattle.message.specs.Reading.{count_of, number_for, reading_of, content_of, message_of, parsed_of, reading_as, parsed_as};
-ghost use Rattle.message.specs.Words.{next_word};
+ghost use Rattle.message.specs.Words.{words_of, next_word};
+ghost use Rattle.message.specs.Listed.{words_left};
 ghost use Rattle.message.specs.Private.Scan.{body_parsed};
 ghost use Rattle.refusal.specs.Refusals.{answered};
 
+use lists::Words;
 use octets::{Class, all_in, part};
 use refusal::Refusal;
 use scan::{message_in, spaces_end, word_end};
@@ -155,6 +158,13 @@ pub fn param(line: &[u8], k: usize) -> &[u8]
     ensures place { result.ref_ptr ≡ place_in line.entry (get_or (message_of line.now).params k (empty_at (length line.now))).start }
 {
     param_in(line, parts(line), k)
+}
+
+// The words of a text, in their order: they are parted by one or more SPACEs, and SPACEs at either end are passed over.
+pub fn words(s: &[u8]) -> Words<'_>
+    ensures { words_left result ≡ words_of s.now }
+{
+    Words { rest: s }
 }
 
 // The first word at a place or after it: words are parted by one or more SPACEs, and SPACEs at either end are passed over. Where there is none, the

@@ -1,5 +1,6 @@
 -- Refusals as the code has them, the numbers that they have in the papers, and places with them.
 use Rattle.std.specs.Prelude.{ℕ, Result, Ok, Err}
+use Rattle.std.proofs.Math.Option.{Option, some, none}
 use Rattle.refusal.specs.Numbers.{
   accepted,
   not_well_formed,
@@ -39,6 +40,8 @@ use Rattle.refusal.specs.Numbers.{
   bad_key,
   bad_limit,
 }
+use Rattle.refusal.specs.Faults as faults
+use Rattle.refusal.specs.Faults.{fault}
 use Rattle.refusal.specs.declared.Fault.{Fault}
 use Rattle.refusal.specs.declared.Refusal.{Refusal}
 use Rattle.refusal.specs.declared.Refusal.TheVariants.{
@@ -135,3 +138,8 @@ fault_number (Err f) = number_of f.refusal
 abbrev pub fault_place : {A : Type 0} → Result A Fault → ℕ
 fault_place (Ok x) = 0
 fault_place (Err f) = f.place
+
+-- the fault that an answer tells, by its number and its place, if it tells one
+abbrev pub told_fault : {A : Type 0} → Result A Fault → Option (faults.Fault ℕ)
+told_fault (Ok x) = none
+told_fault (Err f) = some (fault (number_of f.refusal) f.place)

@@ -127,6 +127,16 @@ impl Refusal {
     {
         self as u8
     }
+
+    // The refusal with the place of what is at fault.
+    pub fn at(self, place: usize) -> Fault
+        ensures { result ≡ record { refusal = self; place = place } }
+    {
+        Fault {
+            refusal: self,
+            place,
+        }
+    }
 }
 
 // The number that tells of an answer to a caller that has no enums: ACCEPTED, or that of the refusal.

@@ -17,7 +17,7 @@ use Rattle.channel.specs.Channel.{voice_place, operator_place, voice, operator, 
 use Rattle.channel.specs.WellFormed.{both_statuses, good_member}
 use Rattle.channel.proofs.Proper.{member-says}
 use Rattle.message.specs.Words.{words_of}
-use Rattle.message.proofs.Words.{solid, words-separated}
+use Rattle.message.proofs.Separated.{solid, words-separated}
 use Rattle.sjoin.specs.Entries.{past, id_of, status_of, is_entry, member_of, good_entries, named}
 use Rattle.telling.specs.Telling.{entry_of, list_text}
 

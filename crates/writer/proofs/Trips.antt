@@ -21,7 +21,7 @@ use Rattle.message.specs.Grammar.{param_limit, middle_limit, spaces, is_middle, 
 use Rattle.message.specs.Content.{Content, bytes_of}
 use Rattle.message.specs.Reading.{crlf, ends_line, body_of, body_rules, grammar_rules}
 use Rattle.message.proofs.Relation.{Stops, stops-word, middle-read, bare-read}
-use Rattle.message.proofs.Words.{word-append}
+use Rattle.message.proofs.Separated.{word-append}
 use Rattle.message.proofs.SpanContents.{content, content-eq}
 use Rattle.writer.specs.Form.{takes_colon, written_param, written_params, written_prefix}
 use Rattle.writer.specs.Private.Fit.{good_prefix, good_source, good_param, good_params, good}

@@ -1,0 +1,28 @@
+// The words of a text, one after the other.
+ghost use Rattle.std.specs.Iterator.{YieldsFirstRef, item_count};
+ghost use Rattle.message.specs.Listed.{words_left};
+
+use crate::scan::{spaces_len, word_len};
+
+// The words that are left of a text: what stands behind those that were taken.
+#[derive(Clone, Copy)]
+pub struct Words<'a> {
+    pub(crate) rest: &'a [u8],
+}
+
+impl<'a> Iterator for Words<'a> {
+    type Item = &'a [u8];
+
+    ghost next_gives = { YieldsFirstRef words_left };
+
+    ghost remaining = { item_count words_left };
+
+    // The first word that is left.
+    #[tactic(auto, using(crate::proofs::Runs::spaces_in, crate::proofs::Runs::word_in))]
+    fn next(&mut self) -> Option<&'a [u8]> {
+        let text = &self.rest[spaces_len(self.rest)..];
+        let (word, rest) = text.split_at(word_len(text));
+        self.rest = rest;
+        if word.is_empty() { None } else { Some(word) }
+    }
+}
