@@ -22,8 +22,7 @@ use Rattle.table.specs.Table.{good_network, good_table}
 use Rattle.sjoin.specs.Join.{line_place}
 use Rattle.relay.specs.declared.Change.{Change}
 use Rattle.relay.specs.Arrival.{Arrival, said}
-use Rattle.relay.specs.Relay.{meaning_in, taken_rules, network_by, goes_by, message_by, relayed, process_rules, refused, taken, process_answer, taken_of, sent}
-use Rattle.relay.specs.Private.Answering.{taken_by}
+use Rattle.relay.specs.Relay.{meaning_in, taken_rules, network_by, goes_by, message_by, relayed, process_rules, refused, taken, process_answer, taken_of, taken_by, sent}
 use Rattle.relay.specs.Private.Acting.{head_with, done_by, written_by, sent_to}
 use Rattle.relay.proofs.Judgements.{Does}
 use Rattle.relay.proofs.Taking.{rules-none, relayed-reads}

@@ -14,6 +14,7 @@ use Rattle.refusal.specs.Faults.{fault}
 use Rattle.refusal.specs.Refusals.{number_of, unplaced}
 use Rattle.refusal.specs.declared.Fault.{Fault}
 use Rattle.refusal.specs.declared.Refusal.{Refusal}
+use Rattle.refusal.proofs.Refusals.{number-given}
 use Rattle.refusal.proofs.Rules.{first_plain}
 use Rattle.octets.specs.Room.{front}
 use Rattle.message.specs.declared.Message.{Message}
@@ -33,21 +34,16 @@ use Rattle.relay.specs.declared.Request.{Request}
 use Rattle.relay.specs.declared.Taken.{Taken}
 use Rattle.relay.specs.Arrival.{Arrival, said}
 use Rattle.relay.specs.Commands.{command_of, command_in}
-use Rattle.relay.specs.Relay.{meaning_in, entry_rules, entering_rules, process_rules, refused, Outcome, process_answer, taken_of, sent}
+use Rattle.relay.specs.Relay.{meaning_in, entry_rules, entering_rules, process_rules, refused, Outcome, process_answer, taken_of, taken_by, sent}
 use Rattle.relay.specs.Private.Work.{by_place}
 use Rattle.relay.specs.Private.Commands.{work_of, asked_by, settled_in}
 use Rattle.relay.specs.Private.Acting.{head_with, slot_set, done_by, written_by, sent_to}
-use Rattle.relay.specs.Private.Answering.{taken_by, Answered}
 use Rattle.relay.proofs.Judgements.{Does, Judged}
 use Rattle.relay.proofs.Lawful.{Lawful}
 use Rattle.relay.proofs.Commands.{lawful}
 use Rattle.relay.proofs.Asking.{request-refuses, request-passes}
 use Rattle.relay.proofs.Entering.{entry-good, entry-refuses, enters, reader-refuses, command-decides}
 use Rattle.relay.proofs.Answering.{answer-refused, sent-nothing, sent-line, answer-taken, bans-taken, written-line}
-
--- no refusal has the number of acceptance
-pub some-number : (e : Refusal) → number_of e ≡ accepted → ⊥
-some-number e z = ?
 
 -- a line that gets no number from the reader is read
 pub read-line : (line : List ℕ) → accepted ≡ number_for line → is_read line ≡ true
@@ -62,6 +58,12 @@ message-is line m e = ap (λ (p : Parsed). p.message) e
 pub parts-ask : (line : List ℕ) (m : Message) → m ≡ message_of line → asked_by (command_of (content_by line m).command) line m ≡ asked_by (command_in line) line (message_of line)
 parts-ask line m e = rw (e, message-holds line)
 
+-- what is answered, and the head, the lists and the output after
+pub record Answered (t : Table) (a : Arrival) (out : List ℕ) (r : Result Relayed Fault) (head : Head) (bans after : List ℕ) : Type 0 where
+  pub answer : taken_by head r ≡ taken_of (process_answer t a (length out))
+  pub lists : bans ≡ (process_answer t a (length out)).table.bans
+  pub output : after ≡ front (sent t a (length out)) out
+
 module _ (t : Table) (a : Arrival) (out : List ℕ) where
   abbrev n : ℕ
   n = length out
@@ -72,7 +74,7 @@ module _ (t : Table) (a : Arrival) (out : List ℕ) where
   -- ---- a refusal
   refuses : (f : Fault) → first_of (process_rules t a n) ≡ number_of f.refusal → f.place ≡ line_place (number_of f.refusal) a.line → Refuses f
   refuses f e p =
-      let ne = some-number f.refusal in
+      let ne = number-given f.refusal in
       let answer = answer-refused t a n (number_of f.refusal) e ne in record {
         answer = rw p (ap taken_of answer);
         lists = ap (λ (o : Outcome). o.table.bans) answer;
@@ -83,7 +85,7 @@ module _ (t : Table) (a : Arrival) (out : List ℕ) where
   pub entry-refused : (e : Refusal) → number_of e ≡ first_of (entering_rules t a n) → Refuses (unplaced e)
   entry-refused e is =
       let plain : is_mode_number (number_of e) ≡ false = ap is_mode_number is ∙ first_plain (entering_rules t a n) refl in
-      refuses (unplaced e) (entry-refuses t a n (λ z. some-number e (is ∙ z)) ∙ sym is) (sym (place_none (number_of e) a.line (message_of a.line) plain))
+      refuses (unplaced e) (entry-refuses t a n (λ z. number-given e (is ∙ z)) ∙ sym is) (sym (place_none (number_of e) a.line (message_of a.line) plain))
 
   -- ---- past them
   module _ (passes : first_of (entering_rules t a n) ≡ accepted) where
@@ -91,7 +93,7 @@ module _ (t : Table) (a : Arrival) (out : List ℕ) where
     pub reader-refused : (e : Refusal) → number_of e ≡ number_for a.line → Refuses (unplaced e)
     unfolding is_read
     reader-refused e is =
-        let unread : is_read a.line ≡ false = ne_eqb (number_for a.line) accepted (λ z. some-number e (is ∙ z)) in
+        let unread : is_read a.line ≡ false = ne_eqb (number_for a.line) accepted (λ z. number-given e (is ∙ z)) in
         let plain : is_mode_number (number_of e) ≡ false = ap is_mode_number is ∙ reader-plain a.line in
         refuses (unplaced e) (enters t a n passes ∙ reader-refuses a unread (network_of t) ∙ sym is) (sym (place_none (number_of e) a.line (message_of a.line) plain))
 

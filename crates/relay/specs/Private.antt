@@ -6,5 +6,4 @@ pub mod Quit
 pub mod Bmask
 pub mod Commands
 pub mod Acting
-pub mod Answering
 pub mod Stubs

@@ -15,8 +15,7 @@ ghost use Rattle.std.specs.Prelude.{◌≡◌, length};
 ghost use Rattle.octets.specs.Room.{front};
 ghost use Rattle.relay.specs.Arrival.{arrival};
 ghost use Rattle.table.specs.Network.{table_with};
-ghost use Rattle.relay.specs.Relay.{process_answer, taken_of, sent};
-ghost use Rattle.relay.specs.Private.Answering.{Answered};
+ghost use Rattle.relay.specs.Relay.{process_answer, taken_of, taken_by, sent};
 
 use acting::{act, receivers, send};
 use bans::BanList;
@@ -73,10 +72,10 @@ struct Change {
 }
 
 // The links that a line goes to, and how many bytes of it were written.
-#[derive(Clone, Copy)]
-struct Relayed {
-    set: u32,
-    len: usize,
+#[derive(Clone, Copy, Debug, PartialEq, Eq)]
+pub struct Relayed {
+    pub set: u32,
+    pub len: usize,
 }
 
 // The head after, or as given; how many bytes were written; the place in the line of what is wrong with its modes, 0 with any other number and with none (document 02,
@@ -96,14 +95,16 @@ pub struct Taken {
 // Takes a line that came from a link: table, output and link are tested, then the line by itself, which is read once, then what it comes to in the slot
 // that its channel's name uses; unless one of them refuses it, the line that goes out is written to the front of the output, and the head and the lent ban lists
 // change.
-fn take(
+pub fn take(
     t: &mut Head,
     bans: &mut [u8; BanList::BANS],
     link: u32,
     line: &[u8],
     out: &mut [u8],
 ) -> Result<Relayed, Fault>
-    ensures { Answered (table_with t.old bans.old) (arrival link line.now) out.old result t.new bans.new out.new }
+    ensures answer { taken_by t.new result ≡ taken_of (process_answer (table_with t.old bans.old) (arrival link line.now) (length out.old)) }
+    ensures lists { bans.new ≡ (process_answer (table_with t.old bans.old) (arrival link line.now) (length out.old)).table.bans }
+    ensures output { out.new ≡ front (sent (table_with t.old bans.old) (arrival link line.now) (length out.old)) out.old }
 {
     let good = is_well_formed(*t, bans);
     entry(good, out.len(), t.links, link)?;
@@ -116,7 +117,7 @@ fn take(
     Ok(Relayed { set, len })
 }
 
-// Takes a line that came from a link. A refusal leaves head, lists and output as they are.
+// The same with the head by value, and an answer that C reads.
 pub fn process(
     t: Head,
     bans: &mut [u8; BanList::BANS],

@@ -29,14 +29,14 @@ returns-in_err-entry c =
     let a = c.args in
     let p = err_from_is_err_and c.from_residual.result c.from_residual.ensures.1 in
     let is = c.in_err-entry.ensures ∙ ap (λ (g : Bool). first_of (entry_rules g (length a.out.now) a.t.now.links a.link)) c.is_well_formed-good.ensures in
-    rw (p.1, p.2) (entry-refused (table_with a.t.now a.bans.now) (arrival a.link a.line.now) a.out.now _ is)
+    let r = entry-refused (table_with a.t.now a.bans.now) (arrival a.link a.line.now) a.out.now _ is in record { answer = rw (p.1, p.2) r.answer; lists = r.lists; output = r.output }
 
 pub returns-in_err-m : goal.returns-in_err-m
 returns-in_err-m c =
     let a = c.args in
     let p = err_from_is_err_and c.from_residual-in_err-m.result c.from_residual-in_err-m.ensures.1 in
     let passes = ap (λ (g : Bool). first_of (entry_rules g (length a.out.now) a.t.now.links a.link)) (sym c.is_well_formed-good.ensures) ∙ sym c.in_ok-entry.ensures in
-    rw (p.1, p.2) (reader-refused (table_with a.t.now a.bans.now) (arrival a.link a.line.now) a.out.now passes _ c.in_err-m.ensures.number)
+    let r = reader-refused (table_with a.t.now a.bans.now) (arrival a.link a.line.now) a.out.now passes _ c.in_err-m.ensures.number in record { answer = rw (p.1, p.2) r.answer; lists = r.lists; output = r.output }
 
 pub requested-requires : goal.requested-requires
 requested-requires c =
@@ -49,7 +49,7 @@ returns-in_err-request c =
     let passes = ap (λ (g : Bool). first_of (entry_rules g (length a.out.now) a.t.now.links a.link)) (sym c.is_well_formed-good.ensures) ∙ sym c.in_ok-entry.ensures in
     let read = read-line a.line.now c.in_ok-m.ensures.number in
     let asks = c.in_err-request.ensures ∙ parts-ask a.line.now c.in_ok-m.m (message-is c.args.line.now c.in_ok-m.m c.in_ok-m.ensures.parsed) in
-    rw (p.1, p.2) (request-refused (table_with a.t.now a.bans.now) (arrival a.link a.line.now) a.out.now passes read _ asks)
+    let r = request-refused (table_with a.t.now a.bans.now) (arrival a.link a.line.now) a.out.now passes read _ asks in record { answer = rw (p.1, p.2) r.answer; lists = r.lists; output = r.output }
 
 pub returns-in_err-change : goal.returns-in_err-change
 returns-in_err-change c =
@@ -61,7 +61,7 @@ returns-in_err-change c =
     let asks = c.in_ok-request.ensures ∙ parts-ask a.line.now c.in_ok-m.m (message-is c.args.line.now c.in_ok-m.m c.in_ok-m.ensures.parsed) in
     let says = ap (content_by a.line.now) (message-is c.args.line.now c.in_ok-m.m c.in_ok-m.ensures.parsed) ∙ message-holds a.line.now in
     let is = c.in_err-change.ensures ∙ ap (settled_in (network_of t) a.line.now c.in_ok-request.request) says in
-    rw (p.1, p.2) (change-refused t (arrival a.link a.line.now) a.out.now passes read _ asks _ is)
+    let r = change-refused t (arrival a.link a.line.now) a.out.now passes read _ asks _ is in record { answer = rw (p.1, p.2) r.answer; lists = r.lists; output = r.output }
 
 pub act-requires : goal.act-requires
 act-requires c =
@@ -85,9 +85,9 @@ returns c =
     let says = ap (content_by a.line.now) (message-is c.args.line.now c.in_ok-m.m c.in_ok-m.ensures.parsed) ∙ message-holds a.line.now in
     let is = c.in_ok-change.ensures ∙ ap (settled_in (network_of t) a.line.now c.in_ok-request.request) says in
     let writes = ap (λ (m : Message). written_by j.sending a.line.now m a.out.now) (message-is c.args.line.now c.in_ok-m.m c.in_ok-m.ensures.parsed) in
-    change-made t (arrival a.link a.line.now) a.out.now passes read _ asks j is _ _ _ _ _
-    c.receivers-set.ensures
-    (c.send-len.ensures.answer ∙ ap (λ (l : List ℕ). length l) writes)
-    (c.send-len.ensures.output ∙ ap (λ (l : List ℕ). front l a.out.now) writes)
-    (c.act.ensures.head ∙ ap (λ (x : Content). head_with a.t.now (done_by j.deed x (network_of t)).slots) says)
-    (c.act.ensures.lists ∙ ap (λ (x : Content). (done_by j.deed x (network_of t)).bans) says)
+    let r = change-made t (arrival a.link a.line.now) a.out.now passes read _ asks j is _ _ _ _ _
+        c.receivers-set.ensures
+        (c.send-len.ensures.answer ∙ ap (λ (l : List ℕ). length l) writes)
+        (c.send-len.ensures.output ∙ ap (λ (l : List ℕ). front l a.out.now) writes)
+        (c.act.ensures.head ∙ ap (λ (x : Content). head_with a.t.now (done_by j.deed x (network_of t)).slots) says)
+        (c.act.ensures.lists ∙ ap (λ (x : Content). (done_by j.deed x (network_of t)).bans) says) in record { answer = r.answer; lists = r.lists; output = r.output }

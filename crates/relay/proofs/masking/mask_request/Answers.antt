@@ -12,7 +12,7 @@ use Rattle.message.specs.Parts.{content_by}
 use Rattle.sjoin.specs.Join.{time_in}
 use Rattle.bmask.specs.declared.Listing.{Listing}
 use Rattle.bmask.specs.Masks.{bmask_rules, listing_in}
-use Rattle.relay.proofs.Deciding.{some-number}
+use Rattle.refusal.proofs.Refusals.{number-given}
 use Rattle.relay.proofs.masking.mask_request.Goals as goal
 
 pub returns-in_err-time : goal.returns-in_err-time
@@ -22,7 +22,7 @@ returns-in_err-time c =
     let p = err_from_is_err_and c.from_residual.result c.from_residual.ensures.1 in
     let e = c.in_err-time.field-0.0 in
     let number : first_of (bmask_rules content) ≡ number_of e = sym (ap (λ (l : Listing). l.number) c.in_err-time.ensures) in
-    rw (p.1, p.2, number, ne_eqb _ accepted (some-number e))
+    rw (p.1, p.2, number, ne_eqb _ accepted (number-given e))
 
 pub returns : goal.returns
 unfolding listing_in
