@@ -7,8 +7,8 @@ use mathlib.Core.List.{List, [], ◌∷◌, ◌++◌, map}
 use native.Mathlib.Numerals.{add-one}
 use native.Mathlib.Omega.{arith}
 use lib.ListN.{length, take, get_or}
-use Rattle.octets.specs.declared.Order.{Order}
-use Rattle.octets.specs.declared.Order.TheVariants.{Less, Same, More}
+use Rattle.std.specs.declared.cmp.Ordering.{Ordering}
+use Rattle.std.specs.declared.cmp.Ordering.TheVariants.{Less, Equal, Greater}
 use Rattle.octets.specs.Order.{compare, is_less}
 use Rattle.laws.specs.Lists.{all, is_nil, same}
 use Rattle.ascending.specs.Ascending.{Kind, insert, put, unite, taken, against, one_pass, ascends}
@@ -166,12 +166,12 @@ module _ {E P : Type 0} (K : Kind E P) where
 
   -- and it is their union where the second ascends
   module _ (S : Stays K) where
-    taken-unite : (x y : E) (a b : List E) (o : Order) → compare (K.key x) (K.key y) ≡ o → Ascending K (y ∷ b)
+    taken-unite : (x y : E) (a b : List E) (o : Ordering) → compare (K.key x) (K.key y) ≡ o → Ascending K (y ∷ b)
         → taken K o x y (unite K a (y ∷ b)) (unite K a b) (unite K (x ∷ a) b) ≡ unite K (x ∷ a) (y ∷ b)
     unfolding taken
     taken-unite x y a b Less p h = sym (unite-less x y a b h p)
-    taken-unite x y a b Same p h = sym (unite-same x y a b h S (compare_same (K.key x) (K.key y) p))
-    taken-unite x y a b More p h = sym (unite-more x y a b h (more-below (K.key x) (K.key y) p))
+    taken-unite x y a b Equal p h = sym (unite-same x y a b h S (compare_same (K.key x) (K.key y) p))
+    taken-unite x y a b Greater p h = sym (unite-more x y a b h (more-below (K.key x) (K.key y) p))
 
     against-unite : (x : E) (a : List E) (others : List E → List E) → ((b : List E) → Ascending K b → others b ≡ unite K a b) → (b : List E) → Ascending K b → against K x others b ≡ unite K (x ∷ a) b
     unfolding against
@@ -194,19 +194,19 @@ module _ {E P : Type 0} (K : Kind E P) where
   unite-append a (e ∷ b) c = unite-append (put K e a) b c
 
 -- ---- the test is exactly what it tests for
-pub less-says : (o : Order) → is_less o ≡ true → o ≡ Less
+pub less-says : (o : Ordering) → is_less o ≡ true → o ≡ Less
 less-says Less h = refl
-less-says Same h = absurd (true≢false (sym h))
-less-says More h = absurd (true≢false (sym h))
+less-says Equal h = absurd (true≢false (sym h))
+less-says Greater h = absurd (true≢false (sym h))
 
 -- of two lists that differ, where the first is not the smaller one, the second is
 pub less-fails : (a b : List ℕ) → is_less (compare a b) ≡ false → same a b ≡ false → Below b a
 less-fails a b h k = go (compare a b) refl
   where
-    go : (o : Order) → compare a b ≡ o → Below b a
+    go : (o : Ordering) → compare a b ≡ o → Below b a
     go Less e = absurd (true≢false (ap is_less (sym e) ∙ h))
-    go Same e = absurd (true≢false (sym (same_refl b) ∙ (rw (compare_same a b e) at k)))
-    go More e = more-below a b e
+    go Equal e = absurd (true≢false (sym (same_refl b) ∙ (rw (compare_same a b e) at k)))
+    go Greater e = more-below a b e
 
 module _ {E P : Type 0} (K : Kind E P) where
   pub ascends-says : (l : List E) → ascends K l ≡ true → Ascending K l
@@ -243,10 +243,10 @@ module _ {E P : Type 0} (K : Kind E P) where
   length-put e [] = omega arith
   length-put e (d ∷ l) = go (compare (K.key e) (K.key d)) (length-put e l)
     where
-      go : (o : Order) → length l ≤ length (put K e l) → length (d ∷ l) ≤ length (insert K o e d l (put K e l))
+      go : (o : Ordering) → length l ≤ length (put K e l) → length (d ∷ l) ≤ length (insert K o e d l (put K e l))
       go Less h = omega arith
-      go Same h = omega arith
-      go More h = omega arith
+      go Equal h = omega arith
+      go Greater h = omega arith
 
   pub length-unite-left : (a b : List E) → length a ≤ length (unite K a b)
   unfolding unite
@@ -259,20 +259,20 @@ module _ {E P : Type 0} (K : Kind E P) where
   put_some e [] = omega arith
   put_some e (d ∷ l) = go (compare (K.key e) (K.key d))
     where
-      go : (o : Order) → 1 ≤ length (insert K o e d l (put K e l))
+      go : (o : Ordering) → 1 ≤ length (insert K o e d l (put K e l))
       go Less = omega arith
-      go Same = omega arith
-      go More = omega arith
+      go Equal = omega arith
+      go Greater = omega arith
 
   pub put-few : (e : E) (l : List E) → length (put K e l) ≤ suc (length l)
   unfolding put insert
   put-few e [] = omega arith
   put-few e (d ∷ l) = go (compare (K.key e) (K.key d)) (put-few e l)
     where
-      go : (o : Order) → length (put K e l) ≤ suc (length l) → length (insert K o e d l (put K e l)) ≤ suc (length (d ∷ l))
+      go : (o : Ordering) → length (put K e l) ≤ suc (length l) → length (insert K o e d l (put K e l)) ≤ suc (length (d ∷ l))
       go Less h = omega arith
-      go Same h = omega arith
-      go More h = omega arith
+      go Equal h = omega arith
+      go Greater h = omega arith
 
   pub unite-few : (a b : List E) → length (unite K a b) ≤ length a + length b
   unfolding unite
@@ -291,10 +291,10 @@ module _ {E P : Type 0} (K : Kind E P) (p : E → Bool) (add : (e d : E) → p e
   all-put e [] h k = all_cons p e [] h k
   all-put e (d ∷ l) h k = go (compare (K.key e) (K.key d)) (all-put e l h (all_tail p d l k))
     where
-      go : (o : Order) → all p (put K e l) ≡ true → all p (insert K o e d l (put K e l)) ≡ true
+      go : (o : Ordering) → all p (put K e l) ≡ true → all p (insert K o e d l (put K e l)) ≡ true
       go Less ih = all_cons p e (d ∷ l) h k
-      go Same ih = all_cons p (joined K e d) l (add e d h (all_head p d l k)) (all_tail p d l k)
-      go More ih = all_cons p d (put K e l) (all_head p d l k) ih
+      go Equal ih = all_cons p (joined K e d) l (add e d h (all_head p d l k)) (all_tail p d l k)
+      go Greater ih = all_cons p d (put K e l) (all_head p d l k) ih
 
   pub all-unite : (a b : List E) → all p a ≡ true → all p b ≡ true → all p (unite K a b) ≡ true
   unfolding unite
@@ -308,30 +308,30 @@ module _ {E P : Type 0} (K : Kind E P) (S : Stays K) where
   above-put x e [] p h = (p, tt)
   above-put x e (d ∷ l) p h = go (compare (K.key e) (K.key d)) refl (above-put x e l p h.1)
     where
-      go : (o : Order) → compare (K.key e) (K.key d) ≡ o → Above K x (put K e l) → Above K x (insert K o e d l (put K e l))
+      go : (o : Ordering) → compare (K.key e) (K.key d) ≡ o → Above K x (put K e l) → Above K x (insert K o e d l (put K e l))
       go Less q k = (p, h)
-      go Same q k = (rw (S.stays e d (compare_same (K.key e) (K.key d) q)) h.0, h.1)
-      go More q k = (h.0, k)
+      go Equal q k = (rw (S.stays e d (compare_same (K.key e) (K.key d) q)) h.0, h.1)
+      go Greater q k = (h.0, k)
 
   pub under-put : (x : List ℕ) (e : E) (l : List E) → Below (K.key e) x → Under K x l → Under K x (put K e l)
   unfolding put insert
   under-put x e [] p h = (p, tt)
   under-put x e (d ∷ l) p h = go (compare (K.key e) (K.key d)) refl (under-put x e l p h.1)
     where
-      go : (o : Order) → compare (K.key e) (K.key d) ≡ o → Under K x (put K e l) → Under K x (insert K o e d l (put K e l))
+      go : (o : Ordering) → compare (K.key e) (K.key d) ≡ o → Under K x (put K e l) → Under K x (insert K o e d l (put K e l))
       go Less q k = (p, h)
-      go Same q k = (rw (S.stays e d (compare_same (K.key e) (K.key d) q)) h.0, h.1)
-      go More q k = (h.0, k)
+      go Equal q k = (rw (S.stays e d (compare_same (K.key e) (K.key d) q)) h.0, h.1)
+      go Greater q k = (h.0, k)
 
   pub ascending-put : (e : E) (l : List E) → Ascending K l → Ascending K (put K e l)
   unfolding put insert
   ascending-put e [] h = (tt, tt)
   ascending-put e (d ∷ l) h = go (compare (K.key e) (K.key d)) refl (ascending-put e l h.1)
     where
-      go : (o : Order) → compare (K.key e) (K.key d) ≡ o → Ascending K (put K e l) → Ascending K (insert K o e d l (put K e l))
+      go : (o : Ordering) → compare (K.key e) (K.key d) ≡ o → Ascending K (put K e l) → Ascending K (insert K o e d l (put K e l))
       go Less p k = ((p, above-trans K (K.key e) (K.key d) l p h.0), h)
-      go Same p k = (rw (S.stays e d (compare_same (K.key e) (K.key d) p)) h.0, h.1)
-      go More p k = (above-put (K.key d) e l (more-below (K.key e) (K.key d) p) h.0, k)
+      go Equal p k = (rw (S.stays e d (compare_same (K.key e) (K.key d) p)) h.0, h.1)
+      go Greater p k = (above-put (K.key d) e l (more-below (K.key e) (K.key d) p) h.0, k)
 
   pub ascending-unite : (a b : List E) → Ascending K a → Ascending K (unite K a b)
   unfolding unite
@@ -355,7 +355,7 @@ module _ {E P F Q : Type 0} (K : Kind E P) (L : Kind F Q) (f : E → F) (keys : 
   put-made joins e [] = refl
   put-made joins e (d ∷ l) = rw (keys e, keys d) (go (compare (K.key e) (K.key d)) (put-made joins e l))
     where
-      go : (o : Order) → map f (put K e l) ≡ put L (f e) (map f l) → map f (insert K o e d l (put K e l)) ≡ insert L o (f e) (f d) (map f l) (put L (f e) (map f l))
+      go : (o : Ordering) → map f (put K e l) ≡ put L (f e) (map f l) → map f (insert K o e d l (put K e l)) ≡ insert L o (f e) (f d) (map f l) (put L (f e) (map f l))
       go Less ih = refl
-      go Same ih = ap (λ (x : F). x ∷ map f l) (joins e d)
-      go More ih = ap (◌∷◌ (f d)) ih
+      go Equal ih = ap (λ (x : F). x ∷ map f l) (joins e d)
+      go Greater ih = ap (◌∷◌ (f d)) ih

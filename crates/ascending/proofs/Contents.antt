@@ -5,8 +5,8 @@ use mathlib.Core.Path.{◌≡◌, refl, sym, ap, ap₂, ◌∙◌}
 use mathlib.Core.Bool.{Bool, true, false, ◌||◌, cond, or_self, true≢false}
 use mathlib.Core.List.{List, [], ◌∷◌, map, nil≢cons, cons≢nil, head-eq_of_cons-eq, tail-eq_of_cons-eq}
 use lib.ListN.{length, length-map}
-use Rattle.octets.specs.declared.Order.{Order}
-use Rattle.octets.specs.declared.Order.TheVariants.{Less, Same, More}
+use Rattle.std.specs.declared.cmp.Ordering.{Ordering}
+use Rattle.std.specs.declared.cmp.Ordering.TheVariants.{Less, Equal, Greater}
 use Rattle.octets.specs.Order.{compare}
 use Rattle.laws.specs.Lists.{same}
 use Rattle.laws.specs.Joins.{total}
@@ -60,14 +60,14 @@ module _ {E P : Type 0} (K : Kind E P) where
   same_keys (d ∷ a) [] p q h = absurd (true≢false (sym (head-has d a) ∙ h (K.key d)))
   same_keys (d ∷ a) (e ∷ b) p q h = go (compare (K.key d) (K.key e)) refl (same_keys a b p.1 q.1)
     where
-      go : (o : Order) → compare (K.key d) (K.key e) ≡ o → (((x : List ℕ) → has K x a ≡ has K x b) → map K.key a ≡ map K.key b)
+      go : (o : Ordering) → compare (K.key d) (K.key e) ≡ o → (((x : List ℕ) → has K x a ≡ has K x b) → map K.key a ≡ map K.key b)
           → map K.key (d ∷ a) ≡ map K.key (e ∷ b)
       go Less v ih =
           absurd (true≢false (sym (head-has d a) ∙ h (K.key d) ∙ above-has (K.key d) (e ∷ b) (v, above-trans K (K.key d) (K.key e) b v q.0)))
-      go More v ih =
+      go Greater v ih =
           let w = more-below (K.key d) (K.key e) v in
           absurd (true≢false (sym (head-has e b) ∙ sym (h (K.key e)) ∙ above-has (K.key e) (d ∷ a) (w, above-trans K (K.key e) (K.key d) a w p.0)))
-      go Same v ih =
+      go Equal v ih =
           let w : K.key d ≡ K.key e = compare_same (K.key d) (K.key e) v in
           ap₂ ◌∷◌ w (ih (λ x. tail-has d a p.0 x ∙ ap₂ (λ (y : List ℕ) (t : Bool). cond (same x y) false t) w (h x) ∙ sym (tail-has e b q.0 x)))
 
@@ -84,11 +84,11 @@ module _ {E P : Type 0} (K : Kind E P) where
     total-put e [] = refl
     total-put e (d ∷ l) = go (compare (K.key e) (K.key d)) refl (total-put e l)
       where
-        go : (o : Order) → compare (K.key e) (K.key d) ≡ o → total join nil f (put K e l) ≡ join (f e) (total join nil f l)
+        go : (o : Ordering) → compare (K.key e) (K.key d) ≡ o → total join nil f (put K e l) ≡ join (f e) (total join nil f l)
             → total join nil f (insert K o e d l (put K e l)) ≡ join (f e) (join (f d) (total join nil f l))
         go Less p ih = refl
-        go Same p ih = rw (add e d (compare_same (K.key e) (K.key d) p)) (J.assoc _ _ _)
-        go More p ih = ap (join (f d)) ih ∙ join-left join nil J (f d) (f e) (total join nil f l)
+        go Equal p ih = rw (add e d (compare_same (K.key e) (K.key d) p)) (J.assoc _ _ _)
+        go Greater p ih = ap (join (f d)) ih ∙ join-left join nil J (f d) (f e) (total join nil f l)
 
     total-unite : (a b : List E) → total join nil f (unite K a b) ≡ join (total join nil f a) (total join nil f b)
     unfolding unite

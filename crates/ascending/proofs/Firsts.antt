@@ -5,8 +5,8 @@ use mathlib.Core.Bool.{Bool, true, false, true≢false, ◌||◌, or-true}
 use mathlib.Core.List.{List, [], ◌∷◌}
 use Prim.Native.Nat.{ℕ}
 use native.Mathlib.Omega.{arith}
-use Rattle.octets.specs.declared.Order.{Order}
-use Rattle.octets.specs.declared.Order.TheVariants.{Less, Same, More}
+use Rattle.std.specs.declared.cmp.Ordering.{Ordering}
+use Rattle.std.specs.declared.cmp.Ordering.TheVariants.{Less, Equal, Greater}
 use Rattle.laws.specs.Lists.{all, same}
 use Rattle.octets.specs.Order.{compare}
 use Rattle.ascending.specs.Ascending.{Kind, insert, put, unite}
@@ -38,10 +38,10 @@ module _ {E P : Type 0} (K : Kind E P) (first : (e d : E) → joined K e d ≡ d
   put-there e [] a h = absurd (true≢false (sym h))
   put-there e (d ∷ l) a h = go (compare (K.key e) (K.key d)) refl (put-there e l a.1)
     where
-      go : (o : Order) → compare (K.key e) (K.key d) ≡ o → (has K (K.key e) l ≡ true → put K e l ≡ l) → insert K o e d l (put K e l) ≡ d ∷ l
+      go : (o : Ordering) → compare (K.key e) (K.key d) ≡ o → (has K (K.key e) l ≡ true → put K e l ≡ l) → insert K o e d l (put K e l) ≡ d ∷ l
       go Less p ih = absurd (true≢false (sym h ∙ above-has K (K.key e) (d ∷ l) (p, above-trans K (K.key e) (K.key d) l p a.0)))
-      go Same p ih = ap (λ (x : E). x ∷ l) (first e d)
-      go More p ih = ap (◌∷◌ d) (ih (rw (below-differs (K.key e) (K.key d) (more-below (K.key e) (K.key d) p)) at h))
+      go Equal p ih = ap (λ (x : E). x ∷ l) (first e d)
+      go Greater p ih = ap (◌∷◌ d) (ih (rw (below-differs (K.key e) (K.key d) (more-below (K.key e) (K.key d) p)) at h))
 
   unite-there : (a b : List E) → Ascending K a → all (λ e. has K (K.key e) a) b ≡ true → unite K a b ≡ a
   unfolding unite
@@ -66,28 +66,28 @@ module _ {E P : Type 0} (K : Kind E P) (first : (e d : E) → joined K e d ≡ d
   put_both e d b [] = put-less K e d [] b ∙ sym (put-more K d e [] b)
   put_both e d b (x ∷ l) = go (compare (K.key e) (K.key x)) refl (compare (K.key d) (K.key x)) refl (put_both e d b l)
     where
-      go : (o : Order) → compare (K.key e) (K.key x) ≡ o → (q : Order) → compare (K.key d) (K.key x) ≡ q → put K e (put K d l) ≡ put K d (put K e l)
+      go : (o : Ordering) → compare (K.key e) (K.key x) ≡ o → (q : Ordering) → compare (K.key d) (K.key x) ≡ q → put K e (put K d l) ≡ put K d (put K e l)
           → put K e (insert K q d x l (put K d l)) ≡ put K d (insert K o e x l (put K e l))
       go Less p Less r ih = put-less K e d (x ∷ l) b ∙ ap (◌∷◌ e) (sym (put-less K d x l r)) ∙ sym (put-more K d e (x ∷ l) b)
-      go Less p Same r ih =
+      go Less p Equal r ih =
           ap (λ (y : E). put K e (y ∷ l)) (first d x)
           ∙ put-less K e x l p
           ∙ ap (λ (y : E). e ∷ y ∷ l) (sym (first d x))
           ∙ ap (◌∷◌ e) (sym (put_same K d x l (compare_same (K.key d) (K.key x) r)))
           ∙ sym (put-more K d e (x ∷ l) b)
-      go Less p More r ih = put-less K e x (put K d l) p ∙ ap (◌∷◌ e) (sym (put-more K d x l (more-below (K.key d) (K.key x) r))) ∙ sym (put-more K d e (x ∷ l) b)
-      go Same p Less r ih = absurd (not-below (K.key x) (rw (compare_same (K.key e) (K.key x) p) at (compare-trans (K.key e) (K.key d) (K.key x) b r)))
-      go Same p Same r ih = absurd (not-below (K.key d) (rw (compare_same (K.key e) (K.key x) p ∙ sym (compare_same (K.key d) (K.key x) r)) at b))
-      go Same p More r ih =
+      go Less p Greater r ih = put-less K e x (put K d l) p ∙ ap (◌∷◌ e) (sym (put-more K d x l (more-below (K.key d) (K.key x) r))) ∙ sym (put-more K d e (x ∷ l) b)
+      go Equal p Less r ih = absurd (not-below (K.key x) (rw (compare_same (K.key e) (K.key x) p) at (compare-trans (K.key e) (K.key d) (K.key x) b r)))
+      go Equal p Equal r ih = absurd (not-below (K.key d) (rw (compare_same (K.key e) (K.key x) p ∙ sym (compare_same (K.key d) (K.key x) r)) at b))
+      go Equal p Greater r ih =
           put_same K e x (put K d l) (compare_same (K.key e) (K.key x) p)
           ∙ ap (λ (y : E). y ∷ put K d l) (first e x)
           ∙ sym (put-more K d x l (more-below (K.key d) (K.key x) r))
           ∙ ap (λ (y : E). put K d (y ∷ l)) (sym (first e x))
-      go More p Less r ih =
+      go Greater p Less r ih =
           absurd (not-below (K.key x) (compare-trans (K.key x) (K.key d) (K.key x) (compare-trans (K.key x) (K.key e) (K.key d) (more-below (K.key e) (K.key x) p) b) r))
-      go More p Same r ih =
+      go Greater p Equal r ih =
           absurd (not-below (K.key x) (rw (compare_same (K.key d) (K.key x) r) at (compare-trans (K.key x) (K.key e) (K.key d) (more-below (K.key e) (K.key x) p) b)))
-      go More p More r ih =
+      go Greater p Greater r ih =
           put-more K e x (put K d l) (more-below (K.key e) (K.key x) p)
           ∙ ap (◌∷◌ x) ih
           ∙ sym (put-more K d x (put K e l) (more-below (K.key d) (K.key x) r))
@@ -103,15 +103,15 @@ module _ {E P : Type 0} (K : Kind E P) (first : (e d : E) → joined K e d ≡ d
   unite-put e [] a p q = refl
   unite-put e (d ∷ b) a p q = go (compare (K.key e) (K.key d)) refl (unite-put e b (put K d a) (ascending-put K stays d a p) q.1)
     where
-      go : (o : Order) → compare (K.key e) (K.key d) ≡ o → unite K (put K d a) (put K e b) ≡ put K e (unite K (put K d a) b)
+      go : (o : Ordering) → compare (K.key e) (K.key d) ≡ o → unite K (put K d a) (put K e b) ≡ put K e (unite K (put K d a) b)
           → unite K a (insert K o e d b (put K e b)) ≡ put K e (unite K a (d ∷ b))
       go Less r ih = unite-below e a (d ∷ b) (r, above-trans K (K.key e) (K.key d) b r q.0)
-      go Same r ih =
+      go Equal r ih =
           let k : K.key e ≡ K.key d = compare_same (K.key e) (K.key d) r in
           let h : has K (K.key e) (unite K a (d ∷ b)) ≡ true =
           has-unite K stays (K.key e) a (d ∷ b) ∙ ap (λ (x : List ℕ). has K (K.key e) a || has K x (d ∷ b)) k ∙ rw (head-has K d b) (or-true (has K (K.key e) a)) in
           ap (λ (x : E). unite K a (x ∷ b)) (first e d) ∙ sym (put-there e (unite K a (d ∷ b)) (ascending-unite K stays a (d ∷ b) p) h)
-      go More r ih = ih
+      go Greater r ih = ih
 
   -- ---- three lists
   pub unite-assoc : (c a b : List E) → Ascending K a → Ascending K b → unite K (unite K a b) c ≡ unite K a (unite K b c)

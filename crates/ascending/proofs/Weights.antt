@@ -3,8 +3,8 @@
 use mathlib.Core.List.{List, [], ◌∷◌}
 use Prim.Native.Nat.{ℕ, ◌+◌, ◌≤◌}
 use native.Mathlib.Omega.{arith}
-use Rattle.octets.specs.declared.Order.{Order}
-use Rattle.octets.specs.declared.Order.TheVariants.{Less, Same, More}
+use Rattle.std.specs.declared.cmp.Ordering.{Ordering}
+use Rattle.std.specs.declared.cmp.Ordering.TheVariants.{Less, Equal, Greater}
 use Rattle.octets.specs.Order.{compare}
 use Rattle.laws.specs.Joins.{total}
 use Rattle.ascending.specs.Ascending.{Kind, insert, put, unite}
@@ -20,10 +20,10 @@ module _ {E P : Type 0} (K : Kind E P) (f : E → ℕ) (add : (e d : E) → f (j
   weight-put e [] = omega arith
   weight-put e (d ∷ l) = go (compare (K.key e) (K.key d)) (weight-put e l)
     where
-      go : (o : Order) → weight f (put K e l) ≤ f e + weight f l → weight f (insert K o e d l (put K e l)) ≤ f e + weight f (d ∷ l)
+      go : (o : Ordering) → weight f (put K e l) ≤ f e + weight f l → weight f (insert K o e d l (put K e l)) ≤ f e + weight f (d ∷ l)
       go Less h = omega arith
-      go Same h = omega (arith, add e d)
-      go More h = omega arith
+      go Equal h = omega (arith, add e d)
+      go Greater h = omega arith
 
   pub weight-unite : (a b : List E) → weight f (unite K a b) ≤ weight f a + weight f b
   unfolding unite

@@ -1,8 +1,8 @@
 -- Lists of entries that ascend by their keys, each key once: members of a channel, and whatever else is kept so. An entry has a key, a byte
 -- list, and a load; where a key comes a second time, the two loads are joined.
 use Rattle.std.specs.Prelude.{ℕ, Bool, true, ◌&&◌, List, [], ◌∷◌}
-use Rattle.octets.specs.declared.Order.{Order}
-use Rattle.octets.specs.declared.Order.TheVariants.{Less, Same, More}
+use Rattle.std.specs.declared.cmp.Ordering.{Ordering}
+use Rattle.std.specs.declared.cmp.Ordering.TheVariants.{Less, Equal, Greater}
 use Rattle.octets.specs.Order.{compare, is_less}
 
 -- What an entry is made of.
@@ -14,10 +14,10 @@ pub record Kind (E P : Type 0) : Type 0 where
 
 module _ {E P : Type 0} (K : Kind E P) where
   -- e before d, joined with d, or behind it among the others, by how e's key stands to d's; `others` is what e makes of those
-  unfoldable pub insert : Order → E → E → List E → List E → List E
+  unfoldable pub insert : Ordering → E → E → List E → List E → List E
   insert Less e d l others = e ∷ d ∷ l
-  insert Same e d l others = K.make (K.key d) (K.join (K.load e) (K.load d)) ∷ l
-  insert More e d l others = d ∷ others
+  insert Equal e d l others = K.make (K.key d) (K.join (K.load e) (K.load d)) ∷ l
+  insert Greater e d l others = d ∷ others
 
   -- an entry put in its place
   unfoldable pub put : E → List E → List E
@@ -31,10 +31,10 @@ module _ {E P : Type 0} (K : Kind E P) where
 
   -- ---- two lists in one pass over both, the smaller of the two first entries coming next, or both as one; it is their union where the second ascends
   -- what comes next, by how x's key stands to y's; the three lists are what is made of the rest where x is used up, where both are, and where y is
-  unfoldable pub taken : Order → E → E → List E → List E → List E → List E
+  unfoldable pub taken : Ordering → E → E → List E → List E → List E → List E
   taken Less x y first both second = x ∷ first
-  taken Same x y first both second = K.make (K.key x) (K.join (K.load y) (K.load x)) ∷ both
-  taken More x y first both second = y ∷ second
+  taken Equal x y first both second = K.make (K.key x) (K.join (K.load y) (K.load x)) ∷ both
+  taken Greater x y first both second = y ∷ second
 
   -- x, and what follows it, against the second list; `others` is what those that follow it make of what is left of that
   unfoldable pub against : E → (List E → List E) → List E → List E

@@ -2,12 +2,14 @@
 pub mod Slots
 pub mod Records
 pub mod Keeping
+pub mod Additions
 pub mod Uniting
 pub mod Misplaced
 pub mod Encoding
 pub mod Matching
 pub mod Texts
 mod Places
+mod Chains
 mod Placing
 mod Listing
 mod Examples

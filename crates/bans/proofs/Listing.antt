@@ -1,12 +1,13 @@
 -- A list's bytes and its rooms: the rooms one behind the other are the bytes, and a room put between others is what `with_rooms` says. Assumes nothing.
 use mathlib.Core.Path.{◌≡◌, refl, sym, ap, ap₂, ◌∙◌}
-use mathlib.Core.Bool.{true, false, cond}
+use mathlib.Core.Bool.{true, false}
 use mathlib.Core.List.{List, [], ◌∷◌, ◌++◌, append_assoc}
 use Prim.Native.Nat.{ℕ, zero, suc, ◌+◌, ◌*◌, ◌-◌, ◌≤◌, ◌<◌}
 use native.Mathlib.Omega.{arith}
 use lib.ListN.{length, take, drop, set, length-append, length-take, length-drop, take-append-drop}
 use lib.Seq.{take_all, take-add, take-take, drop_at, length-take-le, take-append-add}
 use borrow.Author.Tests.{le-leb, lt-leb}
+use Rattle.std.specs.Prelude.{Ok, Err}
 use Rattle.laws.specs.Joins.{concatenated}
 use Rattle.laws.proofs.Lists.{drop-behind}
 use Rattle.laws.proofs.Joins.{concatenated-append}
@@ -15,7 +16,6 @@ use Rattle.octets.proofs.Room.{part-front, part-next}
 use Rattle.ascending.specs.Ascending.{put}
 use Rattle.channel.specs.Limits.{mask_limit, ban_limit}
 use Rattle.bans.specs.declared.BanList.{BanList}
-use Rattle.bans.specs.declared.order.Place.{Place}
 use Rattle.bans.specs.Limits.{room_size, rooms_size, list_size}
 use Rattle.bans.specs.Masks.{room_of, by_fold, chunks, rooms, mask_count, used_rooms}
 use Rattle.bans.specs.Putting.{put_in, with_rooms, addition, put_answer}
@@ -124,7 +124,7 @@ with-spliced (x ∷ t) i m = λ e h k.
     ∙ ap (λ (l : List ℕ). take rooms_size (concatenated (take i (take (mask_count (x ∷ t)) (chunks ban_limit t)) ++ room_of m ∷ drop i (take (mask_count (x ∷ t)) (chunks ban_limit t))) ++ l)) (sym (drop-behind x t (room_size * mask_count (x ∷ t)))))
 
 -- ---- the answers of `put`
-module _ (m : List ℕ) (b : BanList) (p : List ℕ) (r : Place) (size : length b.room ≡ list_size) (is : p ≡ part m 0 mask_limit) (placed : PlacedIn (room_of p) (used_rooms b.room) r) where
+module _ (m : List ℕ) (b : BanList) (p : List ℕ) (size : length b.room ≡ list_size) (is : p ≡ part m 0 mask_limit) where
   abbrev s : List ℕ
   s = b.room
 
@@ -132,30 +132,30 @@ module _ (m : List ℕ) (b : BanList) (p : List ℕ) (r : Place) (size : length 
   same-room = ap room_of (is ∙ part-front m mask_limit) ∙ room_cut m
 
   -- its fold is there: the list as it is, with the number of its masks
-  pub answered-there : (n : ℕ) → r.there ≡ true → n ≡ mask_count b.room → addition false (set b.room 0 n) ≡ put_answer m b
+  pub answered-there : (i n : ℕ) → PlacedIn (room_of p) (used_rooms b.room) (Ok i) → n ≡ mask_count b.room → addition false (set b.room 0 n) ≡ put_answer m b
   unfolding put_answer put_in
-  answered-there n t e =
-      let q : put by_fold (room_of m) (used_rooms s) ≡ used_rooms s = ap (λ (x : List ℕ). put by_fold x (used_rooms s)) (sym same-room) ∙ placed.is ∙ rw t in
+  answered-there i n placed e =
+      let q : put by_fold (room_of m) (used_rooms s) ≡ used_rooms s = ap (λ (x : List ℕ). put by_fold x (used_rooms s)) (sym same-room) ∙ placed.is in
       rw (q, le-leb (length (used_rooms s)) ban_limit (omega (arith, length-used s, count_room s)), e) (ap (addition false) (with-same s size))
 
-  module _ (t : r.there ≡ false) where
-    fresh : put by_fold (room_of m) (used_rooms s) ≡ take r.at (used_rooms s) ++ room_of m ∷ drop r.at (used_rooms s)
+  module _ (at : ℕ) (placed : PlacedIn (room_of p) (used_rooms b.room) (Err at)) where
+    fresh : put by_fold (room_of m) (used_rooms s) ≡ take at (used_rooms s) ++ room_of m ∷ drop at (used_rooms s)
     fresh =
-        let q : cond r.there (used_rooms s) (take r.at (used_rooms s) ++ room_of p ∷ drop r.at (used_rooms s)) ≡ take r.at (used_rooms s) ++ room_of p ∷ drop r.at (used_rooms s) = rw t in
-        ap (λ (x : List ℕ). put by_fold x (used_rooms s)) (sym same-room) ∙ placed.is ∙ q
-        ∙ ap (λ (x : List ℕ). take r.at (used_rooms s) ++ x ∷ drop r.at (used_rooms s)) same-room
+        ap (λ (x : List ℕ). put by_fold x (used_rooms s)) (sym same-room)
+        ∙ placed.is
+        ∙ ap (λ (x : List ℕ). take at (used_rooms s) ++ x ∷ drop at (used_rooms s)) same-room
 
-    one-longer : length (take r.at (used_rooms s) ++ room_of m ∷ drop r.at (used_rooms s)) ≡ mask_count s + 1
-    one-longer = omega (arith, length-append (take r.at (used_rooms s)) (room_of m ∷ drop r.at (used_rooms s)), length-take r.at (used_rooms s), length-drop r.at (used_rooms s), length-used s, placed.inside)
+    one-longer : length (take at (used_rooms s) ++ room_of m ∷ drop at (used_rooms s)) ≡ mask_count s + 1
+    one-longer = omega (arith, length-append (take at (used_rooms s)) (room_of m ∷ drop at (used_rooms s)), length-take at (used_rooms s), length-drop at (used_rooms s), length-used s, placed.inside)
 
     -- it is not there, and there is no room
     pub answered-full : mask_count b.room ≡ ban_limit → addition true b.room ≡ put_answer m b
     unfolding put_answer put_in
-    answered-full e = rw (fresh, lt-leb (length (take r.at (used_rooms s) ++ room_of m ∷ drop r.at (used_rooms s))) ban_limit (omega (arith, one-longer)))
+    answered-full e = rw (fresh, lt-leb (length (take at (used_rooms s) ++ room_of m ∷ drop at (used_rooms s))) ban_limit (omega (arith, one-longer)))
 
     -- it is not there, and is put in its place
-    pub answered-put : (x : List ℕ) → mask_count b.room < ban_limit → x ≡ set (spliced b.room r.at p) 0 (mask_count b.room + 1) → addition false x ≡ put_answer m b
+    pub answered-put : (x : List ℕ) → mask_count b.room < ban_limit → x ≡ set (spliced b.room at p) 0 (mask_count b.room + 1) → addition false x ≡ put_answer m b
     unfolding put_answer put_in spliced
     answered-put x h e =
-        rw (fresh, le-leb (length (take r.at (used_rooms s) ++ room_of m ∷ drop r.at (used_rooms s))) ban_limit (omega (arith, one-longer)))
-        (ap (addition false) (e ∙ rw same-room (with-spliced s r.at m size h (omega (arith, placed.inside, length-used s)))))
+        rw (fresh, le-leb (length (take at (used_rooms s) ++ room_of m ∷ drop at (used_rooms s))) ban_limit (omega (arith, one-longer)))
+        (ap (addition false) (e ∙ rw same-room (with-spliced s at m size h (omega (arith, placed.inside, length-used s)))))

@@ -1,18 +1,19 @@
 -- A room put among others from the front: it goes behind those that come before it. The room of a mask holds the mask. Assumes nothing.
 use mathlib.Core.Path.{◌≡◌, sym, ap, ap₂, ◌∙◌}
-use mathlib.Core.Bool.{true, false}
-use mathlib.Core.List.{List, [], ◌∷◌, ◌++◌}
+use mathlib.Core.List.{List, [], ◌∷◌, ◌++◌, append_assoc, append-nil}
 use Prim.Native.Nat.{ℕ, suc, ◌+◌, ◌*◌, ◌-◌, ◌≤◌, ◌<◌}
 use native.Mathlib.Omega.{arith}
 use lib.ListN.{length, take, drop, replicate, set, take-append-drop, drop_of_length-le, length-take, length-replicate}
-use lib.Seq.{take-take, take_all, append_snoc}
+use lib.Seq.{paste, take-take, take_all, take-append-le, drop-drop, drop_at, length-take-le, append_snoc}
+use borrow.Rule.Slice.PartMut.{put_mid}
+use Rattle.std.specs.Prelude.{Ok, Err}
 use Rattle.laws.specs.Lists.{padded}
 use Rattle.laws.proofs.Lists.{take_next, drop-next, take-padded, padded-cut, length-padded}
-use Rattle.octets.specs.declared.Order.TheVariants.{Less, Same, More}
+use Rattle.std.specs.declared.cmp.Ordering.TheVariants.{Less, Equal, Greater}
 use Rattle.octets.specs.Order.{compare}
 use Rattle.octets.specs.Room.{part, put_at}
 use Rattle.octets.proofs.Ordered.{compare_same, more-below}
-use Rattle.octets.proofs.Room.{part-next, length_part, part-short, put-fits, put_front, put-padded, put_three}
+use Rattle.octets.proofs.Room.{part-front, part-next, part-short, put-fits, put_front, put-padded}
 use Rattle.ascending.specs.Ascending.{put}
 use Rattle.ascending.proofs.Ascends.{put-less, put_same, put-more, put_front as put_last}
 use Rattle.channel.specs.Limits.{mask_limit, ban_limit}
@@ -62,7 +63,7 @@ module _ (e : List ℕ) (l : List (List ℕ)) where
       here = p ∙ ap (λ (x : List (List ℕ)). take i l ++ put by_fold e x) at
 
       -- it goes behind one that comes before it too
-      pub passed-more : compare (by_fold.key e) (by_fold.key d) ≡ More → Behind (i + 1)
+      pub passed-more : compare (by_fold.key e) (by_fold.key d) ≡ Greater → Behind (i + 1)
       passed-more o =
           here
           ∙ ap (◌++◌ (take i l)) (put-more by_fold e d r (more-below (by_fold.key e) (by_fold.key d) o))
@@ -71,21 +72,21 @@ module _ (e : List ℕ) (l : List (List ℕ)) where
           ∙ ap (λ (x : List (List ℕ)). take (i + 1) l ++ put by_fold e x) (sym (drop-next l i d r at))
 
       -- its place is before one that it comes before
-      pub placed_less : i ≤ length l → compare (by_fold.key e) (by_fold.key d) ≡ Less → PlacedIn e l (record { at = i; there = false })
+      pub placed_less : i ≤ length l → compare (by_fold.key e) (by_fold.key d) ≡ Less → PlacedIn e l (Err i)
       placed_less h o = record {
         inside = h;
         is = here ∙ ap (◌++◌ (take i l)) (put-less by_fold e d r o ∙ ap (◌∷◌ e) (sym at));
       }
 
       -- one with its fold is there
-      pub placed_same : i ≤ length l → compare (by_fold.key e) (by_fold.key d) ≡ Same → PlacedIn e l (record { at = i; there = true })
+      pub placed_same : i ≤ length l → compare (by_fold.key e) (by_fold.key d) ≡ Equal → PlacedIn e l (Ok i)
       placed_same h o = record {
         inside = h;
         is = here ∙ ap (◌++◌ (take i l)) (put_same by_fold e d r (compare_same (by_fold.key e) (by_fold.key d) o) ∙ sym at) ∙ take-append-drop i l;
       }
 
     -- its place is behind them all
-    pub placed-last : (n : ℕ) → length l ≤ i → n ≡ length l → PlacedIn e l (record { at = n; there = false })
+    pub placed-last : (n : ℕ) → length l ≤ i → n ≡ length l → PlacedIn e l (Err n)
     placed-last n h q = record {
       inside = omega arith;
       is =
@@ -99,15 +100,31 @@ module _ (e : List ℕ) (l : List (List ℕ)) where
 pub cut_short : (m p : List ℕ) → p ≡ part m 0 mask_limit → length p ≤ mask_limit
 cut_short m p e = omega (arith, ap (λ (l : List ℕ). length l) e, part-short m 0 mask_limit)
 
--- the first i rooms, the mask's, and the others, put one behind the other
-module _ (s m : List ℕ) (i : ℕ) (size : length s ≡ list_size) (h : i < ban_limit) (p q r x y w : List ℕ) where
-  -- three parts put into zero room
-  pub made-spliced : p ≡ part s 0 (1 + room_size * i) → q ≡ room_of m → r ≡ part s (1 + room_size * i) (list_size - room_size)
-      → x ≡ put_at (replicate list_size 0) 0 p → y ≡ put_at x (1 + room_size * i) q → w ≡ put_at y (1 + room_size * i + room_size) r → w ≡ spliced s i m
-  unfolding spliced
-  made-spliced ep eq er ex ey ew =
-      let lp : length p ≡ 1 + room_size * i = omega (arith, ap (λ (l : List ℕ). length l) ep, length_part s 0 (1 + room_size * i) (omega arith)) in
-      let lq : length q ≡ room_size = ap (λ (l : List ℕ). length l) eq ∙ length-room m in
-      let lr : length r ≡ list_size - room_size - (1 + room_size * i) = ap (λ (l : List ℕ). length l) er ∙ length_part s (1 + room_size * i) (list_size - room_size) (omega arith) in
-      put_three (replicate list_size 0) p q r x y w (1 + room_size * i) (1 + room_size * i + room_size) (omega arith) (omega arith) (omega (arith, length-replicate {A = ℕ} list_size 0)) ex ey ew
-      ∙ ap₂ (λ (a b : List ℕ). a ++ b) (ap₂ (λ (a b : List ℕ). a ++ b) ep eq) er
+-- the rooms from i on moved up by one, and the mask's put in the place that is free
+pub made-spliced : (s m r w : List ℕ) (i : ℕ) → length s ≡ list_size → i < ban_limit → r ≡ room_of m
+    → w ≡ paste s (1 + room_size * i + room_size) (drop (1 + room_size * i) s) (list_size - room_size - (1 + room_size * i))
+    → put_mid (1 + room_size * i) (1 + room_size * i + room_size - (1 + room_size * i)) w r ≡ spliced s i m
+unfolding spliced part
+made-spliced s m r w i size h er ew =
+    let st : ℕ = 1 + room_size * i in
+    let n : ℕ = list_size - room_size - (1 + room_size * i) in
+    let moved : List ℕ = take (list_size - room_size - (1 + room_size * i)) (drop (1 + room_size * i) s) in
+    let kept : List ℕ = take (1 + room_size * i + room_size) s in
+    let len : length (take (1 + room_size * i + room_size) s) ≡ 1 + room_size * i + room_size = length-take-le (1 + room_size * i + room_size) s (omega arith) in
+    let past : drop (1 + room_size * i + room_size + (list_size - room_size - (1 + room_size * i))) s ≡ [] = drop_of_length-le s (omega arith) in
+    let is : w ≡ take (1 + room_size * i + room_size) s ++ take (list_size - room_size - (1 + room_size * i)) (drop (1 + room_size * i) s) =
+    ew ∙ ap (λ (l : List ℕ). take (1 + room_size * i + room_size) s ++ take (list_size - room_size - (1 + room_size * i)) (drop (1 + room_size * i) s) ++ l) past ∙ append-nil _ in
+    let front : take (1 + room_size * i) w ≡ take (1 + room_size * i) s =
+    ap (take (1 + room_size * i)) is
+    ∙ take-append-le (1 + room_size * i) (take (1 + room_size * i + room_size) s) (take (list_size - room_size - (1 + room_size * i)) (drop (1 + room_size * i) s)) (omega arith)
+    ∙ take-take (1 + room_size * i) (1 + room_size * i + room_size) s (omega arith) in
+    let e : 1 + room_size * i + (1 + room_size * i + room_size - (1 + room_size * i)) ≡ 1 + room_size * i + room_size = omega arith in
+    let back : drop (1 + room_size * i + room_size - (1 + room_size * i)) (drop (1 + room_size * i) w) ≡ take (list_size - room_size - (1 + room_size * i)) (drop (1 + room_size * i) s) =
+    drop-drop (1 + room_size * i + room_size - (1 + room_size * i)) (1 + room_size * i) w
+    ∙ ap (λ (k : ℕ). drop k w) e
+    ∙ ap (drop (1 + room_size * i + room_size)) is
+    ∙ drop_at (take (1 + room_size * i + room_size) s) (take (list_size - room_size - (1 + room_size * i)) (drop (1 + room_size * i) s)) (1 + room_size * i + room_size) len in
+    ap₂ (λ (a b : List ℕ). a ++ (r ++ b)) front back
+    ∙ sym (append_assoc (take (1 + room_size * i) s) r (take (list_size - room_size - (1 + room_size * i)) (drop (1 + room_size * i) s)))
+    ∙ ap (λ (b : List ℕ). take (1 + room_size * i) s ++ b ++ take (list_size - room_size - (1 + room_size * i)) (drop (1 + room_size * i) s)) er
+    ∙ ap (λ (a : List ℕ). a ++ room_of m ++ take (list_size - room_size - (1 + room_size * i)) (drop (1 + room_size * i) s)) (sym (part-front s (1 + room_size * i)))

@@ -1,14 +1,23 @@
 -- Masks added to a list, and two lists united (document 02, §2: masks are added, equal folds once in the first spelling, up to 32 a channel). Any bytes are taken
 -- for a list. Of a well-formed one and masks it is `unite by_spelling`, and full exactly if over 32 would result: `put_full`, `put_keeps` (proofs/Keeping.antt),
 -- `add-full`, `add-list`, `unite-list` (proofs/Uniting.antt).
-use Rattle.std.specs.Prelude.{Bool, true, false, cond, List, [], ◌∷◌, ◌++◌, ℕ, ◌+◌, ◌*◌, length, take, drop, leb}
+use Rattle.std.specs.Prelude.{Bool, true, false, cond, Option, Some, None, List, [], ◌∷◌, ◌++◌, ℕ, ◌+◌, ◌*◌, length, take, drop, leb}
 use Rattle.laws.specs.Joins.{concatenated}
 use Rattle.ascending.specs.Ascending.{put}
 use Rattle.channel.specs.Limits.{ban_limit}
 use Rattle.bans.specs.declared.BanList.{BanList}
-use Rattle.bans.specs.declared.Added.{Added}
 use Rattle.bans.specs.Limits.{room_size, rooms_size}
 use Rattle.bans.specs.Masks.{room_of, by_fold, mask_count, used_rooms, masks}
+
+-- Whether more masks would result than a list has room for, and the list after, which is then the one given.
+pub record Added : Type 0 where
+  pub full : Bool
+  pub list : BanList
+
+-- what the code answers of the list b, which says None where there is no room
+abbrev pub added : BanList → Option BanList → Added
+added b (Some l) = record { full = false; list = l }
+added b None = record { full = true; list = b }
 
 -- the rooms in use, with that of a mask in its place
 unfoldable pub put_in : List ℕ → List ℕ → List (List ℕ)

@@ -11,15 +11,15 @@ ghost use Rattle.octets.specs.Room.{place_in};
 ghost use Rattle.bans.specs.Limits.{room_size, list_size, bans_size};
 ghost use Rattle.bans.specs.Masks.{is_mask, masks, mask_start};
 ghost use Rattle.bans.specs.WellFormed.{well_formed_list, good_list};
-ghost use Rattle.bans.specs.Putting.{put_answer, unite_answer};
+ghost use Rattle.bans.specs.Putting.{added, put_answer, unite_answer};
 ghost use Rattle.bans.specs.Slots.{offset as offset_of, list_at, list_of, stored, empty_list};
 ghost use Rattle.bans.specs.Records.{well_formed_whole};
 ghost use Rattle.bans.specs.Matching.{some_matches};
 
 use channel::Record;
-use octets::{Class, all_in, lesser, part, zero_from};
+use octets::{Class, all_in, part, zero_from};
 use order::{ascending, place_for};
-use rooms::{good_rooms, inserted, mask_count, mask_in, room_at};
+use rooms::{good_rooms, inserted, mask_count, mask_in, room_at, used_rooms};
 
 // A list, held whole.
 #[repr(C)]
@@ -49,14 +49,6 @@ impl BanList {
     }
 }
 
-// Whether more masks would result than a list has room for, and the list after, which is then the one given.
-#[repr(C)]
-#[derive(Clone, Copy)]
-pub struct Added {
-    pub full: bool,
-    pub list: BanList,
-}
-
 // A channel's record with its ban list: what document 02 calls a record.
 #[repr(C)]
 #[derive(Clone, Copy)]
@@ -66,97 +58,63 @@ pub struct WholeRecord {
 }
 
 // Whether the bytes are a mask: 1 to 100 bytes, none of them SPACE, NUL, CR or LF.
+#[tactic(auto, unfolding(crate::specs::Masks::is_mask))]
 pub fn is_mask(m: &[u8]) -> bool
     ensures { result ≡ is_mask m.now }
 {
-    if m.len() == 0 {
-        return false;
-    }
-    if Record::MASK < m.len() {
-        return false;
-    }
-    if !all_in(m, Class::Plain) {
-        return false;
-    }
-    all_in(m, Class::NonSpace)
+    !m.is_empty()
+        && m.len() <= Record::MASK
+        && all_in(m, Class::Plain)
+        && all_in(m, Class::NonSpace)
 }
 
-// The list with a mask in its place; where its fold is there already, the spelling stays. A mask over 100 bytes is cut.
-pub fn put(b: BanList, m: &[u8]) -> Added
-    ensures { result ≡ put_answer m.now b }
+// The list with a mask in its place; where its fold is there already, the spelling stays. A mask over 100 bytes is cut. None where more masks would result than a
+// list has room for.
+pub fn put(b: BanList, m: &[u8]) -> Option<BanList>
+    ensures { added b result ≡ put_answer m.now b }
 {
-    let room = b.room;
     let mask = part(m, 0, Record::MASK);
-    let n = mask_count(&room);
-    let p = place_for(&room, mask);
-    if p.there {
-        let mut same = room;
-        same[0] = n as u8;
-        let list = BanList { room: same };
-        return Added { full: false, list };
+    let n = mask_count(&b.room);
+    match place_for(&b.room, mask) {
+        Ok(_) => {
+            let mut same = b;
+            same.room[0] = n as u8;
+            Some(same)
+        }
+        Err(_) if n == Record::MASKS => None,
+        Err(at) => Some(inserted(b, at, mask)),
     }
-    if n == Record::MASKS {
-        return Added {
-            full: true,
-            list: b,
-        };
-    }
-    let next = inserted(&room, p.at, mask);
-    let list = BanList { room: next };
-    Added { full: false, list }
 }
 
-// The first list with the masks of the second, one after the other.
-pub fn unite(a: BanList, b: BanList) -> Added
-    ensures { result ≡ unite_answer a b }
+// The first list with the masks of the second, one after the other. None where more masks would result than a list has room for.
+pub fn unite(a: BanList, b: BanList) -> Option<BanList>
+    ensures { added a result ≡ unite_answer a b }
 {
-    let other = b.room;
-    let n = mask_count(&other);
     let mut list = a;
-    let mut i = 0;
-    while i < n {
-        let r = put(list, mask_in(room_at(&other, i)));
-        if r.full {
-            return Added {
-                full: true,
-                list: a,
-            };
-        }
-        list = r.list;
-        i += 1;
+    for room in used_rooms(&b.room) {
+        list = put(list, mask_in(room))?;
     }
-    Added { full: false, list }
+    Some(list)
 }
 
 // Whether the bytes are a list: at most 32 masks whose folds ascend, unused room zero.
+#[tactic(auto, using(crate::proofs::Places::count_room), unfolding(crate::specs::WellFormed::well_formed_list, laws::specs::Lists::all))]
 pub fn is_well_formed(s: &[u8]) -> bool
     ensures { result ≡ well_formed_list s.now }
 {
-    if s.len() != BanList::LIST {
-        return false;
-    }
-    if Record::MASKS < rooms::wide(s[0]) {
-        return false;
-    }
-    let n = mask_count(s);
-    if !zero_from(s, 1 + BanList::ROOM * n) {
-        return false;
-    }
-    if !good_rooms(s, n) {
-        return false;
-    }
-    ascending(s, n)
+    s.len() == BanList::LIST
+        && usize::from(s[0]) <= Record::MASKS
+        && zero_from(s, 1 + BanList::ROOM * mask_count(s))
+        && good_rooms(s)
+        && ascending(s)
 }
 
 // Whether a record and its list are both well formed.
+#[tactic(auto, unfolding(crate::specs::Records::well_formed_whole))]
 pub fn is_whole(w: WholeRecord) -> bool
     ensures { result ≡ well_formed_whole w }
 {
-    if !channel::is_well_formed(w.record) {
-        return false;
-    }
-    let room = w.bans.room;
-    is_well_formed(&room)
+    channel::is_well_formed(w.record) && is_well_formed(&w.bans.room)
 }
 
 // How many masks the list has.
@@ -171,33 +129,25 @@ pub fn mask_at(s: &[u8], i: usize) -> &[u8]
     ensures bytes { result.now ≡ get_or (masks s.now) i [] }
     ensures place { result.ref_ptr ≡ place_in s.entry (mask_start s.now i) }
 {
-    if mask_count(s) <= i {
-        return part(s, 0, 0);
+    if i < mask_count(s) {
+        mask_in(room_at(s, i))
+    } else {
+        &s[..0]
     }
-    mask_in(room_at(s, i))
 }
 
 // Whether some mask of the list matches the text.
 pub fn some_matches(s: &[u8], text: &[u8]) -> bool
     ensures { result ≡ some_matches text.now (masks s.now) }
 {
-    let n = mask_count(s);
-    let mut i = 0;
-    while i < n {
-        let m = glob::matches(mask_in(room_at(s, i)), text);
-        if m.yes {
-            return true;
-        }
-        i += 1;
-    }
-    false
+    used_rooms(s).any(|room| glob::matches(mask_in(room), text).yes)
 }
 
 // Where list k begins; where there is no such list, behind them all.
 fn offset(k: usize) -> usize
     ensures { result ≡ offset_of k }
 {
-    BanList::LIST * lesser(k, Record::SLOTS)
+    BanList::LIST * k.min(Record::SLOTS)
 }
 
 // The bytes of list k, as that part of the lent ones; past the sixteenth, what lies behind the lists, which of BANS bytes is nothing.
@@ -222,8 +172,7 @@ pub fn load(bans: &[u8], k: usize) -> BanList
 pub fn store(bans: &mut [u8], k: usize, list: BanList)
     ensures { bans.new ≡ stored bans.old k list }
 {
-    let room = list.room;
-    octets::put(bans, offset(k), &room);
+    octets::put(bans, offset(k), &list.room);
 }
 
 // Puts the list without masks in the place of list k, where there is room for it. All other bytes stay.
@@ -237,23 +186,18 @@ pub fn clear(bans: &mut [u8], k: usize)
 pub fn clear_all(bans: &mut [u8])
     ensures { bans.new ≡ replicate (length bans.old) 0 }
 {
-    let mut i = 0;
-    while i < bans.len() {
-        bans[i] = 0;
-        i += 1;
-    }
+    bans.fill(0);
 }
 
 // Whether list k is well formed, or, where its slot isn't used, its room zero.
+#[tactic(auto, unfolding(crate::specs::WellFormed::good_list, crate::specs::WellFormed::is_unused))]
 pub fn is_good(bans: &[u8], k: usize, used: bool) -> bool
     ensures { result ≡ good_list used (list_at bans.now k) }
 {
     let s = list_at(bans, k);
     if used {
-        return is_well_formed(s);
+        is_well_formed(s)
+    } else {
+        s.len() == BanList::LIST && zero_from(s, 0)
     }
-    if s.len() != BanList::LIST {
-        return false;
-    }
-    zero_from(s, 0)
 }

@@ -1,26 +1,28 @@
 -- Laws of a list of masks: its type, and what is known of it when it is read word by word. Assumes nothing.
 use Prim.Native.Nat.{ℕ, ◌≤◌, ◌<◌}
-use mathlib.Core.Path.{◌≡◌, sym, ap, ◌∙◌}
-use mathlib.Core.Bool.{true, false, not, ◌&&◌, and-true, and-false}
+use mathlib.Core.Path.{◌≡◌, refl, sym, ap, ◌∙◌}
+use mathlib.Core.Bool.{Bool, true, false, not, ◌&&◌, and-false}
 use mathlib.Core.List.{List, [], ◌∷◌}
 use native.Mathlib.Omega.{arith}
-use lib.ListN.{length, get_or}
+use lib.ListN.{length}
 use lib.Dec.{eqb}
+use lib.Pointwise.{pointwise}
 use Rattle.laws.specs.Lists.{all, is_nil, same_by, same}
 use Rattle.octets.specs.Room.{part}
 use Rattle.bans.specs.Masks.{is_mask}
 use Rattle.message.specs.declared.Span.{Span}
 use Rattle.message.specs.Words.{next_word}
 use Rattle.message.proofs.Splits.{next-in, left, left-none, left-some, left-next}
-use Rattle.bmask.specs.Masks.{ban_type, listed, good_masks}
+use Rattle.bmask.specs.Masks.{listed, good_masks}
 
 -- ---- the type
--- one byte is the type exactly if it is that of bans
-pub type-byte : (s : List ℕ) → length s ≡ 1 → eqb (get_or s 0 0) 98 ≡ same s ban_type
+-- the library's test of two lists
+pub pointwise_same : (s t : List ℕ) → pointwise eqb s t ≡ same s t
 unfolding same_by
-type-byte [] h = absurd (omega arith)
-type-byte (x ∷ []) h = sym (and-true (eqb x 98))
-type-byte (x ∷ y ∷ s) h = absurd (omega arith)
+pointwise_same [] [] = refl
+pointwise_same [] (y ∷ t) = refl
+pointwise_same (x ∷ s) [] = refl
+pointwise_same (x ∷ s) (y ∷ t) = ap (λ (b : Bool). eqb x y && b) (pointwise_same s t)
 
 -- ---- word by word
 -- a span ends within the list, unless it stands at the end

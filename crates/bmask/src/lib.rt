@@ -5,11 +5,11 @@
 ghost use Rattle.std.specs.Prelude.{◌≡◌};
 ghost use Rattle.refusal.specs.Rules.{first_of};
 ghost use Rattle.laws.specs.Lists.{same};
-ghost use Rattle.bans.specs.Putting.{add_answer};
+ghost use Rattle.bans.specs.Putting.{added, add_answer};
 ghost use Rattle.message.specs.Parts.{content_by};
 ghost use Rattle.bmask.specs.Masks.{ban_type, listed, good_masks, bmask_rules, listing_in};
 
-use bans::{Added, BanList, is_mask, put};
+use bans::{BanList, is_mask, put};
 use message::spans::{param_in, prefix_in};
 use message::{Message, next_word};
 use names::is_server_id;
@@ -37,10 +37,7 @@ pub struct Listing {
 fn is_ban(kind: &[u8]) -> bool
     ensures { result ≡ same kind.now ban_type }
 {
-    if kind.len() != 1 {
-        return false;
-    }
-    kind[0] == b'b'
+    kind == b"b".as_slice()
 }
 
 // Whether a list is good: one mask or more, and nothing else. No word is looked at behind one that is no mask.
@@ -95,22 +92,15 @@ pub fn read_message(text: &[u8], m: Message) -> Listing
     Listing { number, time }
 }
 
-// A channel's list with the masks of a line's list, one after the other; as given, where over 32 would result.
-pub fn add_listed(list: BanList, text: &[u8]) -> Added
-    ensures { result ≡ add_answer (listed text.now) list }
+// A channel's list with the masks of a line's list, one after the other. None where over 32 would result.
+pub fn add_listed(list: BanList, text: &[u8]) -> Option<BanList>
+    ensures { added list result ≡ add_answer (listed text.now) list }
 {
     let mut sofar = list;
     let mut word = next_word(text, 0);
     while word.start != text.len() {
-        let r = put(sofar, part(text, word.start, word.end));
-        if r.full {
-            return Added { full: true, list };
-        }
-        sofar = r.list;
+        sofar = put(sofar, part(text, word.start, word.end))?;
         word = next_word(text, word.end);
     }
-    Added {
-        full: false,
-        list: sofar,
-    }
+    Some(sofar)
 }

@@ -41,7 +41,6 @@ use glob::Match;
 use journal::{Logged, RecordRead};
 use merging::Merged;
 use message::Message;
-use octets::Order;
 use refusal::{ACCEPTED, NO_ROOM, NO_SUCH_CHANNEL, NOT_WELL_FORMED};
 use relay::Taken;
 use table::{Banned, Head, Registered, Slot};
@@ -130,11 +129,7 @@ pub extern "C" fn relay_match(mask: &[u8], text: &[u8]) -> Match
 pub extern "C" fn relay_key_less(a: &[u8], b: &[u8]) -> bool
     ensures { result ≡ is_less (compare_of a.now b.now) }
 {
-    match octets::compare(a, b) {
-        Order::Less => true,
-        Order::Same => false,
-        Order::More => false,
-    }
+    octets::compare(a, b).is_lt()
 }
 
 // Two records of one channel merged, with their ban lists.

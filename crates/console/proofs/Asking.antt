@@ -1,7 +1,7 @@
 -- Laws of requests: what each test of an input line says of what it asks for. Assumes nothing.
 use Prim.Native.Nat.{ℕ, zero, suc, ◌+◌, ◌-◌, ◌≤◌, ◌<◌}
 use mathlib.Core.Path.{◌≡◌, refl, sym, ap, ◌∙◌}
-use mathlib.Core.Bool.{Bool, true, false, cond}
+use mathlib.Core.Bool.{Bool, true, false, cond, true≢false}
 use mathlib.Core.Logic.{◌⊎◌, inl, inr}
 use mathlib.Core.List.{List, [], ◌∷◌}
 use native.Mathlib.Nat.{zero-add}
@@ -9,15 +9,20 @@ use native.Mathlib.Omega.{arith}
 use lib.ListN.{length, take, drop, get_or, length-drop}
 use lib.Dec.{eqb}
 use borrow.Author.Tests.{eq-eqb, ne_eqb, lt-ltb, le-ltb, le-leb, lt-leb, eqb-true}
-use Rattle.octets.specs.declared.Decimal.{Decimal}
-use Rattle.octets.specs.declared.Decimal.TheVariants.{Value, Malformed}
+use Rattle.std.specs.Prelude.{Option, Some, None}
 use Rattle.octets.specs.Bytes.{lf, cr, space, is_digit, within}
 use Rattle.laws.specs.Lists.{is_nil, all}
 use Rattle.octets.specs.Decimals.{is_decimal, decimal_up_to}
 use Rattle.octets.specs.Room.{part}
 use Rattle.octets.specs.Order.{compare}
 use Rattle.octets.specs.Search.{before}
-use Rattle.octets.specs.declared.Order.{Order}
+use Rattle.std.specs.declared.cmp.Ordering.{Ordering}
+use Rattle.std.specs.declared.cmp.Ordering.TheVariants.{Less, Equal, Greater}
+use Rattle.std.specs.Bool.{Decides}
+use Rattle.std.specs.Cmp.Lexicographic.{pointwise}
+use Rattle.std.proofs.lemmas.Bool.Decides.{Decides-eqb}
+use Rattle.std.proofs.lemmas.Slice.Eq.{slice_eq-Decides}
+use Rattle.octets.proofs.Ordered.{compare_refl, compare_same}
 use Rattle.laws.proofs.Lists.{nil-length}
 use Rattle.octets.proofs.Room.{part-front, part-back}
 use Rattle.octets.proofs.Search.{before-within}
@@ -62,10 +67,10 @@ module _ (s : List ℕ) where
         ap (part s 0) (sym none) ∙ ended-lf ne
 
 -- ---- the number of a link
-pub asks-link : (f : ℕ → Request) (d : Decimal) (link : ℕ) → d ≡ Value link → f link ≡ numbered f d
+pub asks-link : (f : ℕ → Request) (d : Option ℕ) (link : ℕ) → d ≡ Some link → f link ≡ numbered f d
 asks-link f d link e = rw e
 
-pub asks_none : (f : ℕ → Request) (d : Decimal) → d ≡ Malformed → Unknown ≡ numbered f d
+pub asks_none : (f : ℕ → Request) (d : Option ℕ) → d ≡ None → Unknown ≡ numbered f d
 asks_none f d e = rw e
 
 -- ---- the table
@@ -79,7 +84,7 @@ asks-more s h = rw (nil-length s, ne_eqb (length s) 0 h)
 
 -- ---- a line from a link
 -- what begins with a SPACE is no number
-spaced-none : (s : List ℕ) (n : ℕ) → link_in (take n (space ∷ s)) ≡ Malformed
+spaced-none : (s : List ℕ) (n : ℕ) → link_in (take n (space ∷ s)) ≡ None
 unfolding decimal_up_to is_decimal all is_digit within
 spaced-none s zero = refl
 spaced-none s (suc n) = refl
@@ -108,7 +113,7 @@ spaced-asks s = rw (lt-ltb 0 (length (space ∷ s)) (omega arith))
 
 -- the word stands first, or a SPACE does
 abbrev Found : List ℕ → ℕ → Type 0
-Found s end = (end ≡ length (word s)) ⊎ ((Unknown ≡ taking_in s) × (link_in (part s 0 end) ≡ Malformed))
+Found s end = (end ≡ length (word s)) ⊎ ((Unknown ≡ taking_in s) × (link_in (part s 0 end) ≡ None))
 
 found : (s : List ℕ) (w : Span) → w ≡ next_word s 0 → Found s w.end
 unfolding spaces word
@@ -132,7 +137,7 @@ module _ (s : List ℕ) (w : Span) (is : w ≡ next_word s 0) where
       go (inr f) = f.0
 
   module _ (behind : w.end ≡ length s → ⊥) where
-    pub asks-take : (link : ℕ) → link_in (part s 0 w.end) ≡ Value link → Take link (w.end + 1) ≡ taking_in s
+    pub asks-take : (link : ℕ) → link_in (part s 0 w.end) ≡ Some link → Take link (w.end + 1) ≡ taking_in s
     unfolding taking_in
     asks-take link e = go (found s w is)
       where
@@ -142,7 +147,7 @@ module _ (s : List ℕ) (w : Span) (is : w ≡ next_word s 0) where
             rw (lt-ltb (length (word s)) (length s) (omega (arith, word_in s, behind)), sym (ap link_in text) ∙ e, f)
         go (inr f) = let q = f.1 in let z : ◌≡◌ {A = ℕ} 0 1 = cc in absurd (omega arith)
 
-    pub asks-other : link_in (part s 0 w.end) ≡ Malformed → Unknown ≡ taking_in s
+    pub asks-other : link_in (part s 0 w.end) ≡ None → Unknown ≡ taking_in s
     unfolding taking_in
     asks-other e = go (found s w is)
       where
@@ -175,10 +180,23 @@ module _ (s behind : List ℕ) (n : ℕ) (is : behind ≡ part s banned_length (
     unfolding question_in
     question-asks h = rw (← rest-behind, ← counts, lt-ltb n (length behind) inside, le-leb n name_room h)
 
--- the first word decides whether it is one
-pub worded-asks : (s p : List ℕ) → p ≡ part s 0 banned_length → (o : Order) → o ≡ compare p banned_word → questioned o (question_in s) (taking_in s) ≡ worded_in s
-unfolding worded_in
-worded-asks s p is o e = rw (e, is, part-front s banned_length)
+-- the bytes that the line begins with decide whether it is one
+module _ (s : List ℕ) (t : Bool) (is : t ≡ pointwise eqb banned_word (take banned_length s)) where
+  begins : Decides t (banned_word ≡ take banned_length s)
+  begins = slice_eq-Decides Decides-eqb banned_word (take banned_length s) t is
+
+  pub question-asked : t ≡ true → question_in s ≡ worded_in s
+  unfolding worded_in
+  question-asked e = rw (← begins.0 e, compare_refl banned_word)
+
+  pub line-asked : t ≡ false → taking_in s ≡ worded_in s
+  unfolding worded_in
+  line-asked e = go (compare (take banned_length s) banned_word) refl
+    where
+      go : (o : Ordering) → compare (take banned_length s) banned_word ≡ o → taking_in s ≡ questioned o (question_in s) (taking_in s)
+      go Less f = refl
+      go Equal f = absurd (true≢false (sym (begins.1 (sym (compare_same (take banned_length s) banned_word f))) ∙ e))
+      go Greater f = refl
 
 -- ---- by the first byte
 rest-is : (b : ℕ) (s : List ℕ) → part (b ∷ s) 1 (length (b ∷ s)) ≡ s

@@ -9,10 +9,9 @@ use lib.ListN.{length, take, drop, get_or, length-drop, length-take}
 use lib.Seq.{take_all, take-append-le, take-take, take-nil}
 use lib.Dec.{eqb, leb, ltb}
 use borrow.Author.Tests.{ne_eqb, lt-ltb, le-ltb, le-leb, lt-leb, ltb-true, ltb-false, leb-true, leb-false}
-use Rattle.octets.specs.declared.Decimal.{Decimal}
-use Rattle.octets.specs.declared.Decimal.TheVariants.{Value, Malformed}
-use Rattle.octets.specs.declared.Order.{Order}
-use Rattle.octets.specs.declared.Order.TheVariants.{Less, Same, More}
+use Rattle.std.specs.Prelude.{Option, Some, None}
+use Rattle.std.specs.declared.cmp.Ordering.{Ordering}
+use Rattle.std.specs.declared.cmp.Ordering.TheVariants.{Less, Equal, Greater}
 use Rattle.octets.specs.Bytes.{cr, space}
 use Rattle.octets.specs.Order.{compare}
 use Rattle.octets.specs.Search.{before}
@@ -45,14 +44,14 @@ pub pieces_kept : (pieces : List (List ℕ)) → kept_after [] pieces ≡ kept (
 pieces_kept pieces = pieces-behind [] pieces
 
 -- ---- what is longer than a number
-long-none : (s : List ℕ) → 9 < length s → link_in s ≡ Malformed
+long-none : (s : List ℕ) → 9 < length s → link_in s ≡ None
 long-none s h = go (link_in s) refl
   where
-    go : (d : Decimal) → link_in s ≡ d → link_in s ≡ Malformed
-    go (Value n) e =
+    go : (d : Option ℕ) → link_in s ≡ d → link_in s ≡ None
+    go (Some n) e =
         let r = decimal-read 999999999 n s e in
         absurd (omega (arith, h, ap (λ (l : List ℕ). length l) r.1, digits-within n 8 (omega (arith, r.0))))
-    go Malformed e = e
+    go None e = e
 
 pub ended-long : (s : List ℕ) → length s ≤ 2 + length (ended s)
 unfolding ended
@@ -164,8 +163,8 @@ long-asks [] = λ long. absurd (omega arith)
 long-asks (b ∷ s) = λ long.
     let k : List ℕ = take 572 s in
     let few : length k ≡ 572 = omega (arith, length-take 572 s) in
-    let kl : link_in (ended k) ≡ Malformed = long-none (ended k) (omega (arith, ended-long k)) in
-    let sl : link_in (ended s) ≡ Malformed = long-none (ended s) (omega (arith, ended-long s)) in
+    let kl : link_in (ended k) ≡ None = long-none (ended k) (omega (arith, ended-long k)) in
+    let sl : link_in (ended s) ≡ None = long-none (ended s) (omega (arith, ended-long s)) in
     let kn : is_nil (ended k) ≡ false = nil-length (ended k) ∙ ne_eqb (length (ended k)) 0 (λ e. omega (arith, ended-long k)) in
     let sn : is_nil (ended s) ≡ false = nil-length (ended s) ∙ ne_eqb (length (ended s)) 0 (λ e. omega (arith, ended-long s)) in
     rw (kl, sl, kn, sn) (ap (λ (r : Request). cond (eqb b plus) Unknown (cond (eqb b minus) Unknown (cond (eqb b question) Unknown r))) (kept-worded (b ∷ s) long))
@@ -182,13 +181,13 @@ take-start : (s : List ℕ) (link start : ℕ) → taking_in s ≡ Take link sta
 unfolding taking_in
 take-start s link start e = go (ltb (length (word s)) (length s)) refl (link_in (word s)) refl
   where
-    go : (t : Bool) → ltb (length (word s)) (length s) ≡ t → (d : Decimal) → link_in (word s) ≡ d → start ≤ 10
-    go true f (Value n) g =
+    go : (t : Bool) → ltb (length (word s)) (length s) ≡ t → (d : Option ℕ) → link_in (word s) ≡ d → start ≤ 10
+    go true f (Some n) g =
         let q : taking_in s ≡ Take n (length (word s) + 1) = rw (f, g) in
         let z : length (word s) + 1 ≡ start = cc in
         let r = decimal-read 999999999 n (word s) g in
         omega (arith, ap (λ (l : List ℕ). length l) r.1, digits-within n 8 (omega (arith, r.0)))
-    go true f Malformed g = let q : taking_in s ≡ Unknown = rw (f, g) in let z : ◌≡◌ {A = ℕ} 0 1 = cc in absurd (omega arith)
+    go true f None g = let q : taking_in s ≡ Unknown = rw (f, g) in let z : ◌≡◌ {A = ℕ} 0 1 = cc in absurd (omega arith)
     go false f d g = let q : taking_in s ≡ Unknown = rw f in let z : ◌≡◌ {A = ℕ} 0 1 = cc in absurd (omega arith)
 
 -- ---- what the first byte leaves to the words
@@ -217,13 +216,13 @@ is_question Nothing = false
 clash : {A : Type 0} {q r : Request} (p : Request → Bool) → q ≡ r → p r ≡ true → p q ≡ false → A
 clash p e w z = absurd (true≢false (sym w ∙ ap p (sym e) ∙ z))
 
-registers : (d : Decimal) → is_line (numbered Register d) || is_question (numbered Register d) ≡ false
-registers (Value n) = refl
-registers Malformed = refl
+registers : (d : Option ℕ) → is_line (numbered Register d) || is_question (numbered Register d) ≡ false
+registers (Some n) = refl
+registers None = refl
 
-drops : (d : Decimal) → is_line (numbered Unregister d) || is_question (numbered Unregister d) ≡ false
-drops (Value n) = refl
-drops Malformed = refl
+drops : (d : Option ℕ) → is_line (numbered Unregister d) || is_question (numbered Unregister d) ≡ false
+drops (Some n) = refl
+drops None = refl
 
 lists : (t : Bool) → is_line (cond t Channels Unknown) || is_question (cond t Channels Unknown) ≡ false
 lists true = refl
@@ -254,28 +253,28 @@ taking-takes : (s : List ℕ) → is_question (taking_in s) ≡ false
 unfolding taking_in
 taking-takes s = go (ltb (length (word s)) (length s)) (link_in (word s))
   where
-    go : (t : Bool) (d : Decimal) → is_question (cond t (numbered (λ link. Take link (length (word s) + 1)) d) Unknown) ≡ false
-    go true (Value n) = refl
-    go true Malformed = refl
+    go : (t : Bool) (d : Option ℕ) → is_question (cond t (numbered (λ link. Take link (length (word s) + 1)) d) Unknown) ≡ false
+    go true (Some n) = refl
+    go true None = refl
     go false d = refl
 
 worded-line : (s : List ℕ) (r : Request) → worded_in s ≡ r → is_line r ≡ true → taking_in s ≡ r
 unfolding worded_in
 worded-line s r e w = go (compare (take banned_length s) banned_word) refl
   where
-    go : (o : Order) → compare (take banned_length s) banned_word ≡ o → taking_in s ≡ r
-    go Same f = let q : question_in s ≡ worded_in s = rw f in clash is_line (q ∙ e) w (question-asks s)
+    go : (o : Ordering) → compare (take banned_length s) banned_word ≡ o → taking_in s ≡ r
+    go Equal f = let q : question_in s ≡ worded_in s = rw f in clash is_line (q ∙ e) w (question-asks s)
     go Less f = let q : taking_in s ≡ worded_in s = rw f in q ∙ e
-    go More f = let q : taking_in s ≡ worded_in s = rw f in q ∙ e
+    go Greater f = let q : taking_in s ≡ worded_in s = rw f in q ∙ e
 
 pub worded-question : (s : List ℕ) (r : Request) → worded_in s ≡ r → is_question r ≡ true → question_in s ≡ r
 unfolding worded_in
 worded-question s r e w = go (compare (take banned_length s) banned_word) refl
   where
-    go : (o : Order) → compare (take banned_length s) banned_word ≡ o → question_in s ≡ r
-    go Same f = let q : question_in s ≡ worded_in s = rw f in q ∙ e
+    go : (o : Ordering) → compare (take banned_length s) banned_word ≡ o → question_in s ≡ r
+    go Equal f = let q : question_in s ≡ worded_in s = rw f in q ∙ e
     go Less f = let q : taking_in s ≡ worded_in s = rw f in clash is_question (q ∙ e) w (taking-takes s)
-    go More f = let q : taking_in s ≡ worded_in s = rw f in clash is_question (q ∙ e) w (taking-takes s)
+    go Greater f = let q : taking_in s ≡ worded_in s = rw f in clash is_question (q ∙ e) w (taking-takes s)
 
 request-start : (s : List ℕ) (link start : ℕ) → request_in s ≡ Take link start → start ≤ 10
 request-start s link start e = take-start s link start (worded-line s (Take link start) (request-worded s (Take link start) e refl) refl)

@@ -1,10 +1,8 @@
 -- What an input line asks for: `+N` registers link N, `-N` drops it, `N ` and bytes is a line from link N, `?` asks for the table, `banned NAME TEXT` whether a
 -- text is banned from a channel. After all but a link's line a CR before the LF is passed over.
-use Rattle.std.specs.Prelude.{ℕ, ◌+◌, ◌-◌, cond, List, [], ◌∷◌, length, take, drop, get_or, eqb, leb, ltb}
-use Rattle.octets.specs.declared.Decimal.{Decimal}
-use Rattle.octets.specs.declared.Decimal.TheVariants.{Value, Malformed}
-use Rattle.octets.specs.declared.Order.{Order}
-use Rattle.octets.specs.declared.Order.TheVariants.{Less, Same, More}
+use Rattle.std.specs.Prelude.{ℕ, ◌+◌, ◌-◌, cond, List, [], ◌∷◌, length, take, drop, get_or, eqb, leb, ltb, Option, Some, None}
+use Rattle.std.specs.declared.cmp.Ordering.{Ordering}
+use Rattle.std.specs.declared.cmp.Ordering.TheVariants.{Less, Equal, Greater}
 use Rattle.octets.specs.Bytes.{cr, space}
 use Rattle.laws.specs.Lists.{is_nil}
 use Rattle.octets.specs.Decimals.{decimal_up_to}
@@ -31,13 +29,13 @@ unfoldable pub ended : List ℕ → List ℕ
 ended s = cond (ends_in_lf s) (cond (eqb (get_or s (length s - 2) 0) cr) (take (length s - 2) s) (take (length s - 1) s)) s
 
 -- a link's number: decimal, without leading zeros, at most nine digits, which is up to 999,999,999
-abbrev pub link_in : List ℕ → Decimal
+abbrev pub link_in : List ℕ → Option ℕ
 link_in s = decimal_up_to 999999999 s
 
 -- a request of that link
-abbrev pub numbered : (ℕ → Request) → Decimal → Request
-numbered f (Value link) = f link
-numbered f Malformed = Unknown
+abbrev pub numbered : (ℕ → Request) → Option ℕ → Request
+numbered f (Some link) = f link
+numbered f None = Unknown
 
 -- a link's number before the first SPACE, and the place behind that, where the link's line begins
 unfoldable pub taking_in : List ℕ → Request
@@ -64,10 +62,10 @@ question_in s =
     cond (ltb n (length behind)) (cond (leb n name_room) (Banned (banned_length + n) (banned_length + n + 1)) Unknown) Unknown
 
 -- a question, where the word is `banned`, else another request
-abbrev pub questioned : Order → Request → Request → Request
-questioned Same q r = q
+abbrev pub questioned : Ordering → Request → Request → Request
+questioned Equal q r = q
 questioned Less q r = r
-questioned More q r = r
+questioned Greater q r = r
 
 -- a question about a ban, or a link's line
 unfoldable pub worded_in : List ℕ → Request

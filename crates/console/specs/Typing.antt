@@ -1,7 +1,7 @@
 -- Lines that are typed at a terminal.
 use Rattle.std.specs.Prelude.{ℕ, cond, List, [], ◌∷◌, ◌++◌}
-use Rattle.octets.specs.declared.Order.{Order}
-use Rattle.octets.specs.declared.Order.TheVariants.{Less, Same, More}
+use Rattle.std.specs.declared.cmp.Ordering.{Ordering}
+use Rattle.std.specs.declared.cmp.Ordering.TheVariants.{Less, Equal, Greater}
 use Rattle.octets.specs.Bytes.{cr, lf}
 use Rattle.octets.specs.Order.{compare}
 use Rattle.laws.specs.Lists.{is_nil}
@@ -19,10 +19,10 @@ abbrev pub help_word : List ℕ
 help_word = 104 ∷ 101 ∷ 108 ∷ 112 ∷ []
 
 -- help, where the word is `help`, else another request
-abbrev pub helped : Order → Request → Request
-helped Same r = Help
+abbrev pub helped : Ordering → Request → Request
+helped Equal r = Help
 helped Less r = r
-helped More r = r
+helped Greater r = r
 
 -- an empty line asks for nothing, `help` for help, any other for what it asks for when it isn't typed
 unfoldable pub typed_in : List ℕ → Request

@@ -3,7 +3,7 @@
 ghost use Rattle.std.specs.Prelude.{◌≡◌, [], ◌++◌, ◌+◌, ◌<◌, length, drop};
 ghost use Rattle.console.specs.Lines.{held_in, kept, first_line, ends_in_lf};
 
-use octets::{lesser, part, place_of, put};
+use octets::{part, place_of, put};
 
 // The most bytes that are kept of an input line. A number of nine digits, a SPACE, and of the line behind them one byte more than the relay takes are 523; a
 // question needs more: `banned`, a SPACE, a name of 50 bytes, a SPACE, a text of one byte more than is matched, and CR LF.
@@ -33,8 +33,8 @@ pub(crate) fn extended(line: Pending, more: &[u8]) -> Pending
     ensures { held_in result ≡ kept (held_in line ++ more.now) }
 {
     let mut bytes = line.bytes;
-    let start = lesser(line.len, INPUT_LIMIT);
-    let n = lesser(more.len(), INPUT_LIMIT - start);
+    let start = line.len.min(INPUT_LIMIT);
+    let n = more.len().min(INPUT_LIMIT - start);
     put(&mut bytes, start, part(more, 0, n));
     Pending {
         bytes,
@@ -48,7 +48,7 @@ pub(crate) fn line_end(piece: &[u8], at: usize) -> usize
     ensures { result ≡ at + length (first_line (drop at piece.now)) }
 {
     let rest = part(piece, at, piece.len());
-    lesser(at + place_of(rest, b'\n') + 1, piece.len())
+    (at + place_of(rest, b'\n') + 1).min(piece.len())
 }
 
 // Whether the last byte is LF.

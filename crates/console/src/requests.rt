@@ -11,7 +11,7 @@ ghost use Rattle.console.specs.Buffers.{typed_room};
 use crate::lines::{Pending, ends_in_lf};
 use message::next_word;
 use octets::decimals::decimal;
-use octets::{Decimal, Order, compare, part, place_of, put};
+use octets::{part, place_of, put};
 
 // The largest number that nine digits write.
 const LINK_LIMIT: u32 = 999999999;
@@ -63,20 +63,14 @@ fn ended(s: &[u8]) -> &[u8]
 fn registering(text: &[u8]) -> Request
     ensures { result ≡ numbered Register (link_in text.now) }
 {
-    match decimal(text, LINK_LIMIT) {
-        Decimal::Value(link) => Request::Register(link),
-        Decimal::Malformed => Request::Unknown,
-    }
+    decimal(text, LINK_LIMIT).map_or(Request::Unknown, Request::Register)
 }
 
 // And here it is that link to be dropped.
 fn unregistering(text: &[u8]) -> Request
     ensures { result ≡ numbered Unregister (link_in text.now) }
 {
-    match decimal(text, LINK_LIMIT) {
-        Decimal::Value(link) => Request::Unregister(link),
-        Decimal::Malformed => Request::Unknown,
-    }
+    decimal(text, LINK_LIMIT).map_or(Request::Unknown, Request::Unregister)
 }
 
 // The table is asked for by '?' alone.
@@ -98,10 +92,10 @@ fn taking(input: &[u8]) -> Request
     if end == input.len() {
         return Request::Unknown;
     }
-    match decimal(part(input, 0, end), LINK_LIMIT) {
-        Decimal::Value(link) => Request::Take(link, end + 1),
-        Decimal::Malformed => Request::Unknown,
-    }
+    let Some(link) = decimal(part(input, 0, end), LINK_LIMIT) else {
+        return Request::Unknown;
+    };
+    Request::Take(link, end + 1)
 }
 
 // Behind `banned` and a SPACE, a name, a SPACE, and a text.
@@ -123,11 +117,10 @@ fn asking(input: &[u8]) -> Request
 fn worded(input: &[u8]) -> Request
     ensures { result ≡ worded_in input.now }
 {
-    match compare(part(input, 0, ASKING), b"banned ") {
-        Order::Same => asking(input),
-        Order::Less => taking(input),
-        Order::More => taking(input),
+    if input.starts_with(b"banned ") {
+        return asking(input);
     }
+    taking(input)
 }
 
 // What the input line asks for.
@@ -194,9 +187,8 @@ pub(crate) fn typed_request(input: &[u8]) -> Request
     if text.len() == 0 {
         return Request::Nothing;
     }
-    match compare(text, b"help") {
-        Order::Same => Request::Help,
-        Order::Less => request_in(input),
-        Order::More => request_in(input),
+    if text == b"help".as_slice() {
+        return Request::Help;
     }
+    request_in(input)
 }

@@ -11,7 +11,7 @@ ghost use Rattle.feed.specs.Feeder.{state_of, is_reached, fed as fed_of, answer_
 ghost use Rattle.feed.specs.Private.Gathering.{is_clean, KeepsLine, held_bytes, past};
 
 use message::LINE_LIMIT;
-use octets::{Class, all_in, lesser, part, place_of, put, zero_from};
+use octets::{Class, all_in, part, place_of, put, zero_from};
 use refusal::{ACCEPTED, LINE_TOO_LONG, NOT_WELL_FORMED};
 
 // What is kept of the line under way: the bytes of an unfinished line, unused room zero; or none, where the line is too long and is dropped up to and with its LF.
@@ -115,7 +115,7 @@ fn gather(state: Feeder, bytes: &[u8], at: usize) -> Fed
 {
     let held = state.len;
     let room = LINE_LIMIT - held;
-    let stop = at + lesser(bytes.len() - at, room + 1);
+    let stop = at + (bytes.len() - at).min(room + 1);
     let ahead = part(bytes, at, stop);
     let found = place_of(ahead, b'\n');
     let end = at + found;

@@ -13,10 +13,9 @@ use borrow.Author.Tests.{eq-eqb, ne_eqb, eqb-true, eqb-false}
 use Rattle.laws.proofs.Bools.{both_ways}
 use Rattle.laws.proofs.Lists.{drop-step}
 use Rattle.glob.specs.declared.State.{State}
-use Rattle.glob.specs.declared.Progress.{Progress}
-use Rattle.glob.specs.declared.Progress.TheVariants.{On, Done}
+use Rattle.std.specs.declared.ops.ControlFlow.TheVariants.{Continue, Break}
 use Rattle.glob.specs.Mask.{star, matches_byte, after_run, matches}
-use Rattle.glob.specs.Stepping.{look, start, passed, taken, longer, back, mask_ended, compared, step, step_in, budget}
+use Rattle.glob.specs.Stepping.{Progress, look, start, passed, taken, longer, back, mask_ended, compared, step, step_in, budget}
 use Rattle.glob.proofs.Looks.{look-byte, look-end}
 use Rattle.glob.proofs.Masks.{run-here, run-all, run-nil, run-next, run-first, matches-end, matches-over, matches-star, matches-none, matches-agree, matches-differ, matches-one}
 
@@ -49,8 +48,8 @@ rank mask s = s.run * (length mask + 1) + s.mask
 
 -- what a step comes to
 abbrev pub Leads : List ℕ → List ℕ → State → Progress → Type 0
-Leads mask text s (On t) = Sound mask text t × (rank mask s < rank mask t)
-Leads mask text s (Done answer) = answer ≡ matches mask text
+Leads mask text s (Continue t) = Sound mask text t × (rank mask s < rank mask t)
+Leads mask text s (Break answer) = answer ≡ matches mask text
 
 pub start-sound : (mask text : List ℕ) → Sound mask text start
 start-sound mask text = record {

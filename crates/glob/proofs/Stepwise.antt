@@ -5,11 +5,11 @@ use mathlib.Core.Bool.{Bool}
 use mathlib.Core.List.{List}
 use native.Mathlib.Omega.{arith}
 use Rattle.glob.specs.declared.State.{State}
-use Rattle.glob.specs.declared.Progress.TheVariants.{On, Done}
+use Rattle.std.specs.declared.ops.ControlFlow.TheVariants.{Continue, Break}
 use Rattle.glob.specs.Stepping.{step_in, onward, steps}
 
 module _ (mask text : List ℕ) (s : State) where
-  pub steps-none : (k : ℕ) → k ≡ 0 → steps mask text k s ≡ On s
+  pub steps-none : (k : ℕ) → k ≡ 0 → steps mask text k s ≡ Continue s
   unfolding steps
   steps-none k e = rw e
 
@@ -19,11 +19,11 @@ module _ (mask text : List ℕ) (s : State) where
     steps_next = let e : k ≡ suc (k - 1) = omega arith in ap (λ (n : ℕ). steps mask text n s) e
 
     -- the others go on from where one leads
-    pub steps_on : (t : State) → step_in mask text s ≡ On t → steps mask text k s ≡ steps mask text (k - 1) t
+    pub steps_on : (t : State) → step_in mask text s ≡ Continue t → steps mask text k s ≡ steps mask text (k - 1) t
     unfolding onward
     steps_on t e = steps_next ∙ rw e
 
     -- none follows an answer
-    pub steps-done : (answer : Bool) → step_in mask text s ≡ Done answer → steps mask text k s ≡ Done answer
+    pub steps-done : (answer : Bool) → step_in mask text s ≡ Break answer → steps mask text k s ≡ Break answer
     unfolding onward
     steps-done answer e = steps_next ∙ rw e

@@ -12,10 +12,15 @@ use borrow.Author.Tests.{ne_eqb, lt-ltb, le-ltb}
 use Rattle.laws.proofs.Lists.{take_within}
 use Rattle.refusal.specs.Numbers.{accepted, not_well_formed, bad_name, too_many_members, too_many_masks}
 use Rattle.refusal.specs.Rules.{Rule, ◌when◌, first_of}
+use Rattle.std.specs.Prelude.{Option, Some, None, Ok, Err}
+use Rattle.refusal.specs.declared.Refusal.{Refusal}
+use Rattle.refusal.specs.declared.Refusal.TheVariants.{TooManyMasks}
+use Rattle.refusal.specs.Refusals.{number_of}
+use Rattle.refusal.proofs.Refusals.{number-given}
 use Rattle.refusal.proofs.Rules.{skip, stop, first-nil, append-some, append-none}
 use Rattle.ascending.specs.Ascending.{one_pass}
 use Rattle.ascending.proofs.Ascends.{Ascending, pass-unite}
-use Rattle.laws.proofs.Bools.{and_intro}
+use Rattle.laws.proofs.Bools.{and_left, and_right, and_intro}
 use Rattle.names.specs.Fold.{same_name}
 use Rattle.channel.specs.declared.Member.{Member}
 use Rattle.channel.specs.declared.Record.{Record}
@@ -32,19 +37,19 @@ use Rattle.channel.proofs.Records.{decode-encode}
 use Rattle.channel.proofs.Proper.{Proper, proper-fits, well-says, encode-well}
 use Rattle.channel.proofs.Statuses.{stays-by_id}
 use Rattle.channel.proofs.Standing.{ascending-standing}
-use Rattle.bans.specs.declared.Added.{Added}
+use Rattle.bans.specs.declared.BanList.{BanList}
 use Rattle.bans.specs.declared.WholeRecord.{WholeRecord}
+use Rattle.bans.specs.Putting.{added}
 use Rattle.bans.specs.Slots.{empty_list}
 use Rattle.bans.specs.Records.{whole, well_formed_whole}
 use Rattle.bans.proofs.Records.{whole-well, whole_says}
 use Rattle.bans.proofs.Slots.{empty-masks, empty-well}
-use Rattle.merging.specs.declared.Combined.{Combined}
 use Rattle.merging.specs.declared.sides.Given.{Given}
 use Rattle.merging.specs.declared.sides.Key.{Key}
 use Rattle.merging.specs.declared.sides.Name.{Name}
 use Rattle.merging.specs.Settings.{greater, join_settings}
-use Rattle.merging.specs.Merging.{merge_by, merge, answer_of, answered, room_rules, combined, merged_masks, merged_whole, merge_rules, merge_answer}
-use Rattle.merging.specs.Private.Answers.{refused_by, merged_lists}
+use Rattle.merging.specs.Merging.{Combined, combined_as, merge_by, merge, answer_of, answered, room_rules, combined, merged_masks, merged_whole, merge_rules, merge_answer}
+use Rattle.merging.specs.Private.Answers.{merged_as, refused_by, merged_lists}
 use Rattle.merging.specs.Private.Sides.{given_if, key_of, name_of}
 use Rattle.merging.specs.Private.Uniting.{as_given}
 use Rattle.merging.proofs.OnePass.{side}
@@ -123,31 +128,42 @@ module _ (a b : WholeRecord) where
             rw n
 
 -- ---- in the terms of the code, once both are well formed and of one channel
-module _ (a b : WholeRecord) (w : well_formed_whole a ≡ true) (v : well_formed_whole b ≡ true) (s : same_name (decode a.«record»).name (decode b.«record»).name ≡ true)
-    (r : Combined) (is : r ≡ combined a.«record» b.«record») where
-  joined : r ≡ answered (room_rules (merged_channel a b)) a.«record» (merged_channel a b)
-  joined = is ∙ combined-merge a.«record» b.«record» (whole_says b v).0
+module _ (a b : WholeRecord) (whole-both : well_formed_whole a && well_formed_whole b ≡ true) (s : same_name (decode a.«record»).name (decode b.«record»).name ≡ true) where
+  own-well : well_formed_whole a ≡ true
+  own-well = and_left (well_formed_whole a) (well_formed_whole b) whole-both
 
-  numbered : first_of (room_rules (merged_channel a b)) ≡ r.number
-  numbered = sym (ap (λ (q : Combined). q.number) joined)
+  other-well : well_formed_whole b ≡ true
+  other-well = and_right (well_formed_whole a) (well_formed_whole b) whole-both
+
+  module _ (r : Combined) (is : r ≡ combined a.«record» b.«record») where
+    joined : r ≡ answered (room_rules (merged_channel a b)) a.«record» (merged_channel a b)
+    joined = is ∙ combined-merge a.«record» b.«record» (whole_says b other-well).0
+
+    numbered : first_of (room_rules (merged_channel a b)) ≡ r.number
+    numbered = sym (ap (λ (q : Combined). q.number) joined)
 
   -- more members than there is room for
-  pub merge-over : (r.number ≡ accepted → ⊥) → merge_answer a b ≡ refused_by r.number a
-  merge-over = answer-over a b (and_intro _ _ w v) s r.number numbered
+  pub merge-over : (e : Refusal) → combined_as a.«record» (Err e) ≡ combined a.«record» b.«record» → merged_as a (Err e) ≡ merge_answer a b
+  merge-over e is = sym (answer-over a b whole-both s (number_of e) (numbered (combined_as a.«record» (Err e)) is) (number-given e))
 
-  module _ (fits : r.number ≡ accepted) (l : Added) (lists : l ≡ merged_lists a.«record».time a.bans b.«record».time b.bans) where
-    held : Lists l (merged_masks a b)
-    held = rw lists (lists-merged a b (whole_says a w).1 (whole_says b v).1)
+  module _ (r : Record) (is : combined_as a.«record» (Ok r) ≡ combined a.«record» b.«record») where
+    fits : first_of (room_rules (merged_channel a b)) ≡ accepted
+    fits = numbered (combined_as a.«record» (Ok r)) is
+
+    held : (l : Option BanList) → added a.bans l ≡ merged_lists a.«record».time a.bans b.«record».time b.bans → Lists (added a.bans l) (merged_masks a b)
+    held l lists = rw lists (lists-merged a b (whole_says a own-well).1 (whole_says b other-well).1)
 
     -- more masks than there is room for
-    pub merge-full : l.full ≡ true → merge_answer a b ≡ refused_by too_many_masks a
-    merge-full e = answer-full a b (and_intro _ _ w v) s (numbered ∙ fits) (sym held.full ∙ e)
+    pub merge-full : added a.bans None ≡ merged_lists a.«record».time a.bans b.«record».time b.bans → merged_as a (Err TooManyMasks) ≡ merge_answer a b
+    merge-full lists = sym (answer-full a b whole-both s fits (sym (held None lists).full))
 
     -- else the two are merged, and their lists
-    pub merge-both : l.full ≡ false → merge_answer a b ≡ record { number = r.number; result = whole r.result l.list }
+    pub merge-both : (l : BanList) → added a.bans (Some l) ≡ merged_lists a.«record».time a.bans b.«record».time b.bans → merged_as a (Ok (whole r l)) ≡ merge_answer a b
     unfolding merged_whole
-    merge-both e =
-        rw (fits, held.list e, joined ∙ room_fits (merged_channel a b) a.«record» (numbered ∙ fits)) (answer-merged a b (and_intro _ _ w v) s (numbered ∙ fits) (sym held.full ∙ e))
+    merge-both l lists =
+        let h = held (Some l) lists in
+        let result : r ≡ encode (merged_channel a b) = ap (λ (q : Combined). q.result) (joined (combined_as a.«record» (Ok r)) is ∙ room_fits (merged_channel a b) a.«record» fits) in
+        ap₂ (λ (q : Record) (x : BanList). merged_as a (Ok (whole q x))) result (h.list refl) ∙ sym (answer-merged a b whole-both s fits (sym h.full))
 
 -- ---- the records of two channels without masks
 -- the record of a proper channel is well formed without masks

@@ -11,8 +11,8 @@ use Rattle.ascending.proofs.Ascends.{unite-nil-right}
 use Rattle.ascending.proofs.Firsts.{unite-own}
 use Rattle.channel.specs.Limits.{ban_limit}
 use Rattle.bans.specs.declared.BanList.{BanList}
-use Rattle.bans.specs.declared.Added.{Added}
 use Rattle.bans.specs.declared.WholeRecord.{WholeRecord}
+use Rattle.bans.specs.Putting.{Added}
 use Rattle.bans.specs.Masks.{by_spelling, masks}
 use Rattle.bans.specs.WellFormed.{well_formed_list}
 use Rattle.bans.specs.Slots.{list_with, empty_list}

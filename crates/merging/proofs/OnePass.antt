@@ -7,8 +7,8 @@ use Prim.Native.Nat.{ℕ, suc, ◌+◌, ◌≤◌, ◌<◌}
 use native.Mathlib.Omega.{arith}
 use lib.ListN.{length, take, drop, get_or, set, length-append, drop_of_length-le}
 use lib.Seq.{length-take-le, append_snoc}
-use Rattle.octets.specs.declared.Order.{Order}
-use Rattle.octets.specs.declared.Order.TheVariants.{Less, Same, More}
+use Rattle.std.specs.declared.cmp.Ordering.{Ordering}
+use Rattle.std.specs.declared.cmp.Ordering.TheVariants.{Less, Equal, Greater}
 use Rattle.laws.specs.Lists.{padded}
 use Rattle.octets.specs.Order.{compare}
 use Rattle.ascending.specs.Ascending.{taken, one_pass}
@@ -94,19 +94,19 @@ module _ (counts : Bool) (l : List Member) (n : ℕ) where
 
 -- ---- what comes next
 -- at most one of each side, and at least one of both
-pub next-some : (o : Order) (x y : Member) → ((next_from o x y).first ≤ 1) × ((next_from o x y).second ≤ 1) × (1 ≤ (next_from o x y).first + (next_from o x y).second)
+pub next-some : (o : Ordering) (x y : Member) → ((next_from o x y).first ≤ 1) × ((next_from o x y).second ≤ 1) × (1 ≤ (next_from o x y).first + (next_from o x y).second)
 unfolding next_from
 next-some Less x y = (omega arith, omega arith, omega arith)
-next-some Same x y = (omega arith, omega arith, omega arith)
-next-some More x y = (omega arith, omega arith, omega arith)
+next-some Equal x y = (omega arith, omega arith, omega arith)
+next-some Greater x y = (omega arith, omega arith, omega arith)
 
 module _ (A B : List Member) (i j : ℕ) (x y : Member) (ea : drop i A ≡ x ∷ drop (i + 1) A) (eb : drop j B ≡ y ∷ drop (j + 1) B) where
-  next-on : (o : Order) → taken by_id o x y (one_pass by_id (drop (i + 1) A) (y ∷ drop (j + 1) B)) (one_pass by_id (drop (i + 1) A) (drop (j + 1) B)) (one_pass by_id (x ∷ drop (i + 1) A) (drop (j + 1) B))
+  next-on : (o : Ordering) → taken by_id o x y (one_pass by_id (drop (i + 1) A) (y ∷ drop (j + 1) B)) (one_pass by_id (drop (i + 1) A) (drop (j + 1) B)) (one_pass by_id (x ∷ drop (i + 1) A) (drop (j + 1) B))
       ≡ (next_from o x y).member ∷ one_pass by_id (drop (i + (next_from o x y).first) A) (drop (j + (next_from o x y).second) B)
   unfolding taken next_from
   next-on Less = let z : j ≡ j + 0 = omega arith in ap (λ (l : List Member). x ∷ one_pass by_id (drop (i + 1) A) l) (sym eb ∙ ap (λ (k : ℕ). drop k B) z)
-  next-on Same = refl
-  next-on More = let z : i ≡ i + 0 = omega arith in ap (λ (l : List Member). y ∷ one_pass by_id l (drop (j + 1) B)) (sym ea ∙ ap (λ (k : ℕ). drop k A) z)
+  next-on Equal = refl
+  next-on Greater = let z : i ≡ i + 0 = omega arith in ap (λ (l : List Member). y ∷ one_pass by_id l (drop (j + 1) B)) (sym ea ∙ ap (λ (k : ℕ). drop k A) z)
 
 -- ---- the first m of a and the first n of b, from i and j on
 module _ (first second : Bool) (a b : List Member) (m n : ℕ) (ma : m ≤ length a) (nb : n ≤ length b) (i j : ℕ) where

@@ -8,8 +8,8 @@ use native.Mathlib.Omega.{arith}
 use lib.Bits.{or_lt}
 use lib.Dec.{ltb}
 use borrow.Author.Tests.{ltb-true, ltb-false, lt-ltb, le-ltb}
-use Rattle.octets.specs.declared.Order.{Order}
-use Rattle.octets.specs.declared.Order.TheVariants.{Less, Same, More}
+use Rattle.std.specs.declared.cmp.Ordering.{Ordering}
+use Rattle.std.specs.declared.cmp.Ordering.TheVariants.{Less, Equal, Greater}
 use Rattle.octets.specs.Order.{compare, is_less}
 use Rattle.octets.proofs.Ordered.{compare-nil, Below, compare_refl, compare_same, compare-trans, below_more, more-below}
 use Rattle.laws.specs.Lists.{is_nil}
@@ -43,24 +43,24 @@ greater-self a = rw (compare_refl a)
 greater-comm : (a b : List ℕ) → greater a b ≡ greater b a
 greater-comm a b = go (compare a b) refl
   where
-    go : (o : Order) → compare a b ≡ o → greater a b ≡ greater b a
+    go : (o : Ordering) → compare a b ≡ o → greater a b ≡ greater b a
     go Less p = cc (greater-less a b p, greater-more b a p)
-    go Same p = rw (compare_same a b p)
-    go More p = cc (greater-more a b (more-below a b p), greater-less b a (more-below a b p))
+    go Equal p = rw (compare_same a b p)
+    go Greater p = cc (greater-more a b (more-below a b p), greater-less b a (more-below a b p))
 
 greater-assoc : (a b c : List ℕ) → greater (greater a b) c ≡ greater a (greater b c)
 greater-assoc a b c = go (compare a b) (compare b c) refl refl
   where
-    go : (o p : Order) → compare a b ≡ o → compare b c ≡ p → greater (greater a b) c ≡ greater a (greater b c)
+    go : (o p : Ordering) → compare a b ≡ o → compare b c ≡ p → greater (greater a b) c ≡ greater a (greater b c)
     go Less Less p q = cc (greater-less a b p, greater-less b c q, greater-less a c (compare-trans a b c p q))
-    go Less Same p q = cc (greater-less a b p, greater-self b, compare_same b c q)
-    go Less More p q = cc (greater-less a b p, greater-more b c (more-below b c q))
-    go Same Less p q = cc (greater-self a, greater-less b c q, compare_same a b p)
-    go Same Same p q = cc (greater-self a, compare_same a b p, compare_same b c q)
-    go Same More p q = cc (greater-self a, greater-more b c (more-below b c q), compare_same a b p)
-    go More Less p q = cc (greater-more a b (more-below a b p), greater-less b c q)
-    go More Same p q = cc (greater-more a b (more-below a b p), greater-self b, compare_same b c q)
-    go More More p q =
+    go Less Equal p q = cc (greater-less a b p, greater-self b, compare_same b c q)
+    go Less Greater p q = cc (greater-less a b p, greater-more b c (more-below b c q))
+    go Equal Less p q = cc (greater-self a, greater-less b c q, compare_same a b p)
+    go Equal Equal p q = cc (greater-self a, compare_same a b p, compare_same b c q)
+    go Equal Greater p q = cc (greater-self a, greater-more b c (more-below b c q), compare_same a b p)
+    go Greater Less p q = cc (greater-more a b (more-below a b p), greater-less b c q)
+    go Greater Equal p q = cc (greater-more a b (more-below a b p), greater-self b, compare_same b c q)
+    go Greater Greater p q =
         cc (greater-more a b (more-below a b p), greater-more b c (more-below b c q), greater-more a c (compare-trans c b a (more-below b c q) (more-below a b p)))
 
 greater-unit : (a : List ℕ) → greater [] a ≡ a

@@ -1,8 +1,10 @@
 -- Two records merged (document 01, 'SJOIN'): at the earlier of the two times each side gives its settings and statuses only if it counts then, and what both
 -- give is united. So it is with their ban lists (document 02, §2). `Rules` of proofs/ has the paper's three cases, later, equal and earlier, as laws.
-use Rattle.std.specs.Prelude.{ℕ, min, not, cond, ◌&&◌, List, [], ◌∷◌, ◌++◌, length, eqb, ltb}
+use Rattle.std.specs.Prelude.{ℕ, min, not, cond, ◌&&◌, List, [], ◌∷◌, ◌++◌, length, eqb, ltb, Result, Ok, Err}
 use Rattle.refusal.specs.Numbers.{accepted, not_well_formed, bad_name, too_many_members, too_many_masks}
 use Rattle.refusal.specs.Rules.{Rule, ◌when◌, first_of}
+use Rattle.refusal.specs.Refusals.{number_of}
+use Rattle.refusal.specs.declared.Refusal.{Refusal}
 use Rattle.ascending.specs.Ascending.{unite, one_pass}
 use Rattle.names.specs.Fold.{same_name}
 use Rattle.channel.specs.declared.Member.{Member}
@@ -16,7 +18,6 @@ use Rattle.bans.specs.Masks.{by_spelling, masks}
 use Rattle.bans.specs.Slots.{list_with}
 use Rattle.bans.specs.Records.{whole, well_formed_whole}
 use Rattle.merging.specs.declared.Merged.{Merged}
-use Rattle.merging.specs.declared.Combined.{Combined}
 use Rattle.merging.specs.Settings.{join_settings}
 
 -- two channels merged, `union` giving the members of both sides
@@ -38,9 +39,19 @@ merge a b = merge_by (unite by_id) a b
 abbrev pub room_rules : Channel → List Rule
 room_rules c = too_many_members when ltb member_limit (length c.members) ∷ []
 
+-- The number of a refusal, or `accepted`, and the merged record, or the first one as given.
+pub record Combined : Type 0 where
+  pub number : ℕ
+  pub result : Record
+
 -- a number, and a record
 abbrev pub answer_of : ℕ → Record → Combined
 answer_of number r = record { number = number; result = r }
+
+-- what the code answers of two records, a the first
+abbrev pub combined_as : Record → Result Record Refusal → Combined
+combined_as a (Ok r) = answer_of accepted r
+combined_as a (Err e) = answer_of (number_of e) a
 
 -- the number of the first rule that applies, and the first record as given; or the record of the merged channel
 abbrev pub answered : List Rule → Record → Channel → Combined

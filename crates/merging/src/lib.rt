@@ -9,17 +9,17 @@ mod uniting;
 
 ghost use Rattle.std.specs.Prelude.{◌≡◌, cond};
 ghost use Rattle.octets.specs.Order.{compare as compare_of, is_less};
-ghost use Rattle.merging.specs.Merging.{answer_of, merge_answer, combined};
-ghost use Rattle.merging.specs.Private.Answers.{refused_by};
+ghost use Rattle.merging.specs.Merging.{merge_answer, combined_as, combined};
+ghost use Rattle.merging.specs.Private.Answers.{merged_as};
 
 use bans::{WholeRecord, is_whole};
 use channel::Record;
 use channel::members::within;
 use lists::merged_list;
 use names::equal;
-use octets::{Order, compare, part};
-use refusal::{ACCEPTED, BAD_NAME, NOT_WELL_FORMED, TOO_MANY_MASKS, TOO_MANY_MEMBERS};
-use sides::{earlier, front, given_if, greatest, larger};
+use octets::{compare, part};
+use refusal::{ACCEPTED, Refusal};
+use sides::{front, given_if, greatest};
 use uniting::united;
 
 // The number of a refusal, or ACCEPTED, and the merged record with its list, or the first one as given.
@@ -30,64 +30,63 @@ pub struct Merged {
     pub result: WholeRecord,
 }
 
-// The number of a refusal, or ACCEPTED, and the merged record, or the first one as given.
-#[derive(Clone, Copy)]
-pub struct Combined {
-    pub number: u8,
-    pub result: Record,
-}
-
 // Two records of one channel merged by the rules of SJOIN, the first one's spelling kept: at equal times their lists are united, else the earlier one's stands.
 // Refused where either isn't well formed, where their names differ, and where more members or masks would result than there is room for.
 pub fn merge(a: WholeRecord, b: WholeRecord) -> Merged
     ensures { result ≡ merge_answer a b }
 {
-    if !is_whole(a) {
-        return refused(NOT_WELL_FORMED, a);
+    match try_merge(a, b) {
+        Ok(result) => Merged {
+            number: ACCEPTED,
+            result,
+        },
+        Err(refusal) => Merged {
+            number: refusal.number(),
+            result: a,
+        },
     }
-    if !is_whole(b) {
-        return refused(NOT_WELL_FORMED, a);
+}
+
+// The two merged, or why they aren't.
+fn try_merge(a: WholeRecord, b: WholeRecord) -> Result<WholeRecord, Refusal>
+    ensures { merged_as a result ≡ merge_answer a b }
+{
+    if !(is_whole(a) && is_whole(b)) {
+        return Err(Refusal::NotWellFormed);
     }
-    let first = a.record;
-    let second = b.record;
-    let name = first.name;
-    let other = second.name;
     if !equal(
-        part(&name, 0, first.name_len),
-        part(&other, 0, second.name_len),
+        part(&a.record.name, 0, a.record.name_len),
+        part(&b.record.name, 0, b.record.name_len),
     ) {
-        return refused(BAD_NAME, a);
+        return Err(Refusal::BadName);
     }
-    let both = combine(first, second);
-    let number = both.number;
-    if number != ACCEPTED {
-        return refused(number, a);
-    }
-    let lists = merged_list(first.time, a.bans, second.time, b.bans);
-    if lists.full {
-        return refused(TOO_MANY_MASKS, a);
-    }
-    let record = both.result;
-    let bans = lists.list;
-    let result = WholeRecord { record, bans };
-    Merged { number, result }
+    let record = combine(a.record, b.record)?;
+    let bans = merged_list(a.record.time, a.bans, b.record.time, b.bans).ok_or(
+        Refusal::TooManyMasks,
+    )?;
+    Ok(WholeRecord { record, bans })
 }
 
 // Two records merged that are known to be well formed and of one channel: neither is tested again. Refused where more members would result than a record has
 // room for. Any others are taken too: of counts and lengths only what there is room for counts, and members are united as they stand.
-pub fn combine(a: Record, b: Record) -> Combined
-    ensures { result ≡ combined a b }
+pub fn combine(a: Record, b: Record) -> Result<Record, Refusal>
+    ensures { combined_as a result ≡ combined a b }
 {
-    let time = earlier(a.time, b.time);
+    let time = a.time.min(b.time);
     let first = a.time == time;
     let second = b.time == time;
     let members = a.members;
     let others = b.members;
-    let m = within(a.count);
-    let n = within(b.count);
-    let all = united(members, m, first, others, n, second);
+    let all = united(
+        members,
+        within(a.count),
+        first,
+        others,
+        within(b.count),
+        second,
+    );
     if Record::MEMBERS < all.count {
-        return unmerged(TOO_MANY_MEMBERS, a);
+        return Err(Refusal::TooManyMembers);
     }
     let x = given_if(first, a.modes, a.key_len, a.limit);
     let y = given_if(second, b.modes, b.key_len, b.limit);
@@ -99,43 +98,22 @@ pub fn combine(a: Record, b: Record) -> Combined
     let spelling = name.bytes;
     let bytes = key.bytes;
     let list = all.list;
-    Combined {
-        number: ACCEPTED,
-        result: Record {
-            name: spelling,
-            name_len: name.len,
-            time,
-            modes: x.modes | y.modes,
-            key: bytes,
-            key_len: key.len,
-            limit: larger(x.limit, y.limit),
-            members: list,
-            count: all.count,
-        },
-    }
+    Ok(Record {
+        name: spelling,
+        name_len: name.len,
+        time,
+        modes: x.modes | y.modes,
+        key: bytes,
+        key_len: key.len,
+        limit: x.limit.max(y.limit),
+        members: list,
+        count: all.count,
+    })
 }
 
 // The greater of two keys, compared as unsigned bytes, a proper beginning being smaller; the first where they are equal. Any bytes are taken.
 pub fn greater_key<'a>(a: &'a [u8], b: &'a [u8]) -> &'a [u8]
     ensures { result ≡ cond (is_less (compare_of a.now b.now)) b.entry a.entry }
 {
-    match compare(a, b) {
-        Order::Less => b,
-        Order::Same => a,
-        Order::More => a,
-    }
-}
-
-// A refused merge answers its first record as given, with its list.
-fn refused(number: u8, a: WholeRecord) -> Merged
-    ensures { result ≡ refused_by number a }
-{
-    Merged { number, result: a }
-}
-
-// The same of records without lists.
-fn unmerged(number: u8, a: Record) -> Combined
-    ensures { result ≡ answer_of number a }
-{
-    Combined { number, result: a }
+    if compare(a, b).is_lt() { b } else { a }
 }

@@ -1,5 +1,5 @@
 // What each of two records gives at the earlier of their times, and what of it the merged record has: time, modes, key, limit and name.
-ghost use Rattle.std.specs.Prelude.{◌≡◌, min, max, take};
+ghost use Rattle.std.specs.Prelude.{◌≡◌, take};
 ghost use Rattle.merging.specs.Settings.{greater};
 ghost use Rattle.merging.specs.Private.Sides.{given_if, key_of, name_of};
 
@@ -27,26 +27,6 @@ pub(crate) struct Key {
 pub(crate) struct Name {
     pub(crate) bytes: [u8; Record::NAME],
     pub(crate) len: usize,
-}
-
-// The earlier of two times.
-pub(crate) fn earlier(a: u32, b: u32) -> u32
-    ensures { result ≡ min a b }
-{
-    if b < a {
-        return b;
-    }
-    a
-}
-
-// The larger of two limits.
-pub(crate) fn larger(a: u16, b: u16) -> u16
-    ensures { result ≡ max a b }
-{
-    if a < b {
-        return b;
-    }
-    a
 }
 
 // What a side gives if it counts, and nothing otherwise.

@@ -9,7 +9,7 @@ ghost use Rattle.merging.specs.Private.Uniting.{Packed, Fills, as_given, next_fr
 use channel::members::vacant;
 use channel::{Member, Record, Roster};
 use names::compare_ids;
-use octets::Order;
+use std::cmp::Ordering;
 
 // What two lists give next: a member, and how many of each it uses up.
 #[derive(Clone, Copy)]
@@ -37,12 +37,12 @@ fn next_of(x: Member, y: Member) -> Next
     let id = x.id;
     let other = y.id;
     match compare_ids(id, other) {
-        Order::Less => Next {
+        Ordering::Less => Next {
             member: x,
             first: 1,
             second: 0,
         },
-        Order::Same => Next {
+        Ordering::Equal => Next {
             member: Member {
                 id,
                 status: y.status | x.status,
@@ -50,7 +50,7 @@ fn next_of(x: Member, y: Member) -> Next
             first: 1,
             second: 1,
         },
-        Order::More => Next {
+        Ordering::Greater => Next {
             member: y,
             first: 0,
             second: 1,

@@ -3,13 +3,14 @@
 #![tactic(auto)]
 
 ghost use Rattle.std.specs.Prelude.{◌≡◌, cond};
-ghost use Rattle.laws.specs.Lists.{padded};
+ghost use Rattle.laws.specs.Lists.{padded as padded_to};
 ghost use Rattle.octets.specs.Order.{compare};
 ghost use Rattle.names.specs.Fold.{fold as fold_of, alike, same_name};
 ghost use Rattle.names.specs.Names.{user_id_length, is_channel, is_server_id, is_user_id};
 ghost use Rattle.names.specs.Private.Likeness.{likeness as likeness_of};
 
-use octets::{Class, Order, all_in, part, put};
+use octets::{Class, all_in, padded, part};
+use std::cmp::Ordering;
 
 pub mod ids;
 
@@ -131,7 +132,7 @@ pub fn is_user_id(id: &[u8]) -> bool
 }
 
 // How one user id, held whole, stands to another: byte by byte, as unsigned numbers.
-pub fn compare_ids(a: [u8; USER_ID], b: [u8; USER_ID]) -> Order
+pub fn compare_ids(a: [u8; USER_ID], b: [u8; USER_ID]) -> Ordering
     ensures { result ≡ compare a b }
 {
     octets::compare(&a, &b)
@@ -139,9 +140,7 @@ pub fn compare_ids(a: [u8; USER_ID], b: [u8; USER_ID]) -> Order
 
 // The first nine bytes, held whole as a user id is, the rest of the room zero where they are fewer.
 pub fn user_id(s: &[u8]) -> [u8; USER_ID]
-    ensures { result ≡ padded user_id_length 0 s.now }
+    ensures { result ≡ padded_to user_id_length 0 s.now }
 {
-    let mut id = [0u8; USER_ID];
-    put(&mut id, 0, part(s, 0, USER_ID));
-    id
+    padded(s)
 }

@@ -10,7 +10,7 @@ use lib.ListN.{length, get_or, length-append}
 use lib.Seq.{append_snoc}
 use lib.Dec.{eqb, leb, ltb}
 use borrow.Author.Tests.{ne_eqb, eqb-false, lt-ltb, ltb-true, ltb-false, le-leb, lt-leb, leb-true, not-true}
-use Rattle.octets.specs.declared.Decimal.TheVariants.{Value, Malformed}
+use Rattle.std.specs.Prelude.{Some, None}
 use Rattle.octets.specs.Bytes.{is_digit}
 use Rattle.laws.specs.Lists.{all, is_nil, starts_with}
 use Rattle.octets.specs.Decimals.{zero_digit, leads_with_zero, is_decimal, value_from, value_of, value_up_to, decimal_up_to, digit, last_digit, digits_up_to, digits_of}
@@ -164,28 +164,28 @@ pub digits-twenty : (n : ℕ) → n < 2 ^ 64 → length (digits_of n) ≤ 20
 digits-twenty n h = digits-within n 19 (omega arith)
 
 -- ---- numbers up to a limit
-pub value_in : (limit : ℕ) (s : List ℕ) → value_of s ≤ limit → value_up_to limit s ≡ Value (value_of s)
+pub value_in : (limit : ℕ) (s : List ℕ) → value_of s ≤ limit → value_up_to limit s ≡ Some (value_of s)
 unfolding value_up_to
 value_in limit s h = rw (le-leb (value_of s) limit h)
 
-pub value-over : (limit : ℕ) (s : List ℕ) → limit < value_of s → value_up_to limit s ≡ Malformed
+pub value-over : (limit : ℕ) (s : List ℕ) → limit < value_of s → value_up_to limit s ≡ None
 unfolding value_up_to
 value-over limit s h = rw (lt-leb (value_of s) limit h)
 
 -- what is written is read
-pub decimal-written : (limit n : ℕ) → n ≤ limit → decimal_up_to limit (digits_of n) ≡ Value n
+pub decimal-written : (limit n : ℕ) → n ≤ limit → decimal_up_to limit (digits_of n) ≡ Some n
 unfolding decimal_up_to value_up_to
 decimal-written limit n h = rw (decimal-digits n, value-digits n, le-leb n limit h)
 
 -- and nothing else is
-pub decimal-read : (limit n : ℕ) (s : List ℕ) → decimal_up_to limit s ≡ Value n → (n ≤ limit) × (s ≡ digits_of n)
+pub decimal-read : (limit n : ℕ) (s : List ℕ) → decimal_up_to limit s ≡ Some n → (n ≤ limit) × (s ≡ digits_of n)
 unfolding decimal_up_to value_up_to
 decimal-read limit n s e = go (is_decimal s) refl (leb (value_of s) limit) refl
   where
     go : (t : Bool) → is_decimal s ≡ t → (u : Bool) → leb (value_of s) limit ≡ u → (n ≤ limit) × (s ≡ digits_of n)
     go true f true g =
-        let d : decimal_up_to limit s ≡ Value (value_of s) = rw (f, g) in
+        let d : decimal_up_to limit s ≡ Some (value_of s) = rw (f, g) in
         let q : value_of s ≡ n = cc in
         (omega (arith, leb-true (value_of s) limit g), sym (digits_value s f) ∙ rw q)
-    go true f false g = let d : decimal_up_to limit s ≡ Malformed = rw (f, g) in let z : ◌≡◌ {A = ℕ} 0 1 = cc in absurd (omega arith)
-    go false f u g = let d : decimal_up_to limit s ≡ Malformed = rw f in let z : ◌≡◌ {A = ℕ} 0 1 = cc in absurd (omega arith)
+    go true f false g = let d : decimal_up_to limit s ≡ None = rw (f, g) in let z : ◌≡◌ {A = ℕ} 0 1 = cc in absurd (omega arith)
+    go false f u g = let d : decimal_up_to limit s ≡ None = rw f in let z : ◌≡◌ {A = ℕ} 0 1 = cc in absurd (omega arith)

@@ -2,8 +2,8 @@
 use mathlib.Core.Path.{◌≡◌, refl}
 use mathlib.Core.List.{[], ◌∷◌, map}
 use lib.ListN.{replicate}
-use Rattle.octets.specs.declared.Order.TheVariants.{Less, More}
-use Rattle.octets.specs.declared.Decimal.TheVariants.{Value, Malformed}
+use Rattle.std.specs.declared.cmp.Ordering.TheVariants.{Less, Greater}
+use Rattle.std.specs.Prelude.{Some, None}
 use Rattle.octets.specs.Bytes.{within, is_digit}
 use Rattle.laws.specs.Lists.{all, starts_with}
 use Rattle.octets.specs.Order.{compare}
@@ -15,7 +15,7 @@ unfolding compare
 first-decides = refl
 
 -- bytes are unsigned
-unsigned : compare (128 ∷ []) (127 ∷ []) ≡ More
+unsigned : compare (128 ∷ []) (127 ∷ []) ≡ Greater
 unfolding compare
 unsigned = refl
 
@@ -29,10 +29,10 @@ unfolding digits_of digits_up_to
 most-written = refl
 
 -- '0' and '10' are read, the limit itself too; nothing at all, '1a', '00' and '11', which is past the limit, are not
-decimals : map (decimal_up_to 10) ((48 ∷ []) ∷ (49 ∷ 48 ∷ []) ∷ []) ≡ Value 0 ∷ Value 10 ∷ []
+decimals : map (decimal_up_to 10) ((48 ∷ []) ∷ (49 ∷ 48 ∷ []) ∷ []) ≡ Some 0 ∷ Some 10 ∷ []
 unfolding decimal_up_to is_decimal leads_with_zero starts_with value_up_to value_from all is_digit within
 decimals = refl
 
-no-decimals : map (decimal_up_to 10) ([] ∷ (49 ∷ 97 ∷ []) ∷ (48 ∷ 48 ∷ []) ∷ (49 ∷ 49 ∷ []) ∷ []) ≡ replicate 4 Malformed
+no-decimals : map (decimal_up_to 10) ([] ∷ (49 ∷ 97 ∷ []) ∷ (48 ∷ 48 ∷ []) ∷ (49 ∷ 49 ∷ []) ∷ []) ≡ replicate 4 None
 unfolding decimal_up_to is_decimal leads_with_zero starts_with value_up_to value_from all is_digit within
 no-decimals = refl

@@ -9,8 +9,10 @@ use native.Mathlib.Omega.{arith}
 use lib.ListN.{take, drop}
 use lib.Dec.{eqb, ltb}
 use borrow.Author.Tests.{eq-eqb, ne_eqb, lt-ltb, le-ltb, eqb-true, eqb-false, ltb-true, ltb-false}
-use Rattle.octets.specs.declared.Order.{Order}
-use Rattle.octets.specs.declared.Order.TheVariants.{Less, Same, More}
+use Rattle.std.specs.declared.cmp.Ordering.{Ordering}
+use Rattle.std.specs.declared.cmp.Ordering.TheVariants.{Less, Equal, Greater}
+use Rattle.std.specs.Ordering.{nat_cmp}
+use Rattle.std.specs.Cmp.Lexicographic.{slice_cmp}
 use Rattle.octets.specs.Order.{compare, opposite}
 use Rattle.laws.specs.Lists.{same}
 use Rattle.octets.proofs.Bytes.{same_true}
@@ -25,7 +27,7 @@ module _ (x y : ℕ) (s t : List ℕ) where
   unfolding compare
   heads-less h = simp (ne_eqb x y (λ e. omega arith), lt-ltb x y h)
 
-  pub heads-more : y < x → compare (x ∷ s) (y ∷ t) ≡ More
+  pub heads-more : y < x → compare (x ∷ s) (y ∷ t) ≡ Greater
   unfolding compare
   heads-more h = simp (ne_eqb x y (λ e. omega arith), le-ltb x y (omega arith))
 
@@ -39,7 +41,7 @@ trichotomy x y = go (eqb x y) refl (ltb x y) refl
     go false e false f = inr (inr (omega (arith, eqb-false x y e, ltb-false x y f)))
 
 -- ---- the laws of an order
-pub compare_refl : (a : List ℕ) → compare a a ≡ Same
+pub compare_refl : (a : List ℕ) → compare a a ≡ Equal
 unfolding compare
 compare_refl [] = refl
 compare_refl (x ∷ s) = heads-same x x s s refl ∙ compare_refl s
@@ -50,14 +52,14 @@ unfolding compare
 compare-nil x s = refl
 
 -- antisymmetric: lists of which neither is smaller are equal
-pub compare_same : (a b : List ℕ) → compare a b ≡ Same → a ≡ b
+pub compare_same : (a b : List ℕ) → compare a b ≡ Equal → a ≡ b
 unfolding compare
 compare_same [] [] e = refl
 compare_same [] (y ∷ t) e = let z : ◌≡◌ {A = ℕ} 0 1 = cc in absurd (omega arith)
 compare_same (x ∷ s) [] e = let z : ◌≡◌ {A = ℕ} 0 1 = cc in absurd (omega arith)
 compare_same (x ∷ s) (y ∷ t) e = go (trichotomy x y) (compare_same s t)
   where
-    go : (x < y) ⊎ ((x ≡ y) ⊎ (y < x)) → (compare s t ≡ Same → s ≡ t) → x ∷ s ≡ y ∷ t
+    go : (x < y) ⊎ ((x ≡ y) ⊎ (y < x)) → (compare s t ≡ Equal → s ≡ t) → x ∷ s ≡ y ∷ t
     go (inl h) ih = let l = heads-less x y s t h in let z : ◌≡◌ {A = ℕ} 0 1 = cc in absurd (omega arith)
     go (inr (inl h)) ih = rw (h, ih (sym (heads-same x y s t h) ∙ e))
     go (inr (inr h)) ih = let l = heads-more x y s t h in let z : ◌≡◌ {A = ℕ} 0 1 = cc in absurd (omega arith)
@@ -105,10 +107,10 @@ compare-trans (x ∷ s) (y ∷ t) (z ∷ u) e f = go (less-heads x y s t e) (les
     go (inr h) (inr k) ih = heads-same x z s u (h.0 ∙ k.0) ∙ ih h.1 k.1
 
 -- ---- by the first bytes, and where these are the same, by the rest
-abbrev pub then_by : Order → Order → Order
+abbrev pub then_by : Ordering → Ordering → Ordering
 then_by Less o = Less
-then_by Same o = o
-then_by More o = More
+then_by Equal o = o
+then_by Greater o = Greater
 
 pub compare-parts : (n : ℕ) (a b : List ℕ) → compare a b ≡ then_by (compare (take n a) (take n b)) (compare (drop n a) (drop n b))
 unfolding compare
@@ -124,15 +126,29 @@ compare-parts (suc n) (x ∷ s) (y ∷ t) = go (eqb x y) refl (ltb x y) refl (co
     go false e true f ih = rw (e, f)
     go false e false f ih = rw (e, f)
 
+-- ---- the library's order of lists of numbers is the same
+pub compare_library : (a b : List ℕ) → slice_cmp nat_cmp a b ≡ compare a b
+unfolding compare
+compare_library [] [] = refl
+compare_library [] (y ∷ t) = refl
+compare_library (x ∷ s) [] = refl
+compare_library (x ∷ s) (y ∷ t) = go (eqb x y) refl (ltb x y) refl (compare_library s t)
+  where
+    go : (u : Bool) → eqb x y ≡ u → (v : Bool) → ltb x y ≡ v → slice_cmp nat_cmp s t ≡ compare s t → slice_cmp nat_cmp (x ∷ s) (y ∷ t) ≡ compare (x ∷ s) (y ∷ t)
+    go true e true f ih = absurd (omega (arith, eqb-true x y e, ltb-true x y f))
+    go true e false f ih = rw (f, e) ih
+    go false e true f ih = rw (f, e)
+    go false e false f ih = rw (f, e)
+
 -- ---- the smaller of two
 abbrev pub Below : List ℕ → List ℕ → Type 0
 Below a b = compare a b ≡ Less
 
-pub below_more : (a b : List ℕ) → Below a b → compare b a ≡ More
+pub below_more : (a b : List ℕ) → Below a b → compare b a ≡ Greater
 unfolding opposite
 below_more a b h = compare-swap a b ∙ ap opposite h
 
-pub more-below : (a b : List ℕ) → compare a b ≡ More → Below b a
+pub more-below : (a b : List ℕ) → compare a b ≡ Greater → Below b a
 unfolding opposite
 more-below a b h = compare-swap a b ∙ ap opposite h
 

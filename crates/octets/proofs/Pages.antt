@@ -1,11 +1,13 @@
 -- Laws of a text that a pen puts together: pieces put one after the other are one piece, and at the end the text is what was put, where that has room. Assumes nothing.
-use Rattle.std.proofs.Common.{◌≡◌, refl, sym, ap, ◌∙◌, ℕ, suc, ◌+◌, ◌-◌, ◌≤◌, ◌<◌, Bool, true, false, List, [], ◌++◌, Some, None, length, take, drop, leb, append_assoc, length-append, arith}
-use mathlib.Core.List.{append-nil}
+use Rattle.std.proofs.Common.{◌≡◌, refl, sym, ap, ◌∙◌, ℕ, suc, ◌+◌, ◌-◌, ◌≤◌, ◌<◌, Bool, true, false, cond, ◌&&◌, List, [], ◌∷◌, ◌++◌, Some, None, map, length, get_or, take, drop, leb, append_assoc, length-append, arith}
+use mathlib.Core.List.{append-nil, map-append}
+use Rattle.std.proofs.lemmas.List.{take_more}
 use lib.Seq.{take_at, length-take-le}
 use borrow.Author.Tests.{le-leb, lt-leb, leb-true, leb-false}
-use Rattle.octets.specs.Room.{put_at, end_of}
-use Rattle.octets.specs.Pages.{Page, Open, Full, fresh, added, text_of, page_of}
-use Rattle.octets.proofs.Room.{put-fits, end_fits, end-over, length-put}
+use Rattle.std.specs.Option.{unwrap_or}
+use Rattle.octets.specs.Room.{put_at, end_of, front}
+use Rattle.octets.specs.Pages.{Page, Open, Full, fresh, added, text_of, text_for, page_of}
+use Rattle.octets.proofs.Room.{put-fits, end_fits, end-over, put_front, length-put, part-front}
 
 -- ---- a piece, by whether it has room
 pub added-fits : (w : List ℕ) (n : ℕ) (p : List ℕ) → length p ≤ n → added (Open w n) p ≡ Open (w ++ p) (n - length p)
@@ -22,9 +24,9 @@ added-full p = refl
 
 -- ---- pieces
 -- nothing put changes nothing
-pub added-nothing : (g : Page) → added g [] ≡ g
-added-nothing (Open w n) = added-fits w n [] (omega arith) ∙ rw (append-nil w) (ap (Open w) (omega arith))
-added-nothing Full = added-full []
+pub added_nothing : (g : Page) → added g [] ≡ g
+added_nothing (Open w n) = added-fits w n [] (omega arith) ∙ rw (append-nil w) (ap (Open w) (omega arith))
+added_nothing Full = added-full []
 
 -- two pieces are one
 pub added_then : (g : Page) (p q : List ℕ) → added (added g p) q ≡ added g (p ++ q)
@@ -43,6 +45,20 @@ added_then (Open w n) p q = go (leb (length p) n) refl (leb (length (p ++ q)) n)
     go false e u f =
         let h : n < length p = leb-false (length p) n e in
         rw (added-over w n p h, added-over w n (p ++ q) (omega (arith, length-append p q))) (added-full q)
+
+-- what a chain of puts needs, of parts of lent bytes too
+pub ruleset pieces = (added_then, added_nothing, part-front)
+
+-- ---- a loop that puts pieces: what is put so far, with the rest behind it, is all of them
+pub added_step : (first g next : Page) (all p rest more : List ℕ) → rest ≡ p ++ more → next ≡ added g p → added g rest ≡ added first all → added next more ≡ added first all
+added_step first g next all p rest more e f h = rw f (added_then g p more) ∙ ap (added g) (sym e) ∙ h
+
+pub added_end : (first g : Page) (all rest : List ℕ) → rest ≡ [] → added g rest ≡ added first all → g ≡ added first all
+added_end first g all rest e h = sym (added_nothing g) ∙ ap (added g) (sym e) ∙ h
+
+-- of each byte one, the next behind those of the bytes before
+pub added_map_more : (g : Page) (f : ℕ → ℕ) (s : List ℕ) (i : ℕ) → i < length s → added g (map f (take (i + 1) s)) ≡ added (added g (map f (take i s))) (f (get_or s i 0) ∷ [])
+added_map_more g f s i h = ap (λ (l : List ℕ). added g (map f l)) (take_more s i 0 h) ∙ ap (added g) (map-append f (take i s) (get_or s i 0 ∷ [])) ∙ sym (added_then g (map f (take i s)) (f (get_or s i 0) ∷ []))
 
 -- ---- a page of some room
 module _ (room : List ℕ) (at : ℕ) where
@@ -96,18 +112,35 @@ page_text room at g e h = ap text_of (sym e ∙ page-open room at h)
 pub page_none : (room : List ℕ) (at : ℕ) (g : Page) → page_of room at ≡ g → length room < at → text_of g ≡ None
 page_none room at g e h = ap text_of (sym e ∙ page-full room at h)
 
+-- and that goes to the front of some output, where it has room
+pub page_copied : (g : Page) (w out next : List ℕ) → text_of g ≡ Some w → length w ≤ length out → next ≡ put_at out 0 w → next ≡ front (unwrap_or (text_for out g) []) out
+page_copied Full w out next e = λ h f. absurd (cc)
+page_copied (Open v n) w out next e = λ h f.
+    let v=w : v ≡ w = cc in
+    rw (v=w, le-leb (length w) (length out) h) (f ∙ put_front out w h)
+
 -- ---- the text of a whole page
-module _ (n : ℕ) (w : List ℕ) where
-  pub text-fits : (t : List ℕ) → text_of (added (fresh n) w) ≡ Some t → (t ≡ w) × (length w ≤ n)
+module _ (g : Page) (n : ℕ) (w : List ℕ) (put : g ≡ added (fresh n) w) where
+  -- if there is one, it is what was put
+  pub text-fits : (t : List ℕ) → text_of g ≡ Some t → (t ≡ w) × (length w ≤ n)
   text-fits t e = go (leb (length w) n) refl
     where
       go : (u : Bool) → leb (length w) n ≡ u → (t ≡ w) × (length w ≤ n)
-      go true f = let h : length w ≤ n = leb-true (length w) n f in let d = ap text_of (added-fits [] n w h) in (cc, h)
-      go false f = let d = ap text_of (added-over [] n w (leb-false (length w) n f)) in absurd (cc)
+      go true f = let h : length w ≤ n = leb-true (length w) n f in let d = ap text_of (put ∙ added-fits [] n w h) in (cc, h)
+      go false f = let d = ap text_of (put ∙ added-over [] n w (leb-false (length w) n f)) in absurd (cc)
 
-  pub text-over : text_of (added (fresh n) w) ≡ None → n < length w
+  -- and else that was too long
+  pub text-over : text_of g ≡ None → n < length w
   text-over e = go (leb (length w) n) refl
     where
       go : (u : Bool) → leb (length w) n ≡ u → n < length w
-      go true f = let d = ap text_of (added-fits [] n w (leb-true (length w) n f)) in absurd (cc)
+      go true f = let d = ap text_of (put ∙ added-fits [] n w (leb-true (length w) n f)) in absurd (cc)
       go false f = leb-false (length w) n f
+
+-- and it goes out whole, where both have room for it
+pub text_goes : (n : ℕ) (w out : List ℕ) → text_for out (added (fresh n) w) ≡ cond (leb (length w) n && leb (length w) (length out)) (Some w) None
+text_goes n w out = go (leb (length w) n) refl
+  where
+    go : (u : Bool) → leb (length w) n ≡ u → text_for out (added (fresh n) w) ≡ cond (u && leb (length w) (length out)) (Some w) None
+    go true f = ap (text_for out) (added-fits [] n w (leb-true (length w) n f))
+    go false f = ap (text_for out) (added-over [] n w (leb-false (length w) n f))

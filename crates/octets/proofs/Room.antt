@@ -2,16 +2,17 @@
 use mathlib.Core.Path.{◌≡◌, refl, sym, ap, ◌∙◌}
 use mathlib.Core.Bool.{Bool, true, false}
 use mathlib.Core.List.{List, [], ◌++◌, append-nil, append_assoc}
-use Prim.Native.Nat.{ℕ, suc, ◌+◌, ◌-◌, ◌≤◌, ◌<◌}
+use Prim.Native.Nat.{ℕ, suc, ◌+◌, ◌-◌, ◌≤◌, ◌<◌, min}
 use native.Mathlib.Nat.{zero-add}
 use native.Mathlib.Omega.{arith}
 use lib.ListN.{length, take, drop, get_or, replicate, length-append, length-take, length-drop, length-replicate, get_or-replicate, take-append-drop, drop_of_length-le}
 use lib.Seq.{take-append_seam, take-append-le, drop-append-le, take-add, drop-append-add, drop-drop, drop_at, take_at, take_all, length-take-le, get_or-append-add, get_or-drop}
+use Rattle.std.proofs.lemmas.List.{take_min, drop-replicate}
 use borrow.Author.Tests.{le-leb, leb-true, leb-false, lt-leb}
 use Rattle.laws.specs.Lists.{padded}
 use Rattle.octets.specs.Room.{part, fits, put_at, end_of, front}
 use Rattle.octets.specs.Private.Additions.{Holds, Adds, AtFront}
-use Rattle.laws.proofs.Lists.{front-part, padded-take}
+use Rattle.laws.proofs.Lists.{front-part, padded-take, padded-behind, padded-cut}
 
 -- ---- a part at either end
 pub part-front : (s : List ℕ) (n : ℕ) → part s 0 n ≡ take n s
@@ -242,6 +243,15 @@ module _ (n : ℕ) (p : List ℕ) (h : length p ≤ n) where
 
   pub put-padded : put_at room 0 p ≡ padded n 0 p
   put-padded = put_front room p (omega (arith, length-replicate {A = ℕ} n 0)) ∙ front-padded
+
+-- bytes copied to the front of such room, as far as there is room for them
+pub copied-padded : (n k : ℕ) (s : List ℕ) → k ≡ min (length s) n → take k s ++ drop k (replicate n 0) ≡ padded n 0 s
+copied-padded n k s e =
+    let f : k ≡ min n (length s) = omega arith in
+    let m : length (take n s) ≡ k = omega (arith, length-take n s) in
+    let front : take k s ≡ take n s = rw f (take_min n s) in
+    let rest : drop {A = ℕ} k (replicate n 0) ≡ replicate (n - length (take n s)) 0 = rw m (drop-replicate k n 0) in
+    rw (front, rest) (sym (padded-behind 0 n (take n s) (omega arith)) ∙ padded-cut 0 n s)
 
 -- and more of them behind those
 pub put-padded-behind : (n : ℕ) (p q : List ℕ) → length p + length q ≤ n → put_at (padded n 0 p) (length p) q ≡ padded n 0 (p ++ q)

@@ -1,7 +1,5 @@
 -- Numbers in decimal, without leading zeros (document 01, 'SJOIN').
-use Rattle.std.specs.Prelude.{ℕ, zero, suc, ◌+◌, ◌-◌, ◌*◌, ◌/◌, ◌%◌, Bool, true, false, not, cond, ◌&&◌, List, [], ◌∷◌, ◌++◌, length, leb, ltb}
-use Rattle.octets.specs.declared.Decimal.{Decimal}
-use Rattle.octets.specs.declared.Decimal.TheVariants.{Value, Malformed}
+use Rattle.std.specs.Prelude.{ℕ, zero, suc, ◌+◌, ◌-◌, ◌*◌, ◌/◌, ◌%◌, Bool, true, false, not, cond, ◌&&◌, List, [], ◌∷◌, ◌++◌, length, leb, ltb, Option, Some, None}
 use Rattle.octets.specs.Bytes.{is_digit}
 use Rattle.laws.specs.Lists.{all, is_nil, starts_with}
 
@@ -26,23 +24,23 @@ abbrev pub value_of : List ℕ → ℕ
 value_of s = value_from 0 s
 
 -- the number that digits stand for, up to a limit
-unfoldable pub value_up_to : ℕ → List ℕ → Decimal
-value_up_to limit s = cond (leb (value_of s) limit) (Value (value_of s)) Malformed
+unfoldable pub value_up_to : ℕ → List ℕ → Option ℕ
+value_up_to limit s = cond (leb (value_of s) limit) (Some (value_of s)) None
 
 -- the number that bytes are in decimal, up to a limit, however many digits come
-unfoldable pub decimal_up_to : ℕ → List ℕ → Decimal
-decimal_up_to limit s = cond (is_decimal s) (value_up_to limit s) Malformed
+unfoldable pub decimal_up_to : ℕ → List ℕ → Option ℕ
+decimal_up_to limit s = cond (is_decimal s) (value_up_to limit s) None
 
 -- ---- the answer, by cases
 -- there is no number
-abbrev pub is_malformed : Decimal → Bool
-is_malformed (Value n) = false
-is_malformed Malformed = true
+abbrev pub is_malformed : Option ℕ → Bool
+is_malformed (Some n) = false
+is_malformed None = true
 
 -- the number, or 0 where there is none
-abbrev pub value_in : Decimal → ℕ
-value_in (Value n) = n
-value_in Malformed = 0
+abbrev pub value_in : Option ℕ → ℕ
+value_in (Some n) = n
+value_in None = 0
 
 -- bytes are a number in decimal, and within a limit
 abbrev pub is_up_to : ℕ → List ℕ → Bool

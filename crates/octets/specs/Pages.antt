@@ -20,6 +20,11 @@ abbrev pub text_of : Page → Option (List ℕ)
 text_of (Open w n) = Some w
 text_of Full = None
 
+-- the same, if it has room in some output too
+abbrev pub text_for : List ℕ → Page → Option (List ℕ)
+text_for out (Open w n) = cond (leb (length w) (length out)) (Some w) None
+text_for out Full = None
+
 -- a page of some room of which the bytes up to a place are the text; one past the room there is none
 unfoldable pub page_of : List ℕ → ℕ → Page
 page_of room at = cond (leb at (length room)) (Open (take at room) (length room - at)) Full

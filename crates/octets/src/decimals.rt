@@ -5,7 +5,7 @@ ghost use Rattle.laws.specs.Lists.{all};
 ghost use Rattle.octets.specs.Decimals.{leads_with_zero, value_of, value_up_to, decimal_up_to, is_malformed, value_in, is_up_to, digit as digit_of, digits_of};
 ghost use Rattle.octets.specs.Room.{put_at, end_of};
 
-use crate::{Class, Decimal, all_in, put};
+use crate::{Class, all_in, put};
 
 // The most digits of a 64-bit number.
 const MOST_DIGITS: usize = 20;
@@ -21,7 +21,7 @@ fn leads_with_zero(s: &[u8]) -> bool
 }
 
 // The number that digits stand for, up to a limit. It stops as soon as the limit is passed, so nothing overflows, however many digits come.
-fn value_up_to(s: &[u8], limit: u32) -> Decimal
+fn value_up_to(s: &[u8], limit: u32) -> Option<u32>
     requires { all is_digit s.now ≡ true }
     ensures { result ≡ value_up_to limit s.now }
 {
@@ -31,27 +31,27 @@ fn value_up_to(s: &[u8], limit: u32) -> Decimal
     while i < s.len() {
         value = value * 10 + (s[i] - b'0') as u64;
         if past <= value {
-            return Decimal::Malformed;
+            return None;
         }
         i += 1;
     }
-    Decimal::Value(value as u32)
+    Some(value as u32)
 }
 
 // The number that the bytes are in decimal, without leading zeros, up to a limit, however many digits come.
-pub fn decimal(s: &[u8], limit: u32) -> Decimal
+pub fn decimal(s: &[u8], limit: u32) -> Option<u32>
     ensures answer { result ≡ decimal_up_to limit s.now }
     ensures malformed { is_malformed result ≡ not (is_up_to limit s.now) }
     ensures value { value_in result ≡ cond (is_up_to limit s.now) (value_of s.now) 0 }
 {
     if s.len() == 0 {
-        return Decimal::Malformed;
+        return None;
     }
     if !all_in(s, Class::Digit) {
-        return Decimal::Malformed;
+        return None;
     }
     if leads_with_zero(s) {
-        return Decimal::Malformed;
+        return None;
     }
     value_up_to(s, limit)
 }

@@ -5,11 +5,13 @@
 ghost use Rattle.std.specs.Prelude.{◌≡◌, cond, ◌+◌, ◌≤◌, min, length, take, drop, eqb};
 ghost use Rattle.std.proofs.Math.Seq.{paste};
 ghost use Rattle.octets.specs.Bytes.{is_zero, within, is_plain, is_letter, is_id_byte, is_name_byte, is_key_byte, in_class, capital as capital_of};
-ghost use Rattle.laws.specs.Lists.{all};
+ghost use Rattle.laws.specs.Lists.{all, padded as padded_to};
 ghost use Rattle.octets.specs.Search.{differs, before};
 ghost use Rattle.octets.specs.Private.Blocks.{block_length, Clear};
 ghost use Rattle.octets.specs.Order.{compare as compare_of};
 ghost use Rattle.octets.specs.Room.{part as part_of, place_in, put_at, end_of};
+
+use std::cmp::Ordering;
 
 pub mod decimals;
 pub mod pen;
@@ -39,14 +41,6 @@ pub enum Class {
     Name,
     // 33 to 126 without comma
     Key,
-}
-
-// How two byte strings stand to each other.
-#[derive(Clone, Copy)]
-pub enum Order {
-    Less,
-    Same,
-    More,
 }
 
 // Whether lo ≤ b ≤ hi.
@@ -230,46 +224,10 @@ pub fn place_of(s: &[u8], b: u8) -> usize
 }
 
 // How a stands to b: by the first byte that differs, a proper beginning being smaller.
-pub fn compare(a: &[u8], b: &[u8]) -> Order
+pub fn compare(a: &[u8], b: &[u8]) -> Ordering
     ensures { result ≡ compare_of a.now b.now }
 {
-    let mut same = 0;
-    while same < a.len() {
-        if same == b.len() {
-            return Order::More;
-        }
-        let x = a[same];
-        let y = b[same];
-        if x < y {
-            return Order::Less;
-        }
-        if y < x {
-            return Order::More;
-        }
-        same += 1;
-    }
-    if same < b.len() {
-        return Order::Less;
-    }
-    Order::Same
-}
-
-// What bytes are as a number in decimal, up to a limit.
-#[derive(Clone, Copy)]
-pub enum Decimal {
-    Value(u32),
-    // no number in decimal, or one past the limit
-    Malformed,
-}
-
-// The lesser of two numbers.
-pub fn lesser(a: usize, b: usize) -> usize
-    ensures { result ≡ min a b }
-{
-    if a < b {
-        return a;
-    }
-    b
+    a.cmp(b)
 }
 
 // The bytes from `start` up to, not including, `end`, as that part of the lent slice. What lies past the slice's end is left off.
@@ -277,8 +235,8 @@ pub fn part(s: &[u8], start: usize, end: usize) -> &[u8]
     ensures bytes { result.now ≡ part_of s.now start end }
     ensures place { result.ref_ptr ≡ place_in s.entry (min start (min end (length s.now))) }
 {
-    let stop = lesser(end, s.len());
-    let from = lesser(start, stop);
+    let stop = end.min(s.len());
+    let from = start.min(stop);
     &s[from..stop]
 }
 
@@ -308,6 +266,16 @@ pub fn put(out: &mut [u8], at: usize, p: &[u8]) -> usize
     }
     copy_at(out, at, p);
     at + p.len()
+}
+
+// The bytes at the front of a room of N bytes, the rest of it zero; what there is no room for is left off.
+pub fn padded<const N: usize>(s: &[u8]) -> [u8; N]
+    ensures { result ≡ padded_to N 0 s.now }
+{
+    let mut room = [0u8; N];
+    let n = s.len().min(N);
+    room[..n].copy_from_slice(&s[..n]);
+    room
 }
 
 // The byte, or its capital where it is a small letter.

@@ -1,7 +1,9 @@
 // A text put together piece by piece in lent room.
-ghost use Rattle.std.specs.Prelude.{◌≡◌, Some, None, MatchOption, length};
+ghost use Rattle.std.specs.Prelude.{◌≡◌, [], Some, None, MatchOption, length};
+ghost use Rattle.std.specs.Option.{option_map, unwrap_or};
 ghost use Rattle.octets.specs.Decimals.{digits_of};
-ghost use Rattle.octets.specs.Pages.{fresh, added, text_of};
+ghost use Rattle.octets.specs.Room.{front};
+ghost use Rattle.octets.specs.Pages.{fresh, added, text_of, text_for};
 
 use crate::decimals::put_decimal;
 use crate::put;
@@ -50,5 +52,18 @@ impl<'a> Pen<'a> {
         ensures { MatchOption result (text_of self.now ≡ None) (λ t. text_of self.now ≡ Some t.now) }
     {
         self.room.get(..self.at)
+    }
+
+    // Copies the text to the front of the output, if all of it had room, and has room there, and answers how many bytes it has.
+    pub fn copy_to(&self, out: &mut [u8]) -> Option<usize>
+        ensures length { result ≡ option_map length (text_for out.old self.now) }
+        ensures output { out.new ≡ front (unwrap_or (text_for out.old self.now) []) out.old }
+    {
+        let text = self.text()?;
+        if out.len() < text.len() {
+            return None;
+        }
+        put(out, 0, text);
+        Some(text.len())
     }
 }

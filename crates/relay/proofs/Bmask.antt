@@ -17,10 +17,9 @@ use Rattle.octets.specs.Decimals.{value_of}
 use Rattle.channel.specs.declared.Record.{Record}
 use Rattle.channel.specs.Limits.{slot_count, ban_limit}
 use Rattle.channel.specs.Record.{empty_record}
-use Rattle.bans.specs.declared.Added.{Added}
 use Rattle.bans.specs.Masks.{is_mask}
 use Rattle.bans.specs.WellFormed.{well_formed_list}
-use Rattle.bans.specs.Putting.{add_answer}
+use Rattle.bans.specs.Putting.{Added, add_answer}
 use Rattle.bans.specs.Slots.{list_at, list_of, list_with}
 use Rattle.bans.proofs.Slots.{used-list, load-whole}
 use Rattle.bans.proofs.Uniting.{add-full, add-keeps, add-list}

@@ -27,8 +27,7 @@ use Rattle.channel.proofs.Records.{decode-encode}
 use Rattle.bans.specs.WellFormed.{good_list}
 use Rattle.bans.specs.Slots.{list_at}
 use Rattle.bans.proofs.Slots.{used-list, free-list, unused-well}
-use Rattle.merging.specs.declared.Combined.{Combined}
-use Rattle.merging.specs.Merging.{merge, answered, room_rules, combined}
+use Rattle.merging.specs.Merging.{Combined, merge, answered, room_rules, combined}
 use Rattle.merging.proofs.Proper.{proper-merge}
 use Rattle.merging.proofs.Answers.{combined-merge}
 use Rattle.table.specs.declared.Slot.{Slot}

@@ -20,8 +20,7 @@ use Rattle.channel.specs.Record.{encode, decode, empty_record}
 use Rattle.channel.specs.Standing.{counts, settings_at, standing, bare}
 use Rattle.channel.proofs.Proper.{Proper, proper-fits}
 use Rattle.channel.proofs.Records.{decode-encode}
-use Rattle.merging.specs.declared.Combined.{Combined}
-use Rattle.merging.specs.Merging.{combined}
+use Rattle.merging.specs.Merging.{Combined, combined}
 use Rattle.table.specs.declared.Found.{Found}
 use Rattle.table.specs.declared.Slot.{Slot}
 use Rattle.table.specs.declared.Slot.TheVariants.{Held, Free, Full}

@@ -14,7 +14,7 @@ use Rattle.refusal.specs.Faults.{Fault, number_of}
 use Rattle.refusal.proofs.Rules.{skip, stop, first-nil, first-none, first_plain, numbered, append-some, append-none}
 use Rattle.laws.specs.Lists.{same}
 use Rattle.laws.proofs.Bools.{and_left, and_right, both_ways}
-use Rattle.octets.specs.declared.Decimal.TheVariants.{Value, Malformed}
+use Rattle.std.specs.Prelude.{Some, None}
 use Rattle.octets.specs.Decimals.{zero_digit, is_decimal, value_from, value_of, digits_of, decimal_up_to}
 use Rattle.octets.proofs.Bytes.{same_refl, same_true}
 use Rattle.octets.proofs.Digits.{digits-one, value-digits, decimal-digits, digits_value, decimal-read, value_in}
@@ -48,20 +48,20 @@ rules-numbered c = refl
 
 -- ---- the time
 -- a text that is read as a number is a time, and the number its value
-pub time-value : (s : List ℕ) (n : ℕ) → decimal_up_to time_limit s ≡ Value n → (is_time s ≡ true) × (value_of s ≡ n)
+pub time-value : (s : List ℕ) (n : ℕ) → decimal_up_to time_limit s ≡ Some n → (is_time s ≡ true) × (value_of s ≡ n)
 unfolding is_time
 time-value s n e =
     let r = decimal-read time_limit n s e in
     (rw (r.1, decimal-digits n, value-digits n, le-leb n time_limit r.0), rw r.1 (value-digits n))
 
 -- a text that isn't read is no time
-pub time-none : (s : List ℕ) → decimal_up_to time_limit s ≡ Malformed → is_time s ≡ false
+pub time-none : (s : List ℕ) → decimal_up_to time_limit s ≡ None → is_time s ≡ false
 unfolding decimal_up_to is_time
 time-none s e = go (is_decimal s) refl (leb (value_of s) time_limit) refl
   where
     go : (t : Bool) → is_decimal s ≡ t → (u : Bool) → leb (value_of s) time_limit ≡ u → is_time s ≡ false
     go true f true g =
-        let d : decimal_up_to time_limit s ≡ Value (value_of s) = rw f (value_in time_limit s (leb-true (value_of s) time_limit g)) in
+        let d : decimal_up_to time_limit s ≡ Some (value_of s) = rw f (value_in time_limit s (leb-true (value_of s) time_limit g)) in
         let z : ◌≡◌ {A = ℕ} 0 1 = cc in absurd (omega arith)
     go true f false g = rw (f, g)
     go false f u g = rw f
@@ -70,11 +70,6 @@ time-none s e = go (is_decimal s) refl (leb (value_of s) time_limit) refl
 pub time-said : (s : List ℕ) → is_time s ≡ true → time_of s ≡ value_of s
 unfolding time_of
 time-said s t = rw t
-
--- a text that is no time says 0
-pub time-unsaid : (s : List ℕ) → is_time s ≡ false → time_of s ≡ 0
-unfolding time_of
-time-unsaid s t = rw t
 
 -- one that is good is `0` exactly if its value is 0
 pub time-zero : (s : List ℕ) → is_time s ≡ true → same s (zero_digit ∷ []) ≡ eqb (value_of s) 0

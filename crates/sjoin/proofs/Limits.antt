@@ -6,7 +6,7 @@ use mathlib.Core.List.{List}
 use native.Mathlib.Omega.{arith}
 use lib.Dec.{eqb, leb}
 use borrow.Author.Tests.{ne_eqb, le-leb, leb-true, leb-false}
-use Rattle.octets.specs.declared.Decimal.TheVariants.{Value, Malformed}
+use Rattle.std.specs.Prelude.{Some, None}
 use Rattle.octets.specs.Decimals.{is_decimal, value_of, decimal_up_to, digits_of}
 use Rattle.laws.proofs.Bools.{and-three}
 use Rattle.octets.proofs.Digits.{value-digits, decimal-digits, decimal-read, value_in}
@@ -24,20 +24,8 @@ limit-digits n h = go (leb 1 n) refl
     go false e = rw (decimal-digits n, value-digits n, le-leb n limit_limit h, e) (omega (arith, leb-false 1 n e))
 
 -- a text that is read as a number has it as its limit, 0 standing for none
-pub limit-value : (s : List ℕ) (n : ℕ) → decimal_up_to limit_limit s ≡ Value n → limit_in s ≡ n
+pub limit-value : (s : List ℕ) (n : ℕ) → decimal_up_to limit_limit s ≡ Some n → limit_in s ≡ n
 limit-value s n e = let r = decimal-read limit_limit n s e in rw r.1 (limit-digits n r.0)
-
--- a text that isn't read has no limit
-pub limit-none : (s : List ℕ) → decimal_up_to limit_limit s ≡ Malformed → limit_in s ≡ 0
-unfolding decimal_up_to limit_in is_limit
-limit-none s e = go (is_decimal s) refl (leb (value_of s) limit_limit) refl
-  where
-    go : (t : Bool) → is_decimal s ≡ t → (u : Bool) → leb (value_of s) limit_limit ≡ u → limit_in s ≡ 0
-    go true f true g =
-        let d : decimal_up_to limit_limit s ≡ Value (value_of s) = rw f (value_in limit_limit s (leb-true (value_of s) limit_limit g)) in
-        let z : ◌≡◌ {A = ℕ} 0 1 = cc in absurd (omega arith)
-    go true f false g = rw (f, g, and-false (leb 1 (value_of s)))
-    go false f u g = rw f
 
 -- a limit is one that isn't 0
 pub limit-bounds : (s : List ℕ) → is_limit s ≡ true → (1 ≤ value_of s) × (value_of s ≤ limit_limit)

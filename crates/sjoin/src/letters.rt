@@ -10,7 +10,6 @@ use crate::Verdict;
 use channel::Record;
 use channel::key::is_key;
 use channel::modes::{MODES, has_mode, mode_place, with_mode};
-use octets::Decimal;
 use octets::decimals::decimal;
 use refusal::{ACCEPTED, BAD_KEY, BAD_LIMIT, MODE_TWICE, UNKNOWN_MODE};
 
@@ -86,10 +85,7 @@ pub(crate) fn has_parameter(letter: u8) -> bool
 pub(crate) fn limit_in(s: &[u8]) -> u16
     ensures { result ≡ limit_in s.now }
 {
-    match decimal(s, Record::LIMIT) {
-        Decimal::Value(n) => n as u16,
-        Decimal::Malformed => 0,
-    }
+    decimal(s, Record::LIMIT).map_or(0, |n| n as u16)
 }
 
 // Whether the parameter is good for its letter: a key for k, a limit for l.

@@ -25,7 +25,7 @@ use message::spans::{param_in, prefix_in};
 use message::{LINE_LIMIT, Message, parse};
 use names::{is_channel, is_server_id};
 use octets::decimals::decimal;
-use octets::{Decimal, put};
+use octets::put;
 use refusal::{
     ACCEPTED, BAD_MEMBERS, BAD_NAME, BAD_SOURCE, BAD_TIME, LINE_TOO_LONG, WRONG_PARAM_COUNT,
     ZERO_TIME,
@@ -79,7 +79,7 @@ fn source_number(text: &[u8], m: Message) -> u8
 pub fn head_number(text: &[u8], m: Message) -> u8
     ensures { result ≡ first_of (head_rules (content_by text.now m)) }
 {
-    let Decimal::Value(time) = decimal(param_in(text, m, TIME_AT), Record::TIME) else {
+    let Some(time) = decimal(param_in(text, m, TIME_AT), Record::TIME) else {
         return BAD_TIME;
     };
     if time == 0 {
@@ -147,10 +147,7 @@ fn key_room(key: &[u8]) -> [u8; Record::KEY]
 pub fn time_of(text: &[u8], m: Message) -> u32
     ensures { result ≡ time_of (time_in (content_by text.now m)) }
 {
-    match decimal(param_in(text, m, TIME_AT), Record::TIME) {
-        Decimal::Value(time) => time,
-        Decimal::Malformed => 0,
-    }
+    decimal(param_in(text, m, TIME_AT), Record::TIME).unwrap_or(0)
 }
 
 // The record of the channel that is told of where no rule refuses it. The list is at `last` and names these members.

@@ -1,20 +1,22 @@
 -- Laws of what is told of a channel as a text of its own: its pieces, as the functions put them together, and how long a record's can be, since every part
 -- of a record has its limit. Assumes nothing.
-use Prim.Native.Nat.{ℕ, suc, ◌+◌, ◌-◌, ◌*◌, ◌^◌, ◌≤◌, ◌<◌}
-use mathlib.Core.Path.{◌≡◌, sym, ap, ◌∙◌}
+use Prim.Native.Nat.{ℕ, suc, ◌+◌, ◌*◌, ◌^◌, ◌≤◌, ◌<◌}
+use mathlib.Core.Path.{◌≡◌, refl, sym, ap, ◌∙◌}
 use mathlib.Core.Bool.{Bool, true, false, cond}
 use mathlib.Core.List.{List, [], ◌∷◌, ◌++◌, append-nil, append_assoc}
 use native.Mathlib.Omega.{arith}
-use lib.ListN.{length, take, drop, get_or, length-append, length-take, take-append-drop}
-use lib.Seq.{get_or-take, take-append_seam}
-use borrow.Author.Tests.{le-leb, lt-leb}
+use lib.ListN.{length, take, drop, get_or, length-append, length-take}
+use lib.Seq.{get_or-take}
+use borrow.Author.Tests.{le-leb}
 use Rattle.octets.specs.Bytes.{space}
 use Rattle.laws.specs.Lists.{prefixed, separated}
 use Rattle.laws.proofs.Texts.{separated-end}
 use Rattle.octets.specs.Decimals.{digits_of}
-use Rattle.octets.specs.Room.{part}
-use Rattle.octets.specs.Private.Additions.{Adds}
-use Rattle.octets.proofs.Room.{added-end, added-front}
+use Rattle.std.proofs.Common.{Option, Some, None, leb, zero-add}
+use Rattle.std.specs.Option.{option_map, unwrap_or}
+use Rattle.octets.specs.Room.{fits, front}
+use Rattle.octets.specs.Pages.{Page, fresh, added, text_for}
+use Rattle.octets.proofs.Pages.{text_goes}
 use Rattle.octets.proofs.Digits.{digits-ten, digits-within}
 use Rattle.ascending.proofs.Weights.{weight}
 use Rattle.names.specs.Names.{name_limit, user_id_length}
@@ -36,12 +38,12 @@ spaced true false t n m k l s = simp (append_assoc, append-nil)
 spaced false true t n m k l s = simp (append_assoc, append-nil)
 spaced false false t n m k l s = simp (append_assoc, append-nil)
 
--- The pieces one behind the other are a SPACE and the text.
-pub described-text : (c : Channel) → lead_text c ++ (space ∷ []) ++ list_text c.members ≡ space ∷ described c
+-- The text is its pieces one behind the other.
+pub described_text : (c : Channel) → described c ≡ lead_text c ++ (space ∷ []) ++ list_text c.members
 unfolding described params_of lead_text
-described-text c =
+described_text c =
     let s = c.settings in
-    spaced (has_mode s.modes key_mode) (has_mode s.modes limit_mode) (digits_of c.time) c.name (modes_text s.modes) s.key (digits_of s.limit) (list_text c.members)
+    sym (ap (λ (l : List ℕ). drop 1 l) (spaced (has_mode s.modes key_mode) (has_mode s.modes limit_mode) (digits_of c.time) c.name (modes_text s.modes) s.key (digits_of s.limit) (list_text c.members)))
 
 -- ---- how long they are
 letters-few : (k : ℕ) (s : List ℕ) (modes : ℕ) → length (letters_from k s modes) ≤ length s
@@ -57,11 +59,11 @@ cond-few : (t : Bool) (s : List ℕ) → length (cond t s []) ≤ length s
 cond-few true s = omega arith
 cond-few false s = omega arith
 
-lead-few : (c : Channel) → length (lead_text c) ≤ 14 + length (digits_of c.time) + length c.name + length c.settings.key + length (digits_of c.settings.limit)
+lead-few : (c : Channel) → length (lead_text c) ≤ 13 + length (digits_of c.time) + length c.name + length c.settings.key + length (digits_of c.settings.limit)
 unfolding lead_text
 lead-few c =
     let s = c.settings in
-    let timed : List ℕ = space ∷ digits_of c.time in
+    let timed : List ℕ = digits_of c.time in
     let named : List ℕ = timed ++ (space ∷ c.name) in
     let lettered : List ℕ = named ++ (space ∷ modes_text s.modes) in
     let key : List ℕ = cond (has_mode s.modes key_mode) (space ∷ s.key) [] in
@@ -103,7 +105,7 @@ module _ (c : Channel) (time : c.time < 2 ^ 32) (name : length c.name ≤ name_l
       let list = list_text c.members in
       omega (
         arith,
-        ap (λ (l : List ℕ). length l) (described-text c),
+        ap (λ (l : List ℕ). length l) (described_text c),
         length-append (lead ++ (space ∷ [])) list,
         length-append lead (space ∷ []),
         lead-few c,
@@ -113,28 +115,17 @@ module _ (c : Channel) (time : c.time < 2 ^ 32) (name : length c.name ≤ name_l
       )
 
 -- ---- what is put into lent room
-module _ (out : List ℕ) (c : Channel) where
-  -- Where it has no room, nothing is put.
-  pub described-none : length out < length (described c) → described_in out c ≡ []
-  unfolding described_in
-  described-none h = rw (lt-leb (0 + length (described c)) (length out) (omega arith))
-
-  -- Where it has room, all of it is put.
-  pub described-all : length (described c) ≤ length out → described_in out c ≡ described c
-  unfolding described_in
-  described-all h = rw (le-leb (0 + length (described c)) (length out) (omega arith))
-
--- ---- the scratch, which a SPACE opens
-module _ (empty text : List ℕ) (end : ℕ) (w : List ℕ) (adds : Adds empty 0 text end (space ∷ w)) (room : length w < length empty) where
-  -- The text in the scratch ends one byte behind its length.
-  pub opened-end : end ≡ suc (length w)
-  opened-end = added-end empty text end (space ∷ w) adds (omega arith)
-
-  -- What stands in the scratch behind the SPACE is the text.
-  pub opened-part : part text 1 end ≡ w
-  unfolding part
-  opened-part =
-      let begins : take end text ≡ space ∷ w = added-front empty text end (space ∷ w) adds (omega arith) in
-      let e : text ≡ (space ∷ w) ++ drop end text = sym (take-append-drop end text) ∙ ap (λ (l : List ℕ). l ++ drop end text) begins in
-      let n : end - 1 ≡ length w = omega (arith, opened-end) in
-      ap (λ (l : List ℕ). take (end - 1) (drop 1 l)) e ∙ rw n (take-append_seam w (drop end text))
+-- Where it has room, all of it is put, and else nothing, if the room that it is put together in has room for it.
+pub described_goes : (out : List ℕ) (c : Channel) (n : ℕ) → length (described c) ≤ n → (g : Page) → g ≡ added (fresh n) (described c)
+    → (o : Option ℕ) → o ≡ option_map length (text_for out g) → (next : List ℕ) → next ≡ front (unwrap_or (text_for out g) []) out
+    → (unwrap_or o 0 ≡ length (described_in out c)) × (next ≡ front (described_in out c) out)
+unfolding described_in
+described_goes out c n h g e o f next k =
+    let w : List ℕ = described c in
+    let whole : text_for out g ≡ cond (leb (length w) (length out)) (Some w) None = ap (text_for out) e ∙ text_goes n w out ∙ rw (le-leb (length w) n h) in
+    let fit : fits out 0 w ≡ leb (length w) (length out) = rw (zero-add (length w)) in
+    rw (f, k, whole, fit) (go (leb (length w) (length out)))
+  where
+    go : (t : Bool) → (unwrap_or (option_map length (cond t (Some (described c)) None)) 0 ≡ length (cond t (described c) [])) × (front (unwrap_or (cond t (Some (described c)) None) []) out ≡ front (cond t (described c) []) out)
+    go true = (refl, refl)
+    go false = (refl, refl)

@@ -8,46 +8,45 @@ ghost use Rattle.refusal.specs.Rules.{emitted};
 ghost use Rattle.octets.specs.Room.{front};
 ghost use Rattle.channel.specs.Record.{decode};
 ghost use Rattle.writer.specs.Form.{written};
-ghost use Rattle.writer.specs.Writing.{written_answer};
+ghost use Rattle.writer.specs.Writing.{written_of, written_answer};
 ghost use Rattle.telling.specs.Telling.{described, description_limit, described_in, join_message, tell_rules};
 
 use channel::Record;
 use message::LINE_LIMIT;
-use octets::{part, put};
-use pieces::{put_description, put_join};
-use refusal::{ACCEPTED, NO_ROOM, OUTPUT_TOO_SHORT};
+use octets::pen::Pen;
+use pieces::{put_description, put_entries, put_join};
+use refusal::Refusal;
 use writer::Written;
 
 // The most bytes that are told of a record.
 pub const DESCRIPTION_LIMIT: usize = 869;
-
-// Room for them, and for a SPACE before them.
-const SCRATCH: usize = DESCRIPTION_LIMIT + 1;
 
 // Writes the SJOIN by which a server tells of a record, to the front of the output.
 pub fn write_join(source: &[u8], r: Record, out: &mut [u8]) -> Written
     ensures answer { result ≡ written_answer (tell_rules source.now (decode r) out.old) (written (join_message source.now (decode r))) }
     ensures output { out.new ≡ front (emitted (tell_rules source.now (decode r) out.old) (written (join_message source.now (decode r)))) out.old }
 {
+    join(source, r, out).into()
+}
+
+// The same. A list that is longer than a line has no room in one.
+fn join(source: &[u8], r: Record, out: &mut [u8]) -> Result<usize, Refusal>
+    ensures answer { written_of result ≡ written_answer (tell_rules source.now (decode r) out.old) (written (join_message source.now (decode r))) }
+    ensures output { out.new ≡ front (emitted (tell_rules source.now (decode r) out.old) (written (join_message source.now (decode r)))) out.old }
+{
     if out.len() < LINE_LIMIT {
-        return Written {
-            number: OUTPUT_TOO_SHORT,
-            len: 0,
-        };
+        return Err(Refusal::OutputTooShort);
     }
-    let mut line = [0u8; LINE_LIMIT];
-    let len = put_join(source, r, &mut line);
-    if LINE_LIMIT < len {
-        return Written {
-            number: NO_ROOM,
-            len: 0,
-        };
-    }
-    put(out, 0, &line[..len]);
-    Written {
-        number: ACCEPTED,
-        len,
-    }
+    let mut room = [0u8; LINE_LIMIT];
+    let mut list = Pen::new(&mut room);
+    put_entries(&mut list, r);
+    let Some(members) = list.text() else {
+        return Err(Refusal::NoRoom);
+    };
+    let mut room = [0u8; LINE_LIMIT];
+    let mut line = Pen::new(&mut room);
+    put_join(&mut line, source, r, members);
+    line.copy_to(out).ok_or(Refusal::NoRoom)
 }
 
 // Puts what an SJOIN tells of a record, its parameters with one SPACE between them and no ':', at the front of the output and answers how many bytes they
@@ -57,12 +56,8 @@ pub fn describe(r: Record, out: &mut [u8]) -> usize
     ensures output { out.new ≡ front (described_in out.old (decode r)) out.old }
     ensures limit { (length (described (decode r)) ≤ description_limit) × (DESCRIPTION_LIMIT ≡ description_limit) }
 {
-    let mut text = [0u8; SCRATCH];
-    let end = put_description(r, &mut text);
-    let len = end - 1;
-    if out.len() < len {
-        return 0;
-    }
-    put(out, 0, part(&text, 1, end));
-    len
+    let mut room = [0u8; DESCRIPTION_LIMIT];
+    let mut text = Pen::new(&mut room);
+    put_description(&mut text, r);
+    text.copy_to(out).unwrap_or(0)
 }

@@ -9,7 +9,7 @@ use bans::{BanList, WholeRecord, load};
 use merging::merge;
 use message::LINE_LIMIT;
 use octets::decimals::decimal;
-use octets::{Decimal, part};
+use octets::part;
 use refusal::ACCEPTED;
 use relay::{Taken, process};
 use std::io;
@@ -66,7 +66,7 @@ pub(crate) fn link(
     bans: &[u8; BanList::BANS],
     number: &[u8],
 ) -> io::Result<Head> {
-    let Decimal::Value(link) = decimal(number, u32::MAX) else {
+    let Some(link) = decimal(number, u32::MAX) else {
         print_unknown(rt)?;
         return Ok(t);
     };
@@ -80,7 +80,7 @@ pub(crate) fn drop(
     bans: &[u8; BanList::BANS],
     number: &[u8],
 ) -> io::Result<Head> {
-    let Decimal::Value(link) = decimal(number, u32::MAX) else {
+    let Some(link) = decimal(number, u32::MAX) else {
         print_unknown(rt)?;
         return Ok(t);
     };
@@ -134,7 +134,7 @@ fn take_into(
     received: &[u8],
     out: &mut [u8],
 ) -> io::Result<Head> {
-    let Decimal::Value(link) = decimal(before_space(received), u32::MAX) else {
+    let Some(link) = decimal(before_space(received), u32::MAX) else {
         print_unknown(rt)?;
         return Ok(t);
     };

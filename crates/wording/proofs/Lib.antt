@@ -1,3 +1,4 @@
 -- Laws of the words, and a check that the table is whole.
 pub mod Fitting
+pub mod Found
 mod Whole

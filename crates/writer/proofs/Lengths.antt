@@ -16,7 +16,7 @@ use Rattle.message.proofs.Runs.{middle-skip}
 use Rattle.message.proofs.Relation.{Stops, middle-stop, word-then}
 use Rattle.writer.specs.Form.{written_params, written_prefix, written_body}
 use Rattle.writer.proofs.Words.{word-middle, bare-cons}
-use Rattle.writer.proofs.Parts.{stands, stands-fifteenth}
+use Rattle.writer.proofs.Parts.{stands, stands_fifteenth}
 use Rattle.writer.proofs.Trips.{bare-written, middle-written, trailing-written}
 
 -- ---- the parameters
@@ -50,7 +50,7 @@ short = record {
   nothing = λ k at. omega arith;
   spaced = λ k at s ps r. omega (arith, r);
   trailing = λ k at s. last-length k s;
-  remains = λ k at x s p q l. omega (arith, bare-length k (x ∷ s) (stands-fifteenth k (x ∷ s) l ∙ bare-cons x s p q));
+  remains = λ k at x s p q l. omega (arith, bare-length k (x ∷ s) (stands_fifteenth k (x ∷ s) l ∙ bare-cons x s p q));
   middle = λ k at x s ps p q l m. omega (arith, middle-length k (x ∷ word s) (bytes_of ps) (word-middle x s p q), m);
   ends = λ k at. omega arith;
   stops = λ k at s ps r. omega (arith, r);

@@ -1,5 +1,5 @@
 -- Laws of what the writer's functions test and put, parameter by parameter: each return is one of them. Assumes nothing.
-use mathlib.Core.Path.{◌≡◌, refl, sym, ap, ◌∙◌}
+use mathlib.Core.Path.{◌≡◌, refl, sym, ap}
 use mathlib.Core.Bool.{Bool, true, false, not, cond, ◌&&◌, ◌||◌}
 use mathlib.Core.List.{List, [], ◌∷◌, ◌++◌, map, append-nil, append_assoc}
 use mathlib.Core.Option.{some}
@@ -8,51 +8,19 @@ use native.Mathlib.Omega.{arith}
 use lib.ListN.{length, take, drop, get_or, length-take, length-drop}
 use lib.Dec.{eqb}
 use borrow.Author.Tests.{eq-eqb, ne_eqb}
-use Rattle.octets.specs.Bytes.{space, colon, is_plain, is_non_space}
+use Rattle.octets.specs.Bytes.{space, colon, is_non_space}
 use Rattle.laws.specs.Lists.{all, is_nil, starts_with}
 use Rattle.laws.proofs.Bools.{and_left, and_right, and_intro}
-use Rattle.laws.proofs.Lists.{front-step, nil-length, nil-map, all_head}
+use Rattle.laws.proofs.Lists.{front-step, nil-map, all_head}
 use Rattle.message.specs.declared.Span.{Span}
-use Rattle.message.specs.declared.Message.{Message}
 use Rattle.message.specs.Grammar.{middle_limit, is_middle, is_bare}
 use Rattle.message.specs.Parts.{span, bytes_at}
 use Rattle.message.specs.Reading.{crlf}
-use Rattle.writer.specs.Form.{takes_colon, written_param, written_params, written_prefix, written_body, written, lies_in}
-use Rattle.writer.specs.Private.Fit.{good_prefix, fit_prefix, fit_param, fit_params}
+use Rattle.writer.specs.Form.{takes_colon, written_param, written_params, written_prefix, written_body, written}
+use Rattle.writer.specs.Private.Fit.{fit_param, fit_params}
 
--- ---- a middle, by its first byte
-pub middle-nil : (p : List ℕ) → length p ≡ 0 → false ≡ is_middle p
-unfolding is_middle
-middle-nil [] = λ h. refl
-middle-nil (b ∷ p) = λ h. absurd (omega arith)
-
-pub middle-colon : (p : List ℕ) → (length p ≡ 0 → ⊥) → get_or p 0 0 ≡ colon → false ≡ is_middle p
-unfolding is_middle
-middle-colon [] = λ h e. refl
-middle-colon (b ∷ p) = λ h e. rw (eq-eqb b colon e)
-
-pub middle-word : (p : List ℕ) → (length p ≡ 0 → ⊥) → (get_or p 0 0 ≡ colon → ⊥) → (r : Bool) → r ≡ all is_non_space p → r ≡ is_middle p
-unfolding is_middle
-middle-word [] = λ h e r q. absurd (h refl)
-middle-word (b ∷ p) = λ h e r q. rw (ne_eqb b colon e) q
-
--- ---- what can stand bare, by its first byte
-pub bare-nil : (p : List ℕ) → length p ≡ 0 → false ≡ is_bare p
-unfolding is_bare
-bare-nil [] = λ h. refl
-bare-nil (b ∷ p) = λ h. absurd (omega arith)
-
-pub bare-colon : (p : List ℕ) → (length p ≡ 0 → ⊥) → get_or p 0 0 ≡ colon → false ≡ is_bare p
-unfolding is_bare
-bare-colon [] = λ h e. refl
-bare-colon (b ∷ p) = λ h e. rw (eq-eqb b colon e)
-
-pub bare-byte : (p : List ℕ) → (length p ≡ 0 → ⊥) → (get_or p 0 0 ≡ colon → ⊥) → not (eqb (get_or p 0 0) space) ≡ is_bare p
-unfolding is_bare
-bare-byte [] = λ h e. absurd (h refl)
-bare-byte (b ∷ p) = λ h e. rw (ne_eqb b colon e)
-
--- a middle can
+-- ---- a middle
+-- a middle can stand bare
 middle-bare : (p : List ℕ) → is_middle p ≡ true → is_bare p ≡ true
 unfolding is_middle is_bare all
 middle-bare [] h = h
@@ -73,11 +41,11 @@ middle-stands k p h = go (eqb k middle_limit)
 
 module _ (k : ℕ) (p : List ℕ) where
   -- of the fifteenth only the first byte counts
-  pub stands-fifteenth : k ≡ middle_limit → stands k p ≡ is_bare p
-  stands-fifteenth h = rw (eq-eqb k middle_limit h)
+  pub stands_fifteenth : k ≡ middle_limit → stands k p ≡ is_bare p
+  stands_fifteenth h = rw (eq-eqb k middle_limit h)
 
-  pub stands-other : (k ≡ middle_limit → ⊥) → stands k p ≡ is_middle p
-  stands-other h = rw (ne_eqb k middle_limit h)
+  pub stands_other : (k ≡ middle_limit → ⊥) → stands k p ≡ is_middle p
+  stands_other h = rw (ne_eqb k middle_limit h)
 
 -- 01's words for ':' say that the parameter is no middle
 no_middle : (p : List ℕ) → is_nil p || (starts_with colon p || not (all is_non_space p)) ≡ not (is_middle p)
@@ -90,33 +58,15 @@ no_middle (b ∷ p) = go (eqb b colon) (all is_non_space (b ∷ p))
     go false t = refl
 
 -- ':' is written exactly where the last parameter doesn't stand without it
-pub colon-exactly : (k : ℕ) (last : Bool) (p : List ℕ) → takes_colon k last p ≡ last && not (stands k p)
+pub colon_exactly : (k : ℕ) (last : Bool) (p : List ℕ) → takes_colon k last p ≡ last && not (stands k p)
 unfolding takes_colon
-colon-exactly k last p = ap (λ (t : Bool). last && t) (go (eqb k middle_limit))
+colon_exactly k last p = ap (λ (t : Bool). last && t) (go (eqb k middle_limit))
   where
     go : (t : Bool) → cond t (not (is_bare p)) (is_nil p || (starts_with colon p || not (all is_non_space p))) ≡ not (cond t (is_bare p) (is_middle p))
     go true = refl
     go false = no_middle p
 
--- ---- the prefix
-module _ (text : List ℕ) (m : Message) (has : not m.has_prefix ≡ false) where
-  pub prefix-outside : lies_in (length text) m.prefix ≡ false → false ≡ fit_prefix text m
-  unfolding fit_prefix
-  prefix-outside e = simp (has, e)
-
-  module _ (lies : lies_in (length text) m.prefix ≡ true) (p : List ℕ) (is : p ≡ bytes_at text m.prefix) where
-    pub prefix-empty : length p ≡ 0 → false ≡ fit_prefix text m
-    unfolding fit_prefix good_prefix
-    prefix-empty h = simp (has, lies, ← is, nil-length p ∙ eq-eqb (length p) 0 h)
-
-    module _ (full : length p ≡ 0 → ⊥) where
-      pub prefix-control : all is_plain p ≡ false → false ≡ fit_prefix text m
-      unfolding fit_prefix good_prefix
-      prefix-control h = simp (has, lies, ← is, nil-length p ∙ ne_eqb (length p) 0 full, h)
-
-      pub prefix-word : all is_plain p ≡ true → (r : Bool) → r ≡ all is_non_space p → r ≡ fit_prefix text m
-      unfolding fit_prefix good_prefix
-      prefix-word h r q = simp (has, lies, ← is, nil-length p ∙ ne_eqb (length p) 0 full, h) q
+pub ruleset colons = (colon_exactly, stands_fifteenth, stands_other)
 
 -- ---- a place in the spans that count
 module _ (ps : List Span) (n k : ℕ) (few : n ≤ length ps) (lt : k < n) where

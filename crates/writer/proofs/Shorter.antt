@@ -11,7 +11,7 @@ use Rattle.message.specs.Grammar.{middle_limit, is_middle}
 use Rattle.message.specs.Content.{Content}
 use Rattle.message.proofs.Sizes.{room}
 use Rattle.writer.specs.Form.{takes_colon, written_param, written_params, written_prefix, written_body, written}
-use Rattle.writer.proofs.Parts.{stands, stands-other}
+use Rattle.writer.proofs.Parts.{stands, stands_other}
 use Rattle.writer.proofs.Trips.{bare-written, middle-written, trailing-written}
 
 -- ---- the parameters: a SPACE before each, and what the last one is written as
@@ -33,8 +33,8 @@ last-shorter i j p q few h f = go (stands i p) refl (is_middle q) refl
   where
     go : (t : Bool) → stands i p ≡ t → (u : Bool) → is_middle q ≡ u → last i p ≤ last j q
     go t e true g = rw (middle-written i true p (f g), middle-written j true q g) h
-    go true e false g = rw (bare-written i true p e, trailing-written j q (stands-other j q (λ z. omega arith) ∙ g)) (omega arith)
-    go false e false g = rw (trailing-written i p e, trailing-written j q (stands-other j q (λ z. omega arith) ∙ g)) (omega arith)
+    go true e false g = rw (bare-written i true p e, trailing-written j q (stands_other j q (λ z. omega arith) ∙ g)) (omega arith)
+    go false e false g = rw (trailing-written i p e, trailing-written j q (stands_other j q (λ z. omega arith) ∙ g)) (omega arith)
 
 -- ---- the whole
 written-length : (d : Content) → length (written d) ≡ length (written_prefix d.prefix) + length d.command + length (written_params 0 d.params) + 2

@@ -25,20 +25,20 @@ use Rattle.message.proofs.Separated.{word-append}
 use Rattle.message.proofs.SpanContents.{content, content-eq}
 use Rattle.writer.specs.Form.{takes_colon, written_param, written_params, written_prefix}
 use Rattle.writer.specs.Private.Fit.{good_prefix, good_source, good_param, good_params, good}
-use Rattle.writer.proofs.Parts.{stands, middle-stands, stands-fifteenth, stands-other, colon-exactly}
+use Rattle.writer.proofs.Parts.{stands, middle-stands, stands_fifteenth, stands_other, colon_exactly}
 use Rattle.writer.proofs.Words.{middle-clear, command-long, command-plain, command-middle}
 
 -- ---- one parameter
 pub bare-written : (k : ℕ) (last : Bool) (p : List ℕ) → stands k p ≡ true → written_param k last p ≡ p
 unfolding written_param
-bare-written k last p e = rw (colon-exactly k last p ∙ ap (λ (t : Bool). last && not t) e, and-false last)
+bare-written k last p e = rw (colon_exactly k last p ∙ ap (λ (t : Bool). last && not t) e, and-false last)
 
 pub middle-written : (k : ℕ) (last : Bool) (p : List ℕ) → is_middle p ≡ true → written_param k last p ≡ p
 middle-written k last p e = bare-written k last p (middle-stands k p e)
 
 pub trailing-written : (k : ℕ) (p : List ℕ) → stands k p ≡ false → written_param k true p ≡ colon ∷ p
 unfolding written_param
-trailing-written k p e = rw (colon-exactly k true p ∙ ap not e)
+trailing-written k p e = rw (colon_exactly k true p ∙ ap not e)
 
 param_plain : (k : ℕ) (last : Bool) (p : List ℕ) → all is_plain p ≡ true → all is_plain (written_param k last p) ≡ true
 unfolding written_param is_plain
@@ -86,8 +86,8 @@ last-back k at p = go (stands k p) refl (eqb k middle_limit) refl
     go : (t : Bool) → stands k p ≡ t → (u : Bool) → eqb k middle_limit ≡ u → bytes_of (rest k at (written_params k (p ∷ []))) ≡ p ∷ []
     go true e true l =
         let h = eqb-true k middle_limit l in
-        rw (bare-written k true p e, append-nil p) (ap bytes_of (bare-read p (sym (stands-fifteenth k p h) ∙ e) k (at + 1) h))
-    go true e false l = let h = eqb-false k middle_limit l in middle-back k at p [] (sym (stands-other k p h) ∙ e) h refl
+        rw (bare-written k true p e, append-nil p) (ap bytes_of (bare-read p (sym (stands_fifteenth k p h) ∙ e) k (at + 1) h))
+    go true e false l = let h = eqb-false k middle_limit l in middle-back k at p [] (sym (stands_other k p h) ∙ e) h refl
     go false e u l = rw (trailing-written k p e) (ap (λ (s : List ℕ). s ∷ []) (append-nil p))
 
 -- After k parameters there is room for these: none of them is the fifteenth, or the last is.

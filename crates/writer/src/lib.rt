@@ -11,14 +11,14 @@ ghost use Rattle.refusal.specs.Rules.{emitted};
 ghost use Rattle.octets.specs.Room.{front};
 ghost use Rattle.message.specs.Parts.{content_by};
 ghost use Rattle.writer.specs.Form.{written, in_capitals};
-ghost use Rattle.writer.specs.Writing.{write_rules, forward_rules, forwarded, written_answer};
-ghost use Rattle.writer.specs.Private.Fit.{cased, refused_by};
+ghost use Rattle.writer.specs.Writing.{write_rules, forward_rules, forwarded, written_of, written_answer};
+ghost use Rattle.writer.specs.Private.Fit.{cased};
 
 use fit::fit;
 use form::put_message;
 use message::{LINE_LIMIT, Message};
-use octets::put;
-use refusal::{ACCEPTED, NO_ROOM, OUTPUT_TOO_SHORT, UNWRITABLE};
+use octets::pen::Pen;
+use refusal::Refusal;
 
 // The number of a refusal, or ACCEPTED, and how many bytes were written.
 #[repr(C)]
@@ -28,50 +28,53 @@ pub struct Written {
     pub len: usize,
 }
 
-// Nothing was written.
-fn refused(number: u8) -> Written
-    ensures { result ≡ refused_by number }
-{
-    Written { number, len: 0 }
+// A refusal writes nothing.
+impl From<Result<usize, Refusal>> for Written {
+    ghost from_gives = { λ answer w. w ≡ written_of answer };
+
+    fn from(answer: Result<usize, Refusal>) -> Written
+        ensures { result ≡ written_of answer }
+    {
+        Written {
+            number: refusal::number(&answer),
+            len: answer.unwrap_or(0),
+        }
+    }
 }
 
 // Writes the message, its command in capitals if they are asked for.
-fn write_cased(text: &[u8], m: Message, capitals: bool, out: &mut [u8]) -> Written
-    ensures answer { result ≡ written_answer (write_rules text.now m out.old) (written (cased capitals (content_by text.now m))) }
+fn write_cased(text: &[u8], m: Message, capitals: bool, out: &mut [u8]) -> Result<usize, Refusal>
+    ensures answer { written_of result ≡ written_answer (write_rules text.now m out.old) (written (cased capitals (content_by text.now m))) }
     ensures output { out.new ≡ front (emitted (write_rules text.now m out.old) (written (cased capitals (content_by text.now m)))) out.old }
 {
     if out.len() < LINE_LIMIT {
-        return refused(OUTPUT_TOO_SHORT);
+        return Err(Refusal::OutputTooShort);
     }
     if !fit(text, m) {
-        return refused(UNWRITABLE);
+        return Err(Refusal::Unwritable);
     }
-    let mut line = [0u8; LINE_LIMIT];
-    let len = put_message(text, m, capitals, &mut line);
-    if LINE_LIMIT < len {
-        return refused(NO_ROOM);
-    }
-    put(out, 0, &line[..len]);
-    Written {
-        number: ACCEPTED,
-        len,
-    }
+    let mut room = [0u8; LINE_LIMIT];
+    let mut line = Pen::new(&mut room);
+    put_message(&mut line, text, m, capitals);
+    line.copy_to(out).ok_or(Refusal::NoRoom)
 }
 
 // Writes the message, whose parts are spans of the text, to the front of the output.
+#[tactic(auto, unfolding(crate::specs::Form::with_command))]
 pub fn write(text: &[u8], m: Message, out: &mut [u8]) -> Written
     ensures answer { result ≡ written_answer (write_rules text.now m out.old) (written (content_by text.now m)) }
     ensures output { out.new ≡ front (emitted (write_rules text.now m out.old) (written (content_by text.now m))) out.old }
 {
-    write_cased(text, m, false, out)
+    write_cased(text, m, false, out).into()
 }
 
 // The same, with the command in capitals: how a line goes out that is passed on unchanged, by the parts that the reader found.
+#[tactic(auto, unfolding(crate::specs::Form::with_command))]
 pub fn forward_message(text: &[u8], m: Message, out: &mut [u8]) -> Written
     ensures answer { result ≡ written_answer (write_rules text.now m out.old) (written (in_capitals (content_by text.now m))) }
     ensures output { out.new ≡ front (emitted (write_rules text.now m out.old) (written (in_capitals (content_by text.now m)))) out.old }
 {
-    write_cased(text, m, true, out)
+    write_cased(text, m, true, out).into()
 }
 
 // Writes a line as it was read, its command in capitals, to the front of the output.
@@ -79,11 +82,17 @@ pub fn forward(line: &[u8], out: &mut [u8]) -> Written
     ensures answer { result ≡ written_answer (forward_rules line.now out.old) (forwarded line.now) }
     ensures output { out.new ≡ front (emitted (forward_rules line.now out.old) (forwarded line.now)) out.old }
 {
+    forward_line(line, out).into()
+}
+
+// The same: what is read of the line is written.
+fn forward_line(line: &[u8], out: &mut [u8]) -> Result<usize, Refusal>
+    ensures answer { written_of result ≡ written_answer (forward_rules line.now out.old) (forwarded line.now) }
+    ensures output { out.new ≡ front (emitted (forward_rules line.now out.old) (forwarded line.now)) out.old }
+{
     if out.len() < LINE_LIMIT {
-        return refused(OUTPUT_TOO_SHORT);
+        return Err(Refusal::OutputTooShort);
     }
-    match message::parse(line) {
-        Ok(m) => forward_message(line, m, out),
-        Err(refusal) => refused(refusal.number()),
-    }
+    let m = message::parse(line)?;
+    write_cased(line, m, true, out)
 }

@@ -3,25 +3,24 @@ use mathlib.Core.Path.{◌≡◌, ap, ◌∙◌}
 use Prim.Native.Nat.{ℕ, ◌+◌, ◌*◌, ◌≤◌, ◌<◌, min}
 use native.Mathlib.Omega.{arith}
 use lib.ListN.{length}
-use Rattle.octets.specs.Room.{place_in}
-use Rattle.octets.proofs.Room.{part-front}
 use Rattle.bans.specs.Limits.{room_size}
 use Rattle.bans.specs.Masks.{mask_in, mask_count, mask_start}
 use Rattle.bans.proofs.Places.{count_room, masks-at, masks-past, starts-in, starts-past}
 use Rattle.bans.proofs.mask_at.Goals as goal
 
-pub returns-then-mask_count-i : goal.returns-then-mask_count-i
-returns-then-mask_count-i c =
+pub returns-else-i-mask_count : goal.returns-else-i-mask_count
+returns-else-i-mask_count c =
     let a = c.args in
     let past : mask_count a.s.now ≤ a.i = omega arith in
-    let e : min 0 (min 0 (length a.s.now)) ≡ mask_start a.s.now a.i = omega (arith, starts-past a.s.now a.i past) in record { bytes = c.part.ensures.bytes ∙ part-front a.s.now 0 ∙ masks-past a.s.now a.i past; place = c.part.ensures.place ∙ ap (place_in a.s) e }
+    let e : a.s.ref_ptr.1 ≡ mask_start a.s.now a.i + a.s.ref_ptr.1 = omega (arith, starts-past a.s.now a.i past) in
+    record { bytes = masks-past a.s.now a.i past; place = ap (λ (n : ℕ). (a.s.ref_ptr.0, n)) e }
 
 pub room_at-requires : goal.room_at-requires
 room_at-requires c =
     omega (arith, count_room c.args.s.now)
 
-pub returns : goal.returns
-returns c =
+pub returns-then-i-mask_count : goal.returns-then-i-mask_count
+returns-then-i-mask_count c =
     let a = c.args in
     let r = c.room_at in
     let few : a.i < mask_count a.s.now = omega arith in

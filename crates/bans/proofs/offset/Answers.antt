@@ -8,4 +8,4 @@ use Rattle.bans.proofs.offset.Goals as goal
 pub returns : goal.returns
 unfolding offset
 returns c =
-    ap (λ (n : ℕ). list_size * n) c.lesser.ensures
+    ap (λ (n : ℕ). list_size * n) c.min.ensures

@@ -1,81 +1,32 @@
--- `unite` meets its contract. The invariant: what is still to be put, put into the list so far, comes to what all comes to. Assumes nothing.
-use mathlib.Core.Path.{◌≡◌, refl, sym, ap, ◌∙◌}
-use mathlib.Core.Bool.{Bool, true, false, cond}
-use mathlib.Core.List.{List}
-use Prim.Native.Nat.{ℕ, ◌+◌, ◌≤◌, ◌<◌}
-use native.Mathlib.Omega.{arith}
-use lib.ListN.{drop, drop_of_length-le}
-use borrow.Author.Rules.{rules}
-use Rattle.bans.specs.declared.BanList.{BanList}
-use Rattle.bans.specs.declared.Added.{Added}
-use Rattle.bans.specs.Masks.{mask_in, mask_count, masks}
-use Rattle.bans.specs.Putting.{addition, put_answer, put_all, add_answer}
-use Rattle.bans.specs.Private.Placing.{room_in}
-use Rattle.bans.proofs.Places.{count_room, length-masks, masks-step}
+-- `unite` meets its contract. The invariant: the masks still to come, put into the list so far, come to what all come to. Assumes nothing.
+use mathlib.Core.Path.{sym, ap, ◌∙◌}
+use mathlib.Core.List.{List, map}
+use Prim.Native.Nat.{ℕ}
+use Rattle.bans.specs.Masks.{mask_in, masks}
+use Rattle.bans.specs.Putting.{added, put_answer, put_all}
+use Rattle.bans.specs.Private.Rooms.{rooms_left}
+use Rattle.bans.proofs.Additions.{put-next, put-full, add-none, add-some}
 use Rattle.bans.proofs.unite.Goals as goal
 
-module _ (s : List ℕ) (b : BanList) (i : ℕ) where
-  all-step : i < mask_count s
-      → put_all (drop i (masks s)) b ≡ cond (put_answer (mask_in (room_in s i)) b).full (addition true b.room) (put_all (drop (i + 1) (masks s)) (put_answer (mask_in (room_in s i)) b).list)
-  unfolding put_all
-  all-step h = rw (masks-step s i h)
+pub loop-room-init : goal.loop-room-init
+unfolding masks
+loop-room-init c =
+    (tt, tt, ap (λ (l : List (List ℕ)). put_all (map mask_in l) c.args.a) (ap rooms_left c.into_iter-room-iterator.ensures.into_iter_gives ∙ c.used_rooms-room-items.ensures))
 
-  all_past : mask_count s ≤ i → put_all (drop i (masks s)) b ≡ addition false b.room
-  unfolding put_all
-  all_past h = rw (drop_of_length-le (masks s) {i = i} (omega (arith, length-masks s)))
+pub returns-in_err-list : goal.returns-in_err-list
+returns-in_err-list c =
+    let l = c.loop-room in
+    let e = c.in_err-list.ensures ∙ ap (λ (m : List ℕ). put_answer m l.list) c.mask_in.ensures.bytes in
+    let all = sym l.invariant.2 ∙ ap (λ (r : List (List ℕ)). put_all (map mask_in r) l.list) c.in-Some.ensures.steps ∙ put-full _ _ l.list e in
+    ap (added c.args.a) c.from_residual.ensures ∙ add-none _ c.args.a l.list all
 
-pub loop-i-init : goal.loop-i-init
-loop-i-init c =
-    (search rules, c.mask_count-n.ensures, refl)
-
-pub room_at-requires : goal.room_at-requires
-room_at-requires c =
-    omega (arith, count_room c.args.b.room)
-
-pub returns-then-r : goal.returns-then-r
-unfolding add_answer
-returns-then-r c =
-    let given : BanList =
-    c.args.a in
-    let other : List ℕ =
-    c.args.b.room in
-    let sofar : BanList =
-    c.loop-i.list in
-    let place : ℕ =
-    c.loop-i.i in
-    let here : put_all (masks (other)) (given) ≡ cond c.put-r.result.full (addition true (sofar).room) (put_all (drop (place + 1) (masks (other))) c.put-r.result.list) =
-    let l = c.loop-i in
-    l.invariant.2
-    ∙ all-step (other) l.list l.i (omega arith)
-    ∙ ap (λ (r : Added). cond r.full (addition true l.list.room) (put_all (drop (l.i + 1) (masks (other))) r.list))
-    (sym (c.put-r.ensures ∙ ap (λ (m : List ℕ). put_answer m l.list) (c.mask_in.ensures.bytes ∙ ap mask_in c.room_at.ensures.bytes))) in
-    let p = c in
-    let e : put_all (masks (other)) (given) ≡ addition true (sofar).room = here ∙ ap (λ (t : Bool). cond t (addition true (sofar).room) (put_all (drop (place + 1) (masks (other))) p.put-r.result.list)) c.if-r.true in
-    rw e
-
-pub loop-i-preserved : goal.loop-i-preserved
-loop-i-preserved c =
-    let given : BanList =
-    c.args.a in
-    let other : List ℕ =
-    c.args.b.room in
-    let sofar : BanList =
-    c.loop-i.list in
-    let place : ℕ =
-    c.loop-i.i in
-    let here : put_all (masks (other)) (given) ≡ cond c.put-r.result.full (addition true (sofar).room) (put_all (drop (place + 1) (masks (other))) c.put-r.result.list) =
-    let l = c.loop-i in
-    l.invariant.2
-    ∙ all-step (other) l.list l.i (omega arith)
-    ∙ ap (λ (r : Added). cond r.full (addition true l.list.room) (put_all (drop (l.i + 1) (masks (other))) r.list))
-    (sym (c.put-r.ensures ∙ ap (λ (m : List ℕ). put_answer m l.list) (c.mask_in.ensures.bytes ∙ ap mask_in c.room_at.ensures.bytes))) in
-    let p = c in
-    (search rules, p.loop-i.invariant.1, here ∙ ap (λ (t : Bool). cond t (addition true (sofar).room) (put_all (drop (place + 1) (masks (other))) p.put-r.result.list)) c.if-r.false)
+pub loop-room-preserved : goal.loop-room-preserved
+loop-room-preserved c =
+    let l = c.loop-room in
+    let e = c.in_ok-list.ensures ∙ ap (λ (m : List ℕ). put_answer m l.list) c.mask_in.ensures.bytes in
+    (tt, tt, sym (put-next _ _ l.list c.in_ok-list.list e) ∙ ap (λ (r : List (List ℕ)). put_all (map mask_in r) l.list) (sym c.in-Some.ensures.steps) ∙ l.invariant.2)
 
 pub returns : goal.returns
-unfolding add_answer
 returns c =
-    let l = c.loop-i in
-    let s = c.args.b.room in
-    let e : put_all (masks s) c.args.a ≡ addition false l.list.room = l.invariant.2 ∙ all_past s l.list l.i (omega arith) in
-    rw e
+    let l = c.loop-room in
+    add-some _ _ l.list (sym l.invariant.2 ∙ ap (λ (r : List (List ℕ)). put_all (map mask_in r) l.list) c.in-None.ensures.steps.0)

@@ -9,7 +9,7 @@ use Rattle.bmask.proofs.add_listed.Given as goal
 
 abbrev pub invariant-loop-word : goal.invariant-loop-word
 invariant-loop-word l =
-    Inside l.text l.word × (put_all (listed l.text) l.list ≡ put_all (left l.text l.word) l.sofar)
+    Inside l.text l.word × (put_all (listed l.fn.text) l.fn.list ≡ put_all (left l.text l.word) l.sofar)
 
 abbrev pub decreases-loop-word : goal.decreases-loop-word
 decreases-loop-word l =

@@ -35,7 +35,7 @@ overflow_add-end c =
     let rest : List ℕ =
     drop (at) (bytes) in
     let looked : ℕ =
-    c.lesser.result in
+    c.min.result in
     let found : ℕ =
     c.place_of-found.result in
     let keeps : KeepsLine (state) =
@@ -45,7 +45,7 @@ overflow_add-end c =
     let held-length : length (held_bytes (state)) ≡ (state).len =
     kept-length (state) (keeps).reached in
     let reach : looked ≡ min (length (rest)) (line_limit - length (held_bytes (state)) + 1) =
-    omega (arith, c.lesser.ensures, length-drop (at) (bytes), held-length) in
+    omega (arith, c.min.ensures, length-drop (at) (bytes), held-length) in
     let ahead : c.part-ahead.result.now ≡ take (looked) (rest) =
     c.part-ahead.ensures.bytes ∙ part-next (bytes) (at) (looked) in
     let is : found ≡ length (before lf (take (looked) (rest))) =
@@ -65,7 +65,7 @@ overflow_add-len c =
     let rest : List ℕ =
     drop (at) (bytes) in
     let looked : ℕ =
-    c.lesser.result in
+    c.min.result in
     let found : ℕ =
     c.place_of-found.result in
     let keeps : KeepsLine (state) =
@@ -75,7 +75,7 @@ overflow_add-len c =
     let held-length : length (held_bytes (state)) ≡ (state).len =
     kept-length (state) (keeps).reached in
     let reach : looked ≡ min (length (rest)) (line_limit - length (held_bytes (state)) + 1) =
-    omega (arith, c.lesser.ensures, length-drop (at) (bytes), held-length) in
+    omega (arith, c.min.ensures, length-drop (at) (bytes), held-length) in
     let ahead : c.part-ahead.result.now ≡ take (looked) (rest) =
     c.part-ahead.ensures.bytes ∙ part-next (bytes) (at) (looked) in
     let is : found ≡ length (before lf (take (looked) (rest))) =
@@ -95,7 +95,7 @@ returns-then-len-gt-LINE_LIMIT c =
     let rest : List ℕ =
     drop (at) (bytes) in
     let looked : ℕ =
-    c.lesser.result in
+    c.min.result in
     let found : ℕ =
     c.place_of-found.result in
     let keeps : KeepsLine (state) =
@@ -105,7 +105,7 @@ returns-then-len-gt-LINE_LIMIT c =
     let small : length (held_bytes (state)) ≤ line_limit =
     omega (arith, held-length, kept_small (state) (keeps).reached) in
     let reach : looked ≡ min (length (rest)) (line_limit - length (held_bytes (state)) + 1) =
-    omega (arith, c.lesser.ensures, length-drop (at) (bytes), held-length) in
+    omega (arith, c.min.ensures, length-drop (at) (bytes), held-length) in
     let ahead : c.part-ahead.result.now ≡ take (looked) (rest) =
     c.part-ahead.ensures.bytes ∙ part-next (bytes) (at) (looked) in
     let is : found ≡ length (before lf (take (looked) (rest))) =
@@ -131,7 +131,7 @@ extended-requires c =
     let rest : List ℕ =
     drop (at) (bytes) in
     let looked : ℕ =
-    c.lesser.result in
+    c.min.result in
     let keeps : KeepsLine (state) =
     c.requires.0 in
     let ahead : c.part-ahead.result.now ≡ take (looked) (rest) =
@@ -151,7 +151,7 @@ returns-then-end-stop c =
     let rest : List ℕ =
     drop (at) (bytes) in
     let looked : ℕ =
-    c.lesser.result in
+    c.min.result in
     let found : ℕ =
     c.place_of-found.result in
     let keeps : KeepsLine (state) =
@@ -161,7 +161,7 @@ returns-then-end-stop c =
     let small : length (held_bytes (state)) ≤ line_limit =
     omega (arith, held-length, kept_small (state) (keeps).reached) in
     let reach : looked ≡ min (length (rest)) (line_limit - length (held_bytes (state)) + 1) =
-    omega (arith, c.lesser.ensures, length-drop (at) (bytes), held-length) in
+    omega (arith, c.min.ensures, length-drop (at) (bytes), held-length) in
     let ahead : c.part-ahead.result.now ≡ take (looked) (rest) =
     c.part-ahead.ensures.bytes ∙ part-next (bytes) (at) (looked) in
     let is : found ≡ length (before lf (take (looked) (rest))) =
@@ -187,7 +187,7 @@ overflow_add-behind c =
     let rest : List ℕ =
     drop (at) (bytes) in
     let looked : ℕ =
-    c.lesser.result in
+    c.min.result in
     let found : ℕ =
     c.place_of-found.result in
     let keeps : KeepsLine (state) =
@@ -197,7 +197,7 @@ overflow_add-behind c =
     let held-length : length (held_bytes (state)) ≡ (state).len =
     kept-length (state) (keeps).reached in
     let reach : looked ≡ min (length (rest)) (line_limit - length (held_bytes (state)) + 1) =
-    omega (arith, c.lesser.ensures, length-drop (at) (bytes), held-length) in
+    omega (arith, c.min.ensures, length-drop (at) (bytes), held-length) in
     let ahead : c.part-ahead.result.now ≡ take (looked) (rest) =
     c.part-ahead.ensures.bytes ∙ part-next (bytes) (at) (looked) in
     let is : found ≡ length (before lf (take (looked) (rest))) =
@@ -219,7 +219,7 @@ returns-then-len-eq-LINE_LIMIT c =
     let rest : List ℕ =
     drop (at) (bytes) in
     let looked : ℕ =
-    c.lesser.result in
+    c.min.result in
     let found : ℕ =
     c.place_of-found.result in
     let keeps : KeepsLine (state) =
@@ -231,7 +231,7 @@ returns-then-len-eq-LINE_LIMIT c =
     let small : length (held_bytes (state)) ≤ line_limit =
     omega (arith, held-length, kept_small (state) (keeps).reached) in
     let reach : looked ≡ min (length (rest)) (line_limit - length (held_bytes (state)) + 1) =
-    omega (arith, c.lesser.ensures, length-drop (at) (bytes), held-length) in
+    omega (arith, c.min.ensures, length-drop (at) (bytes), held-length) in
     let ahead : c.part-ahead.result.now ≡ take (looked) (rest) =
     c.part-ahead.ensures.bytes ∙ part-next (bytes) (at) (looked) in
     let is : found ≡ length (before lf (take (looked) (rest))) =
@@ -261,7 +261,7 @@ overflow_add-whole c =
     let rest : List ℕ =
     drop (at) (bytes) in
     let looked : ℕ =
-    c.lesser.result in
+    c.min.result in
     let found : ℕ =
     c.place_of-found.result in
     let keeps : KeepsLine (state) =
@@ -273,7 +273,7 @@ overflow_add-whole c =
     let small : length (held_bytes (state)) ≤ line_limit =
     omega (arith, held-length, kept_small (state) (keeps).reached) in
     let reach : looked ≡ min (length (rest)) (line_limit - length (held_bytes (state)) + 1) =
-    omega (arith, c.lesser.ensures, length-drop (at) (bytes), held-length) in
+    omega (arith, c.min.ensures, length-drop (at) (bytes), held-length) in
     let ahead : c.part-ahead.result.now ≡ take (looked) (rest) =
     c.part-ahead.ensures.bytes ∙ part-next (bytes) (at) (looked) in
     let is : found ≡ length (before lf (take (looked) (rest))) =
@@ -301,7 +301,7 @@ extended-requires-2 c =
     let rest : List ℕ =
     drop (at) (bytes) in
     let looked : ℕ =
-    c.lesser.result in
+    c.min.result in
     let found : ℕ =
     c.place_of-found.result in
     let keeps : KeepsLine (state) =
@@ -313,7 +313,7 @@ extended-requires-2 c =
     let small : length (held_bytes (state)) ≤ line_limit =
     omega (arith, held-length, kept_small (state) (keeps).reached) in
     let reach : looked ≡ min (length (rest)) (line_limit - length (held_bytes (state)) + 1) =
-    omega (arith, c.lesser.ensures, length-drop (at) (bytes), held-length) in
+    omega (arith, c.min.ensures, length-drop (at) (bytes), held-length) in
     let ahead : c.part-ahead.result.now ≡ take (looked) (rest) =
     c.part-ahead.ensures.bytes ∙ part-next (bytes) (at) (looked) in
     let is : found ≡ length (before lf (take (looked) (rest))) =
@@ -347,7 +347,7 @@ returns c =
     let rest : List ℕ =
     drop (at) (bytes) in
     let looked : ℕ =
-    c.lesser.result in
+    c.min.result in
     let found : ℕ =
     c.place_of-found.result in
     let keeps : KeepsLine (state) =
@@ -359,7 +359,7 @@ returns c =
     let small : length (held_bytes (state)) ≤ line_limit =
     omega (arith, held-length, kept_small (state) (keeps).reached) in
     let reach : looked ≡ min (length (rest)) (line_limit - length (held_bytes (state)) + 1) =
-    omega (arith, c.lesser.ensures, length-drop (at) (bytes), held-length) in
+    omega (arith, c.min.ensures, length-drop (at) (bytes), held-length) in
     let ahead : c.part-ahead.result.now ≡ take (looked) (rest) =
     c.part-ahead.ensures.bytes ∙ part-next (bytes) (at) (looked) in
     let is : found ≡ length (before lf (take (looked) (rest))) =

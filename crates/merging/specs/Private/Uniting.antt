@@ -1,8 +1,8 @@
 -- The members of two sides, united in one pass.
 use Rattle.std.specs.Prelude.{ℕ, suc, ◌≤◌, min, ◌≡◌, Bool, cond, List, length, take}
 use Rattle.std.specs.Int.Bits.{bit_or}
-use Rattle.octets.specs.declared.Order.{Order}
-use Rattle.octets.specs.declared.Order.TheVariants.{Less, Same, More}
+use Rattle.std.specs.declared.cmp.Ordering.{Ordering}
+use Rattle.std.specs.declared.cmp.Ordering.TheVariants.{Less, Equal, Greater}
 use Rattle.laws.specs.Lists.{padded}
 use Rattle.channel.specs.declared.Member.{Member}
 use Rattle.channel.specs.declared.Roster.{Roster}
@@ -27,7 +27,7 @@ unfoldable pub as_given : Bool → Member → Member
 as_given counts m = member m.id (cond counts m.status 0)
 
 -- what comes next of two members, by how the first one's id stands to the second's, and how many of each side it uses up
-unfoldable pub next_from : Order → Member → Member → Next
+unfoldable pub next_from : Ordering → Member → Member → Next
 next_from Less x y = record { member = x; first = 1; second = 0 }
-next_from Same x y = record { member = member x.id (bit_or y.status x.status); first = 1; second = 1 }
-next_from More x y = record { member = y; first = 0; second = 1 }
+next_from Equal x y = record { member = member x.id (bit_or y.status x.status); first = 1; second = 1 }
+next_from Greater x y = record { member = y; first = 0; second = 1 }

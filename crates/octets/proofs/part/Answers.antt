@@ -39,5 +39,5 @@ module _ (s : List ℕ) (start end stop from : ℕ) (is : stop ≡ min end (leng
 pub returns : goal.returns
 returns c =
     let a = c.args in
-    let stop = c.lesser-stop.ensures in
-    let from = c.lesser-from.ensures in record { bytes = same_bytes a.s.now a.start a.end c.lesser-stop.result c.lesser-from.result stop from; place = ap (place_in a.s) (from ∙ ap (min a.start) stop) }
+    let stop = c.min-stop.ensures in
+    let from = c.min-from.ensures in record { bytes = same_bytes a.s.now a.start a.end c.min-stop.result c.min-from.result stop from; place = ap (place_in a.s) (from ∙ ap (min a.start) stop) }

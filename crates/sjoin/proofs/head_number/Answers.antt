@@ -1,7 +1,7 @@
 -- `head_number` meets its contract: each return is the first rule of time and name that applies, after the tests that led there. Assumes nothing.
 use mathlib.Core.Path.{◌≡◌, sym, ap, ◌∙◌}
 use mathlib.Core.Bool.{true}
-use Rattle.octets.specs.declared.Decimal.TheVariants.{Value}
+use Rattle.std.specs.Prelude.{Some}
 use Rattle.octets.specs.Decimals.{value_of, decimal_up_to}
 use Rattle.names.specs.Names.{is_channel}
 use Rattle.channel.specs.Limits.{time_limit}
@@ -25,9 +25,9 @@ returns-then-time-eq0 c =
     content_by c.args.text.now c.args.m in
     let timed : Content =
     content in
-    let time : decimal_up_to time_limit (time_in (timed)) ≡ Value c.in-Value.time =
+    let time : decimal_up_to time_limit (time_in (timed)) ≡ Some c.in-Some.time =
     let parsed = c in
-    sym (ap (decimal_up_to time_limit) parsed.param_in.ensures.bytes) ∙ sym parsed.decimal.ensures.answer ∙ c.in-Value.is in
+    sym (ap (decimal_up_to time_limit) parsed.param_in.ensures.bytes) ∙ sym parsed.decimal.ensures.answer ∙ c.in-Some.is in
     let timely : is_time (time_in (timed)) ≡ true =
     (time-value (time_in (timed)) _ (time)).0 in
     let told = c in zero-time (timed) (timely) ((time-value (time_in (timed)) _ (time)).1 ∙ c.if-time-eq0.true)
@@ -40,9 +40,9 @@ returns-then-not-is_channel c =
     content in
     let dated : Content =
     timed in
-    let time : decimal_up_to time_limit (time_in (timed)) ≡ Value c.in-Value.time =
+    let time : decimal_up_to time_limit (time_in (timed)) ≡ Some c.in-Some.time =
     let parsed = c in
-    sym (ap (decimal_up_to time_limit) parsed.param_in.ensures.bytes) ∙ sym parsed.decimal.ensures.answer ∙ c.in-Value.is in
+    sym (ap (decimal_up_to time_limit) parsed.param_in.ensures.bytes) ∙ sym parsed.decimal.ensures.answer ∙ c.in-Some.is in
     let timely : is_time (time_in (timed)) ≡ true =
     (time-value (time_in (timed)) _ (time)).0 in
     let after : value_of (time_in (dated)) ≡ 0 → ⊥ =
@@ -60,9 +60,9 @@ returns c =
     content in
     let dated : Content =
     timed in
-    let time : decimal_up_to time_limit (time_in (timed)) ≡ Value c.in-Value.time =
+    let time : decimal_up_to time_limit (time_in (timed)) ≡ Some c.in-Some.time =
     let parsed = c in
-    sym (ap (decimal_up_to time_limit) parsed.param_in.ensures.bytes) ∙ sym parsed.decimal.ensures.answer ∙ c.in-Value.is in
+    sym (ap (decimal_up_to time_limit) parsed.param_in.ensures.bytes) ∙ sym parsed.decimal.ensures.answer ∙ c.in-Some.is in
     let timely : is_time (time_in (timed)) ≡ true =
     (time-value (time_in (timed)) _ (time)).0 in
     let after : value_of (time_in (dated)) ≡ 0 → ⊥ =

@@ -10,10 +10,10 @@ use Rattle.telling.specs.Telling.{modes_text}
 unfoldable pub list_place : ℕ → ℕ
 list_place modes = 3 + cond (has_mode modes key_mode) 1 0 + cond (has_mode modes limit_mode) 1 0
 
--- all that comes between the command and the list, a SPACE before each parameter: the time, the name and the settings
+-- all that comes between the command and the list, a SPACE between parameters: the time, the name and the settings
 unfoldable pub lead_text : Channel → List ℕ
 lead_text c =
-    (space ∷ digits_of c.time)
+    digits_of c.time
     ++ (space ∷ c.name)
     ++ (space ∷ modes_text c.settings.modes)
     ++ cond (has_mode c.settings.modes key_mode) (space ∷ c.settings.key) []

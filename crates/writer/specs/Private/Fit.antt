@@ -1,4 +1,4 @@
--- The tests of src/fit.rt, which `Fitting` of proofs/ shows to be exactly those of number 24, the message as it is put, and the answer of a refusal.
+-- The tests of src/fit.rt, which `Fitting` of proofs/ shows to be exactly those of number 24, and the message as it is put.
 use Rattle.std.specs.Prelude.{ℕ, Bool, true, not, cond, ◌&&◌, ◌||◌, List, [], ◌∷◌, map, length, take, leb}
 use Rattle.std.proofs.Math.Option.{Option, some, none}
 use Rattle.octets.specs.Bytes.{is_plain, is_non_space, capital}
@@ -8,7 +8,6 @@ use Rattle.message.specs.declared.Message.{Message}
 use Rattle.message.specs.Grammar.{param_limit, is_command, is_middle}
 use Rattle.message.specs.Content.{Content}
 use Rattle.message.specs.Parts.{bytes_at}
-use Rattle.writer.specs.declared.Written.{Written}
 use Rattle.writer.specs.Form.{lies_in, with_command}
 
 -- ---- of a message
@@ -51,7 +50,3 @@ fit text m = leb m.count param_limit && (fit_prefix text m && (fit_command text 
 -- ---- the message as it is put: its command in capitals if they are asked for
 abbrev pub cased : Bool → Content → Content
 cased capitals d = with_command d (cond capitals (map capital d.command) d.command)
-
--- ---- the answer of a refusal: nothing is written
-abbrev pub refused_by : ℕ → Written
-refused_by k = record { number = k; len = 0 }

@@ -6,8 +6,8 @@ use Prim.Native.Nat.{ℕ, ◌+◌, ◌≤◌, ◌<◌}
 use native.Mathlib.Omega.{arith}
 use lib.ListN.{length, drop, get_or, drop_of_length-le}
 use Rattle.laws.proofs.Lists.{drop-step}
-use Rattle.octets.specs.declared.Order.{Order}
-use Rattle.octets.specs.declared.Order.TheVariants.{Less, Same, More}
+use Rattle.std.specs.declared.cmp.Ordering.{Ordering}
+use Rattle.std.specs.declared.cmp.Ordering.TheVariants.{Less, Equal, Greater}
 use Rattle.octets.specs.Order.{compare}
 use Rattle.octets.proofs.Ordered.{heads-same, heads-less, heads-more, compare_refl, compare-nil, below_more}
 use Rattle.names.specs.Fold.{fold}
@@ -15,7 +15,7 @@ use Rattle.bans.proofs.order.compare_folds.Goals as goal
 
 -- ---- two lists at a place
 module _ (a b : List ℕ) (i : ℕ) where
-  abbrev rest : Order
+  abbrev rest : Ordering
   rest = compare (map fold (drop i a)) (map fold (drop i b))
 
   module _ (h : i < length a) (k : i < length b) where
@@ -31,19 +31,19 @@ module _ (a b : List ℕ) (i : ℕ) where
     at_less : x < y → rest ≡ Less
     at_less lt = heads ∙ heads-less x y (map fold (drop (i + 1) a)) (map fold (drop (i + 1) b)) lt
 
-    at_more : y < x → rest ≡ More
+    at_more : y < x → rest ≡ Greater
     at_more lt = heads ∙ heads-more x y (map fold (drop (i + 1) a)) (map fold (drop (i + 1) b)) lt
 
     at_same : x ≡ y → rest ≡ compare (map fold (drop (i + 1) a)) (map fold (drop (i + 1) b))
     at_same e = heads ∙ heads-same x y (map fold (drop (i + 1) a)) (map fold (drop (i + 1) b)) e
 
-  second-ends : i < length a → length b ≤ i → rest ≡ More
+  second-ends : i < length a → length b ≤ i → rest ≡ Greater
   second-ends h k = rw (drop-step a i 0 h, drop_of_length-le b k) (below_more [] _ (compare-nil _ _))
 
   first_ends : length a ≤ i → i < length b → rest ≡ Less
   first_ends h k = rw (drop_of_length-le a h, drop-step b i 0 k) (compare-nil _ _)
 
-  both_end : length a ≤ i → length b ≤ i → rest ≡ Same
+  both_end : length a ≤ i → length b ≤ i → rest ≡ Equal
   both_end h k = rw (drop_of_length-le a h, drop_of_length-le b k) (compare_refl [])
 
 pub loop-i-init : goal.loop-i-init

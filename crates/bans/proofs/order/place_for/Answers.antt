@@ -12,9 +12,9 @@ use Rattle.bans.proofs.Places.{count_room, length-used, used_step}
 use Rattle.bans.proofs.Placing.{mask-room, passed-more, placed_less, placed_same, placed-last}
 use Rattle.bans.proofs.order.place_for.Goals as goal
 
-pub loop-i-init : goal.loop-i-init
-loop-i-init c =
-    (search rules, c.mask_count-n.ensures, refl)
+pub loop-at-init : goal.loop-at-init
+loop-at-init c =
+    (c.mask_count-n.ensures, refl)
 
 pub room_at-requires : goal.room_at-requires
 room_at-requires c =
@@ -25,45 +25,45 @@ returns-in-Less c =
     let given : List ℕ =
     c.args.m.now in
     let room : List ℕ =
-    room_in c.args.s.now c.loop-i.i in
+    room_in c.args.s.now c.loop-at.at in
     let stands : compare (by_fold.key (room_of (given))) (by_fold.key (room)) ≡ c.compare_folds.result =
     sym (c.compare_folds.ensures
     ∙ ap₂ (λ (x y : List ℕ). compare (map fold x) (map fold y)) (sym (mask-room (given) (search rules))) (c.mask_in.ensures.bytes ∙ ap mask_in c.room_at.ensures.bytes)) in
     let o = c in
     let a = o.args in
-    let l = o.loop-i in
-    placed_less (room_of a.m.now) (used_rooms a.s.now) l.i l.invariant.2 (room_in a.s.now l.i) _ (used_step a.s.now l.i (omega arith)) (omega (arith, length-used a.s.now)) (stands ∙ c.in-Less.is)
+    let l = o.loop-at in
+    placed_less (room_of a.m.now) (used_rooms a.s.now) l.at l.invariant.1 (room_in a.s.now l.at) _ (used_step a.s.now l.at (omega arith)) (omega (arith, length-used a.s.now)) (stands ∙ c.in-Less.is)
 
-pub returns-in-Same : goal.returns-in-Same
-returns-in-Same c =
+pub returns-in-Equal : goal.returns-in-Equal
+returns-in-Equal c =
     let given : List ℕ =
     c.args.m.now in
     let room : List ℕ =
-    room_in c.args.s.now c.loop-i.i in
+    room_in c.args.s.now c.loop-at.at in
     let stands : compare (by_fold.key (room_of (given))) (by_fold.key (room)) ≡ c.compare_folds.result =
     sym (c.compare_folds.ensures
     ∙ ap₂ (λ (x y : List ℕ). compare (map fold x) (map fold y)) (sym (mask-room (given) (search rules))) (c.mask_in.ensures.bytes ∙ ap mask_in c.room_at.ensures.bytes)) in
     let o = c in
     let a = o.args in
-    let l = o.loop-i in
-    placed_same (room_of a.m.now) (used_rooms a.s.now) l.i l.invariant.2 (room_in a.s.now l.i) _ (used_step a.s.now l.i (omega arith)) (omega (arith, length-used a.s.now)) (stands ∙ c.in-Same.is)
+    let l = o.loop-at in
+    placed_same (room_of a.m.now) (used_rooms a.s.now) l.at l.invariant.1 (room_in a.s.now l.at) _ (used_step a.s.now l.at (omega arith)) (omega (arith, length-used a.s.now)) (stands ∙ c.in-Equal.is)
 
-pub loop-i-preserved : goal.loop-i-preserved
-loop-i-preserved c =
+pub loop-at-preserved : goal.loop-at-preserved
+loop-at-preserved c =
     let given : List ℕ =
     c.args.m.now in
     let room : List ℕ =
-    room_in c.args.s.now c.loop-i.i in
+    room_in c.args.s.now c.loop-at.at in
     let stands : compare (by_fold.key (room_of (given))) (by_fold.key (room)) ≡ c.compare_folds.result =
     sym (c.compare_folds.ensures
     ∙ ap₂ (λ (x y : List ℕ). compare (map fold x) (map fold y)) (sym (mask-room (given) (search rules))) (c.mask_in.ensures.bytes ∙ ap mask_in c.room_at.ensures.bytes)) in
     let o = c in
     let a = o.args in
-    let l = o.loop-i in
-    (search rules, l.invariant.1, passed-more (room_of a.m.now) (used_rooms a.s.now) l.i l.invariant.2 (room_in a.s.now l.i) _ (used_step a.s.now l.i (omega arith)) (stands ∙ c.in-More.is))
+    let l = o.loop-at in
+    (l.invariant.0, passed-more (room_of a.m.now) (used_rooms a.s.now) l.at l.invariant.1 (room_in a.s.now l.at) _ (used_step a.s.now l.at (omega arith)) (stands ∙ c.in-Greater.is))
 
 pub returns : goal.returns
 returns c =
     let a = c.args in
-    let l = c.loop-i in
-    placed-last (room_of a.m.now) (used_rooms a.s.now) l.i l.invariant.2 _ (omega (arith, length-used a.s.now)) (omega (arith, length-used a.s.now, l.invariant.1))
+    let l = c.loop-at in
+    placed-last (room_of a.m.now) (used_rooms a.s.now) l.at l.invariant.1 _ (omega (arith, length-used a.s.now)) (omega (arith, length-used a.s.now, l.invariant.0))

@@ -1,18 +1,16 @@
--- `inserted` meets its contract: three parts fill the room. Assumes nothing.
-use mathlib.Core.Path.{ap, ap₂}
+-- `inserted` meets its contract: the rooms behind move up, and the mask's goes between. Assumes nothing.
+use mathlib.Core.Path.{◌≡◌, ap₂, ◌∙◌}
 use mathlib.Core.List.{List}
 use Prim.Native.Nat.{ℕ, ◌+◌}
-use lib.ListN.{set}
+use lib.ListN.{length, set}
 use borrow.Author.Rules.{rules}
+use Rattle.bans.specs.Limits.{list_size}
 use Rattle.bans.proofs.Placing.{made-spliced}
 use Rattle.bans.proofs.rooms.inserted.Goals as goal
 
 pub returns : goal.returns
 returns c =
-    let q = c in
-    let f = c in
-    let r = c in
-    let a = r.args in
-    ap₂ (λ (l : List ℕ) (n : ℕ). set l 0 n)
-    (made-spliced a.s.now a.m.now a.at (search rules) (search rules) f.part.result.now r.room_of-room.result c.part-2.result.now _ _ _ f.part.ensures.bytes r.room_of-room.ensures c.part-2.ensures.bytes f.put.ensures.bytes q.put-2.ensures.bytes c.put-3.ensures.bytes)
-    (ap (λ (n : ℕ). n + 1) r.mask_count-n.ensures)
+    let whole : length c.args.list.room ≡ list_size = search rules in
+    ap₂ (λ (l : List ℕ) (n : ℕ). set l 0 (n + 1))
+    (made-spliced c.args.list.room c.args.m.now _ _ c.args.at whole (search rules) (c.copy_from_slice.ensures.after ∙ c.room_of.ensures) c.copy_within.ensures.after)
+    c.mask_count-count.ensures

@@ -16,5 +16,5 @@ returns c =
     let start = c in
     let a = start.args in
     let room : length a.line.bytes ≡ input_limit = search rules in
-    ap (take (start.lesser-start.result + n.lesser-n.result)) (put.put.ensures.bytes ∙ ap (put_at a.line.bytes start.lesser-start.result) put.part.ensures.bytes)
-    ∙ extended-holds a.line.bytes a.more.now a.line.len _ _ room start.lesser-start.ensures n.lesser-n.ensures
+    ap (take (start.min-start.result + n.min-n.result)) (put.put.ensures.bytes ∙ ap (put_at a.line.bytes start.min-start.result) put.part.ensures.bytes)
+    ∙ extended-holds a.line.bytes a.more.now a.line.len _ _ room start.min-start.ensures n.min-n.ensures

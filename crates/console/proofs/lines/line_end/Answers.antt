@@ -49,4 +49,4 @@ returns c =
     drop (at) (piece) in
     let found : c.place_of.result ≡ length (before lf (rest)) =
     c.place_of.ensures ∙ ap (λ (l : List ℕ). length (before lf l)) (c.part-rest.ensures.bytes ∙ part-back _ _ _ (omega arith)) in
-    let p = c in omega (arith, c.lesser.ensures, found, length-first (rest), length-drop (at) (piece))
+    let p = c in omega (arith, c.min.ensures, found, length-first (rest), length-drop (at) (piece))

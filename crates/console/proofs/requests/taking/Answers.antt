@@ -13,18 +13,18 @@ pub overflow_add-result : goal.overflow_add-result
 overflow_add-result c =
     let found = c in omega (arith, end-in found.args.input.now found.next_word-number.result found.next_word-number.ensures)
 
-pub returns-in-Value : goal.returns-in-Value
-returns-in-Value c =
-    let read = c in
-    let test = c in
-    let found = c in
-    asks-take found.args.input.now found.next_word-number.result found.next_word-number.ensures test.if-end-input.false _
-    (ap link_in (sym read.part.ensures.bytes) ∙ sym read.decimal.ensures.answer ∙ c.in-Value.is)
-
-pub returns-in-Malformed : goal.returns-in-Malformed
-returns-in-Malformed c =
+pub returns-in_default : goal.returns-in_default
+returns-in_default c =
     let read = c in
     let test = c in
     let found = c in
     asks-other found.args.input.now found.next_word-number.result found.next_word-number.ensures test.if-end-input.false
-    (ap link_in (sym read.part.ensures.bytes) ∙ sym read.decimal.ensures.answer ∙ c.in-Malformed.is)
+    (ap link_in (sym read.part.ensures.bytes) ∙ sym read.decimal.ensures.answer ∙ c.in_default.is)
+
+pub returns : goal.returns
+returns c =
+    let read = c in
+    let test = c in
+    let found = c in
+    asks-take found.args.input.now found.next_word-number.result found.next_word-number.ensures test.if-end-input.false _
+    (ap link_in (sym read.part.ensures.bytes) ∙ sym read.decimal.ensures.answer ∙ c.in-Some.is)

@@ -1,23 +1,12 @@
--- `worded` meets its contract: each order to `banned` is told as the definition tells it. Assumes nothing.
-use mathlib.Core.Path.{sym, ◌∙◌}
-use Rattle.octets.specs.declared.Order.TheVariants.{Less, Same, More}
-use Rattle.console.proofs.Asking.{worded-asks}
+-- `worded` meets its contract: the bytes that the line begins with decide which of the two it is. Assumes nothing.
+use mathlib.Core.Path.{◌∙◌}
+use Rattle.console.proofs.Asking.{question-asked, line-asked}
 use Rattle.console.proofs.requests.worded.Goals as goal
 
-pub returns-in-Same : goal.returns-in-Same
-returns-in-Same c =
-    let order = c in
-    let first = c in
-    c.asking.ensures ∙ worded-asks first.args.input.now _ first.part.ensures.bytes Same (sym c.in-Same.is ∙ order.compare.ensures)
+pub returns-then-starts_with : goal.returns-then-starts_with
+returns-then-starts_with c =
+    c.asking.ensures ∙ question-asked c.args.input.now _ c.starts_with.ensures.value c.if-starts_with.true
 
-pub returns-in-Less : goal.returns-in-Less
-returns-in-Less c =
-    let order = c in
-    let first = c in
-    c.taking.ensures ∙ worded-asks first.args.input.now _ first.part.ensures.bytes Less (sym c.in-Less.is ∙ order.compare.ensures)
-
-pub returns-in-More : goal.returns-in-More
-returns-in-More c =
-    let order = c in
-    let first = c in
-    c.taking-in-More.ensures ∙ worded-asks first.args.input.now _ first.part.ensures.bytes More (sym c.in-More.is ∙ order.compare.ensures)
+pub returns : goal.returns
+returns c =
+    c.taking.ensures ∙ line-asked c.args.input.now _ c.starts_with.ensures.value c.if-starts_with.false

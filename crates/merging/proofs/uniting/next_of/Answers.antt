@@ -8,12 +8,12 @@ unfolding next_from
 returns-in-Less c =
     rw (sym c.compare_ids.ensures ∙ c.in-Less.is)
 
-pub returns-in-Same : goal.returns-in-Same
+pub returns-in-Equal : goal.returns-in-Equal
 unfolding next_from
-returns-in-Same c =
-    rw (sym c.compare_ids.ensures ∙ c.in-Same.is)
+returns-in-Equal c =
+    rw (sym c.compare_ids.ensures ∙ c.in-Equal.is)
 
-pub returns-in-More : goal.returns-in-More
+pub returns-in-Greater : goal.returns-in-Greater
 unfolding next_from
-returns-in-More c =
-    rw (sym c.compare_ids.ensures ∙ c.in-More.is)
+returns-in-Greater c =
+    rw (sym c.compare_ids.ensures ∙ c.in-Greater.is)

@@ -6,8 +6,7 @@ use Prim.Native.Nat.{ℕ}
 use lib.ListN.{length}
 use lib.Dec.{leb}
 use borrow.Author.Tests.{eq-eqb, ne_eqb}
-use Rattle.octets.specs.declared.Decimal.{Decimal}
-use Rattle.octets.specs.declared.Decimal.TheVariants.{Value, Malformed}
+use Rattle.std.specs.Prelude.{Option, Some, None}
 use Rattle.octets.specs.Bytes.{is_digit}
 use Rattle.laws.specs.Lists.{all, is_nil}
 use Rattle.octets.specs.Decimals.{leads_with_zero, is_decimal, value_of, value_up_to, decimal_up_to, is_malformed, value_in, is_up_to}
@@ -16,18 +15,18 @@ use Rattle.octets.proofs.decimals.decimal.Goals as goal
 
 -- ---- what is answered, outright and by cases
 module _ (limit : ℕ) (s : List ℕ) where
-  abbrev Answers : Decimal → Type 0
+  abbrev Answers : Option ℕ → Type 0
   Answers r = (r ≡ decimal_up_to limit s) × ((is_malformed r ≡ not (is_up_to limit s)) × (value_in r ≡ cond (is_up_to limit s) (value_of s) 0))
 
-  no-decimal : is_decimal s ≡ false → Answers Malformed
+  no-decimal : is_decimal s ≡ false → Answers None
   unfolding decimal_up_to
   no-decimal e = rw e (refl, (refl, refl))
 
-  a-decimal : is_decimal s ≡ true → (r : Decimal) → r ≡ value_up_to limit s → Answers r
+  a-decimal : is_decimal s ≡ true → (r : Option ℕ) → r ≡ value_up_to limit s → Answers r
   unfolding decimal_up_to value_up_to
   a-decimal e r f = rw (f, e) (go (leb (value_of s) limit))
     where
-      go : (t : Bool) → let v : Decimal = cond t (Value (value_of s)) Malformed in (v ≡ v) × ((is_malformed v ≡ not t) × (value_in v ≡ cond t (value_of s) 0))
+      go : (t : Bool) → let v : Option ℕ = cond t (Some (value_of s)) None in (v ≡ v) × ((is_malformed v ≡ not t) × (value_in v ≡ cond t (value_of s) 0))
       go true = (refl, (refl, refl))
       go false = (refl, (refl, refl))
 

@@ -5,7 +5,7 @@ use mathlib.Core.List.{List}
 use Prim.Native.Nat.{ℕ, ◌+◌, ◌-◌, ◌*◌, ◌≤◌, ◌<◌}
 use native.Mathlib.Omega.{arith}
 use lib.ListN.{length, drop, get_or, drop_of_length-le}
-use Rattle.octets.specs.declared.Decimal.TheVariants.{Value}
+use Rattle.std.specs.Prelude.{Some}
 use Rattle.octets.specs.Bytes.{is_digit}
 use Rattle.octets.specs.Decimals.{zero_digit, value_from, value_of}
 use Rattle.laws.proofs.Lists.{drop-step, all-at}
@@ -68,4 +68,4 @@ returns c =
     let s = c.args.s.now in
     let l = c.loop-i in
     let e : value_of s ≡ l.value = sym l.invariant.2 ∙ value-past l.value s l.i c.loop-i-test.false in
-    ap Value (sym e) ∙ sym (value_in c.args.limit s (omega arith))
+    ap Some (sym e) ∙ sym (value_in c.args.limit s (omega arith))

@@ -1,26 +1,23 @@
--- `put_modes` meets its contract. The invariant: what was put, with the letters from the place on, is all of them. Assumes nothing.
-use mathlib.Core.List.{[], ◌∷◌}
-use native.Mathlib.Omega.{arith}
+-- `put_modes` meets its contract: each turn puts the letter at its place, or nothing. Assumes nothing.
+use Rattle.std.proofs.Common.{sym, ◌∙◌, ◌∷◌, [], arith}
 use Rattle.octets.specs.Bytes.{space}
-use Rattle.octets.proofs.Room.{added, adds_then, begun, begun-step, begun-end}
+use Rattle.octets.proofs.Pages.{added_step, added_end, added_then}
 use Rattle.channel.specs.Modes.{letters, plus}
-use Rattle.telling.proofs.Lines.{letters-step, letters-past}
+use Rattle.telling.specs.Telling.{letters_from}
+use Rattle.telling.proofs.Lines.{letters-told, letters-untold, letters-past}
+use Rattle.telling.proofs.pieces.put_modes.Goals.{then-has_mode, else-has_mode}
 use Rattle.telling.proofs.pieces.put_modes.Goals as goal
-
-pub loop-place-init : goal.loop-place-init
-loop-place-init c =
-    (omega arith, begun _ _ _)
 
 pub loop-place-preserved : goal.loop-place-preserved
 loop-place-preserved c =
-    let put = c in
-    let loop = put.loop-place in
-    let modes = put.args.modes in
-    let added = rw (put.has_mode.ensures, put.part.ensures.bytes) at put.put_if-next.ensures in
-    (omega arith, begun-step _ _ _ _ _ _ _ _ _ _ (letters-step letters loop.place modes put.loop-place-test.true) added loop.invariant.1)
+    let l = c.loop-place in
+    let m = c.args.modes in
+    elim c.if-has_mode.branch [
+      | then-has_mode w ↦ added_step _ _ _ _ _ _ _ (letters-told letters l.place m (omega arith) (sym c.has_mode.ensures ∙ w.if-has_mode.true)) (w.line-is ∙ w.put-then-has_mode.ensures) l.invariant
+      | else-has_mode w ↦ rw (w.line-is, ← letters-untold letters l.place m (omega arith) (sym c.has_mode.ensures ∙ w.if-has_mode.false)) l.invariant
+    ]
 
 pub returns : goal.returns
 returns c =
-    let opened = c.put-next in
-    let loop = c.loop-place in
-    adds_then _ _ _ _ _ _ (space ∷ plus ∷ []) _ (added _ _ _ _ _ opened.ensures.place opened.ensures.bytes) (begun-end _ _ _ _ _ _ (letters-past letters loop.place _ c.loop-place-test.false) loop.invariant.1)
+    let all = letters_from 0 letters c.args.modes in
+    added_end _ _ _ _ (letters-past letters c.loop-place.place _ (omega arith)) c.loop-place.invariant ∙ rw c.put.ensures (added_then _ (space ∷ plus ∷ []) all)

@@ -1,15 +1,9 @@
--- `put_capitals` meets its contract. The invariant: what was put, with the bytes from i on in capitals, is the whole. Assumes nothing.
-use mathlib.Core.List.{map}
-use Prim.Native.Nat.{◌-◌, ◌≤◌}
-use lib.ListN.{length, drop}
+-- The invariant of `put_capitals`: what is put are the capitals of the bytes so far.
+use Rattle.std.proofs.Common.{◌≡◌, map, take}
 use Rattle.octets.specs.Bytes.{capital}
-use Rattle.octets.proofs.Room.{Begun}
+use Rattle.octets.specs.Pages.{added}
 use Rattle.writer.proofs.form.put_capitals.Given as goal
 
-abbrev pub invariant-loop-i : goal.invariant-loop-i
-invariant-loop-i l =
-    (l.i ≤ length l.p) × Begun l.initial.line l.at l.line l.next (map capital (drop l.i l.p)) (map capital l.p)
-
-abbrev pub decreases-loop-i : goal.decreases-loop-i
-decreases-loop-i l =
-    length l.p - l.i
+abbrev pub invariant-loop-b : goal.invariant-loop-b
+invariant-loop-b l =
+    l.line ≡ added l.initial.line (map capital (take l.b-index l.p))
