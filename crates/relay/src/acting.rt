@@ -13,7 +13,7 @@ ghost use Rattle.relay.specs.Private.Acting.{head_with, slot_set, done_by, passe
 use crate::masking::MASKS_AT;
 use crate::{Deed, Sending};
 use bans::{BanList, clear, load, store};
-use crate::stubs::add_listed;
+use bmask::add_listed;
 use channel::Record;
 use channel::members::without;
 use links::{Links, relay_set};

@@ -3,8 +3,7 @@ use Rattle.std.specs.Prelude.{ℕ, cond, List, Result, Ok, Err, get_or, ltb}
 use Rattle.refusal.specs.Numbers.{no_such_channel, too_many_masks}
 use Rattle.octets.specs.Decimals.{value_of}
 use Rattle.channel.specs.declared.Record.{Record}
-use Rattle.bans.specs.declared.Added.{Added}
-use Rattle.bans.specs.Putting.{add_answer}
+use Rattle.bans.specs.Putting.{Added, add_answer}
 use Rattle.bans.specs.Slots.{list_at, list_of}
 use Rattle.sjoin.specs.Join.{time_in}
 use Rattle.bmask.specs.Masks.{listed, bmask_rules}
