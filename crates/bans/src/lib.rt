@@ -114,7 +114,7 @@ pub fn is_well_formed(s: &[u8]) -> bool
 pub fn is_whole(w: WholeRecord) -> bool
     ensures { result ≡ well_formed_whole w }
 {
-    channel::is_well_formed(w.record) && is_well_formed(&w.bans.room)
+    channel::is_well_formed(&w.record) && is_well_formed(&w.bans.room)
 }
 
 // How many masks the list has.

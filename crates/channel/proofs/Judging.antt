@@ -3,22 +3,21 @@
 use mathlib.Core.Path.{◌≡◌, refl}
 use mathlib.Core.Bool.{Bool, true, false, ◌&&◌, and-true, and-false, and_assoc}
 use mathlib.Core.List.{List, [], ◌∷◌}
-use Prim.Native.Nat.{ℕ, ◌≤◌, ◌<◌, ◌^◌}
+use Prim.Native.Nat.{ℕ}
 use native.Mathlib.Omega.{arith}
 use lib.ListN.{length, take, drop, length-take}
 use lib.Dec.{leb}
-use borrow.Author.Tests.{le-leb, lt-leb, lt-ltb, leb-true, leb-false}
+use borrow.Author.Tests.{le-leb, lt-leb, leb-true, leb-false}
 use Rattle.laws.specs.Lists.{all}
 use Rattle.octets.specs.Bytes.{is_zero}
 use Rattle.ascending.specs.Ascending.{ascends}
 use Rattle.names.specs.Names.{is_channel}
 use Rattle.channel.specs.declared.Member.{Member}
 use Rattle.channel.specs.declared.Record.{Record}
-use Rattle.channel.specs.Limits.{member_limit, time_limit}
-use Rattle.channel.specs.Modes.{mode_count}
+use Rattle.channel.specs.Limits.{member_limit}
 use Rattle.channel.specs.Channel.{by_id}
 use Rattle.channel.specs.Record.{decode}
-use Rattle.channel.specs.WellFormed.{is_vacant, good_time, good_key, good_limit, good_settings, good_member, good_members, channel_tests, in_room, clear, well_formed}
+use Rattle.channel.specs.WellFormed.{is_vacant, good_time, good_settings, good_member, good_members, channel_tests, in_room, clear, well_formed}
 
 -- every test of a list passes
 abbrev pub passed : List Bool → Bool
@@ -45,7 +44,7 @@ tests r =
     (leb 1 r.count && in_room r)
     ∷ all is_zero (drop r.name_len r.name)
     ∷ all is_zero (drop r.key_len r.key)
-    ∷ (is_channel (take r.name_len r.name) && (leb 1 r.time && (good_key r.modes (take r.key_len r.key) && good_limit r.modes r.limit)))
+    ∷ (is_channel (decode r).name && (good_time (decode r).time && good_settings (decode r).settings))
     ∷ all is_vacant (drop r.count r.members)
     ∷ (all good_member (take r.count r.members) && ascends by_id (take r.count r.members))
     ∷ []
@@ -63,20 +62,13 @@ module _ (l : List Member) (n : ℕ) (h : length l ≡ member_limit) where
   not-over = le-leb (length (take n l)) member_limit (omega (arith, length-take n l))
 
 -- the tests in another order: whether there are members comes first, and whether the other places are vacant right before they are looked at
-reordered : (s v i n k c t q l m a : Bool) → i && (n && (k && (v && (c && (t && (q && (l && (s && (m && a))))))))) ≡ s && (i && (n && (k && (c && (t && (q && (l && (v && (m && a)))))))))
-reordered true true i n k c t q l m a = refl
-reordered true false i n k c t q l m a = simp and-false
-reordered false v i n k c t q l m a = simp and-false
+reordered : (s v i n k c t q m a : Bool) → i && (n && (k && (v && (c && (t && (q && (s && (m && a)))))))) ≡ s && (i && (n && (k && (c && (t && (q && (v && (m && a))))))))
+reordered true true i n k c t q m a = refl
+reordered true false i n k c t q m a = simp and-false
+reordered false v i n k c t q m a = simp and-false
 
-module _ (r : Record) (m : length r.members ≡ member_limit) (t : r.time ≤ time_limit) (b : r.modes < 2 ^ mode_count) where
-  -- A record is well formed exactly if it passes the tests that are made.
+-- A record is well formed exactly if it passes the tests that are made.
+module _ (r : Record) (m : length r.members ≡ member_limit) where
   pub well-tests : well_formed r ≡ passed (tests r)
-  unfolding well_formed clear channel_tests decode good_time good_settings good_members all
-  well-tests = simp (
-    le-leb r.time time_limit t,
-    lt-ltb r.modes (2 ^ mode_count) b,
-    some-used r.members r.count m,
-    not-over r.members r.count m,
-    and-true,
-    and_assoc,
-  ) (rw (reordered (leb 1 r.count) (all is_vacant (drop r.count r.members))))
+  unfolding well_formed clear channel_tests decode good_members all
+  well-tests = simp (some-used r.members r.count m, not-over r.members r.count m, and-true, and_assoc) (rw (reordered (leb 1 r.count) (all is_vacant (drop r.count r.members))))

@@ -148,8 +148,8 @@ pub struct Roster {
 
 // Whether every part of the record is zero, as in a free slot.
 #[tactic(auto, unfolding(crate::specs::WellFormed::is_blank, laws::specs::Lists::all))]
-pub fn is_blank(r: Record) -> bool
-    ensures { result ≡ is_blank r }
+pub fn is_blank(r: &Record) -> bool
+    ensures { result ≡ is_blank r.now }
 {
     zero_from(&r.name, 0)
         && r.name_len == 0
@@ -163,8 +163,8 @@ pub fn is_blank(r: Record) -> bool
 }
 
 // Whether the record is well formed: what is in use keeps to its room, unused room is zero, and what it holds is a channel.
-pub fn is_well_formed(r: Record) -> bool
-    ensures { result ≡ well_formed r }
+pub fn is_well_formed(r: &Record) -> bool
+    ensures { result ≡ well_formed r.now }
 {
     r.is_in_room()
         && zero_from(&r.name, r.name_len)

@@ -1,10 +1,9 @@
 // Member lists: those of a record, a member removed, and lists put in order.
-ghost use Rattle.std.specs.Prelude.{◌≡◌, ◌<◌, ◌≤◌, [], length, take, min};
-ghost use Rattle.laws.specs.Lists.{padded};
+ghost use Rattle.std.specs.Prelude.{◌≡◌, ◌<◌, ◌≤◌, [], length, take};
 ghost use Rattle.octets.specs.Order.{compare, is_less};
 ghost use Rattle.ascending.specs.Ascending.{put};
 ghost use Rattle.channel.specs.Limits.{member_limit};
-ghost use Rattle.channel.specs.Record.{nobody, decode};
+ghost use Rattle.channel.specs.Record.{decode};
 ghost use Rattle.channel.specs.Channel.{by_id};
 ghost use Rattle.channel.specs.Private.Rosters.{Sorted};
 ghost use Rattle.channel.specs.Members.{roster, pushed, ordered as ordered_of, has_member, others as others_of, without as without_of};
@@ -67,31 +66,16 @@ impl Roster {
     }
 }
 
-// A list with every place unused.
-#[tactic(auto, unfolding(laws::specs::Lists::padded))]
-pub fn vacant() -> [Member; Record::MEMBERS]
-    ensures { result ≡ padded member_limit nobody [] }
-{
-    [Member::NOBODY; Record::MEMBERS]
-}
-
-// A number of members, or all that there is room for where it is more.
-pub fn within(n: usize) -> usize
-    ensures { result ≡ min n member_limit }
-{
-    n.min(Record::MEMBERS)
-}
-
 // Whether the record has a member with the id.
-pub fn has_member(r: Record, id: [u8; USER_ID]) -> bool
-    ensures { result ≡ has_member id (decode r).members }
+pub fn has_member(r: &Record, id: [u8; USER_ID]) -> bool
+    ensures { result ≡ has_member id (decode r.now).members }
 {
     r.members().iter().any(|m| is_same(id, m.id))
 }
 
 // The record's members but for those with the id.
-fn others(r: Record, id: [u8; USER_ID]) -> Roster
-    ensures { result ≡ roster (others_of id (decode r).members) }
+fn others(r: &Record, id: [u8; USER_ID]) -> Roster
+    ensures { result ≡ roster (others_of id (decode r.now).members) }
 {
     let mut left = Roster::empty();
     for m in r.members() {
@@ -103,8 +87,8 @@ fn others(r: Record, id: [u8; USER_ID]) -> Roster
 }
 
 // The record without the member that has the id: the rest moves up, and the freed place is zero. Where nobody is left, the empty record.
-pub fn without(r: Record, id: [u8; USER_ID]) -> Record
-    ensures { result ≡ without_of id r }
+pub fn without(r: &Record, id: [u8; USER_ID]) -> Record
+    ensures { result ≡ without_of id r.now }
 {
     let left = others(r, id);
     if left.count == 0 {
@@ -115,22 +99,12 @@ pub fn without(r: Record, id: [u8; USER_ID]) -> Record
     Record {
         members,
         count,
-        ..r
+        ..*r
     }
 }
 
 // Every id of the entries once, ascending, an id given twice having both statuses. One that comes behind all before it costs one comparison.
-pub fn ordered(entries: [Member; Record::MEMBERS], n: usize) -> Roster
-    ensures { result ≡ roster (ordered_of (take n entries)) }
-{
-    in_order(&Roster {
-        list: entries,
-        count: n,
-    })
-}
-
-// The same of a roster.
-fn in_order(entries: &Roster) -> Roster
+pub fn ordered(entries: &Roster) -> Roster
     ensures { result ≡ roster (ordered_of (take entries.now.count entries.now.list)) }
 {
     let mut all = Roster::empty();

@@ -1,6 +1,6 @@
 // Modes, kept as one byte: each letter has a place, and its bit is 1 shifted to that place.
 ghost use Rattle.std.specs.Prelude.{◌≡◌};
-ghost use Rattle.channel.specs.Modes.{mode_place, has_mode, with_mode};
+ghost use Rattle.channel.specs.Modes.{place_of, has_mode, with_mode};
 
 // How many modes there are: i m n p s t k l.
 pub const MODES: u32 = 8;
@@ -11,21 +11,21 @@ pub const KEY_MODE: u32 = 6;
 // The place of l.
 pub const LIMIT_MODE: u32 = 7;
 
-// The letter's place, or MODES where it is none of the eight.
+// The letter's place, where it is one of the eight.
 #[tactic(auto, unfolding(crate::specs::Modes::place_among))]
-pub fn mode_place(letter: u8) -> u32
-    ensures { result ≡ mode_place letter }
+pub fn mode_place(letter: u8) -> Option<u32>
+    ensures { result ≡ place_of letter }
 {
     match letter {
-        b'i' => 0,
-        b'm' => 1,
-        b'n' => 2,
-        b'p' => 3,
-        b's' => 4,
-        b't' => 5,
-        b'k' => KEY_MODE,
-        b'l' => LIMIT_MODE,
-        _ => MODES,
+        b'i' => Some(0),
+        b'm' => Some(1),
+        b'n' => Some(2),
+        b'p' => Some(3),
+        b's' => Some(4),
+        b't' => Some(5),
+        b'k' => Some(KEY_MODE),
+        b'l' => Some(LIMIT_MODE),
+        _ => None,
     }
 }
 

@@ -7,7 +7,7 @@ ghost use Rattle.names.specs.Names.{is_channel};
 ghost use Rattle.ascending.specs.Ascending.{ascends};
 ghost use Rattle.channel.specs.Channel.{by_id};
 ghost use Rattle.channel.specs.Record.{decode};
-ghost use Rattle.channel.specs.WellFormed.{is_vacant, good_key, good_limit, good_member, in_room as in_room_of};
+ghost use Rattle.channel.specs.WellFormed.{is_vacant, good_time, good_key, good_limit, good_settings, good_member, in_room as in_room_of};
 
 use crate::key::is_key;
 use crate::modes::{KEY_MODE, LIMIT_MODE, has_mode};
@@ -52,8 +52,9 @@ impl Record {
     }
 
     // Whether name, time, modes, key and limit are a channel's.
+    #[tactic(auto, unfolding(crate::specs::WellFormed::good_time, crate::specs::WellFormed::good_settings, crate::specs::Record::decode))]
     pub(crate) fn has_good_head(&self) -> bool
-        ensures { result ≡ is_channel (decode self.now).name && (leb 1 self.now.time && (good_key self.now.modes (decode self.now).settings.key && good_limit self.now.modes self.now.limit)) }
+        ensures { result ≡ is_channel (decode self.now).name && (good_time (decode self.now).time && good_settings (decode self.now).settings) }
     {
         is_channel(self.name())
             && self.time != 0

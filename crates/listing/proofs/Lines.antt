@@ -1,11 +1,10 @@
 -- Laws of the table as text: the masks of a list and the slots of a table one by one, how long their lines can be, and when there is room for them. Assumes nothing.
 use Prim.Native.Nat.{ℕ, ◌+◌, ◌*◌, ◌≤◌, ◌<◌}
 use mathlib.Core.Path.{◌≡◌, refl, ap, ◌∙◌}
-use mathlib.Core.Bool.{true, false, cond}
+use mathlib.Core.Bool.{true, cond}
 use mathlib.Core.List.{List, [], ◌∷◌, ◌++◌, map}
 use native.Mathlib.Omega.{arith}
 use lib.ListN.{length, drop, get_or, drop_of_length-le, length-append}
-use lib.Seq.{take-append_seam}
 use lib.Dec.{ltb}
 use borrow.Author.Tests.{lt-ltb, le-ltb}
 use Rattle.refusal.specs.Numbers.{accepted, no_room}
@@ -16,10 +15,7 @@ use Rattle.laws.specs.Joins.{concatenated}
 use Rattle.laws.proofs.Lists.{drop-step}
 use Rattle.laws.proofs.Texts.{separated_from, separated-step, separated-end}
 use Rattle.octets.specs.Bytes.{lf, space}
-use Rattle.octets.specs.Room.{part, front}
-use Rattle.octets.proofs.Room.{part-front}
 use Rattle.channel.specs.declared.Record.{Record}
-use Rattle.channel.specs.Channel.{Channel}
 use Rattle.channel.specs.Record.{decode}
 use Rattle.bans.specs.declared.WholeRecord.{WholeRecord}
 use Rattle.bans.specs.Masks.{masks}
@@ -27,10 +23,9 @@ use Rattle.bans.specs.Slots.{list_at}
 use Rattle.bans.specs.Records.{whole}
 use Rattle.bans.proofs.Texts.{masks-fit}
 use Rattle.table.specs.Network.{Network}
-use Rattle.table.specs.Table.{is_free, wholes_from}
+use Rattle.table.specs.Table.{wholes_from}
 use Rattle.table.proofs.WellFormed.{wholes-step, wholes-past}
-use Rattle.telling.specs.Telling.{described, description_limit, described_in}
-use Rattle.telling.proofs.Described.{described-all}
+use Rattle.telling.specs.Telling.{described, description_limit}
 use Rattle.listing.specs.Listing.{line_of, channel_lines, slot_lines, listing, listing_rules}
 use Rattle.listing.specs.Private.Slots.{slot_limit}
 
@@ -47,25 +42,7 @@ masks-step l i h = rw (drop-step l i [] h) (separated-step space i (get_or l i [
 pub masks-past : (l : List (List ℕ)) (i : ℕ) → length l ≤ i → masks_from i l ≡ []
 masks-past l i h = rw (drop_of_length-le l {i = i} h) (separated-end space i)
 
--- ---- what is told of a channel
--- Where it has room, it stands at the front.
-pub told-front : (c : Channel) (out next : List ℕ) (n : ℕ) → length (described c) ≤ length out → n ≡ length (described_in out c) → next ≡ front (described_in out c) out
-    → part next 0 n ≡ described c
-told-front c out next n h e f =
-    let w = described c in
-    rw (e, f, described-all out c h) (part-front (front w out) (length w) ∙ take-append_seam w (drop (length w) out))
-
 -- ---- the slots, one by one
--- A free slot has no lines.
-pub slot-free : (w : WholeRecord) → is_free w.«record» ≡ true → slot_lines w ≡ []
-unfolding slot_lines
-slot-free w e = rw e
-
--- A used one has those of its channel.
-pub slot-used : (w : WholeRecord) → is_free w.«record» ≡ false → slot_lines w ≡ channel_lines w
-unfolding slot_lines
-slot-used w e = rw e
-
 module _ (bans : List ℕ) (slots : List Record) (k : ℕ) where
   -- the lines of the slots from k on
   abbrev pub lines_from : List ℕ

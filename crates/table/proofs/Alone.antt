@@ -19,11 +19,10 @@ use Rattle.channel.proofs.Blank.{empty-free}
 use Rattle.channel.proofs.Records.{decode-encode}
 use Rattle.channel.proofs.Proper.{Proper, proper-fits, encode-well}
 use Rattle.bans.specs.Slots.{empty_lists}
-use Rattle.table.specs.declared.Slot.TheVariants.{Held, Free}
 use Rattle.table.specs.Network.{Table, network_of, empty_network}
 use Rattle.table.specs.Table.{is_free, holds, alike, distinct, good_network, good_table, empty_table}
 use Rattle.table.specs.Private.Parts.{good_record}
-use Rattle.table.specs.Slots.{first_at, slot_for}
+use Rattle.table.specs.Slots.{Held, Free, first_at, slot_for}
 use Rattle.table.proofs.Searching.{free-holds, free-found, held_found, held_none}
 use Rattle.table.proofs.WellFormed.{unlike, free-distinct, network-made, empty-lists, empty-good}
 use Rattle.table.proofs.Changing.{well-used, well-good, empty-slot}

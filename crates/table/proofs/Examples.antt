@@ -34,11 +34,9 @@ use Rattle.bans.specs.Matching.{some_matches}
 use Rattle.bans.proofs.Slots.{good-there, list-stored, lists-empty, empty-masks, empty-well}
 use Rattle.bans.proofs.Uniting.{Made, add-full, add-keeps}
 use Rattle.table.specs.declared.Banned.{Banned}
-use Rattle.table.specs.declared.Slot.{Slot}
-use Rattle.table.specs.declared.Slot.TheVariants.{Held, Free, Full}
 use Rattle.table.specs.Network.{Table, network_of, with_list, with_network}
 use Rattle.table.specs.Table.{is_free, wholes, holds, alike, distinct, good_table, register_answer, unregister_answer}
-use Rattle.table.specs.Slots.{first_at, free_slot, slot_for, held_in}
+use Rattle.table.specs.Slots.{Slot, Held, Free, Full, first_at, free_slot, slot_for, held_in}
 use Rattle.table.specs.Banned.{banned_answer}
 use Rattle.table.proofs.First.{IsFirst, IsNone}
 use Rattle.table.proofs.Searching.{slot_held, slot-free, slot-full}

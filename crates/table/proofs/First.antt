@@ -1,12 +1,13 @@
 -- Laws of the first place of a list that passes a test: it passes, and none before it does. Assumes nothing.
 use mathlib.Core.Path.{◌≡◌, refl, sym, ap, ◌∙◌}
-use mathlib.Core.Bool.{Bool, true, false, not}
+use mathlib.Core.Bool.{Bool, true, false, not, cond}
 use mathlib.Core.List.{List, [], ◌∷◌}
 use Prim.Native.Nat.{ℕ, zero, suc, ◌+◌, ◌≤◌, ◌<◌}
 use native.Mathlib.Omega.{arith}
 use lib.ListN.{length, drop, get_or}
 use lib.Dec.{ltb}
 use borrow.Author.Tests.{lt-ltb, le-ltb, ltb-true, ltb-false}
+use Rattle.std.specs.List.{position_or_len}
 use Rattle.laws.specs.Lists.{all}
 use Rattle.laws.proofs.Lists.{drop-step}
 use Rattle.table.specs.Slots.{first_at}
@@ -72,6 +73,16 @@ module _ {A : Type 0} (p : A → Bool) where
       go : (t : Bool) → p x ≡ t → all (λ y. not (p y)) l ≡ not (ltb (first_at p l) (length l)) → all (λ y. not (p y)) (x ∷ l) ≡ not (ltb (first_at p (x ∷ l)) (suc (length l)))
       go true e ih = rw (e, lt-ltb 0 (suc (length l)) (omega arith))
       go false e ih = rw e (ih ∙ ap not (sym (ltb-suc (first_at p l) (length l))))
+
+-- the library's search for it
+pub first-listed : {A : Type 0} (p : A → Bool) (l : List A) → position_or_len p l ≡ first_at p l
+unfolding first_at
+first-listed p [] = refl
+first-listed p (x ∷ l) = go (p x) (first-listed p l)
+  where
+    go : (t : Bool) → position_or_len p l ≡ first_at p l → cond (not t) (1 + position_or_len p l) 0 ≡ cond t 0 (suc (first_at p l))
+    go true ih = refl
+    go false ih = omega (arith, ih)
 
 -- ---- what is first
 -- The place k is the first of a list that passes the test; d stands for what lies past the end.

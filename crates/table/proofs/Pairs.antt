@@ -1,19 +1,17 @@
--- The pairs of slots looked at one after the other, the first being i and the second j: what is left of them to look at. Assumes nothing.
+-- Slots that are left to look at, the first one with those behind it. Assumes nothing.
 use mathlib.Core.Path.{◌≡◌, refl, ap, ◌∙◌}
-use mathlib.Core.Bool.{Bool, true, false, not, ◌&&◌}
+use mathlib.Core.Bool.{true, false, not, ◌&&◌}
 use mathlib.Core.List.{List, [], ◌∷◌}
-use Prim.Native.Nat.{ℕ, ◌+◌, ◌≤◌, ◌<◌}
-use lib.ListN.{length, drop, get_or, drop_of_length-le}
+use Prim.Native.Nat.{◌-◌, ◌≤◌}
+use native.Mathlib.Omega.{arith}
+use lib.ListN.{length, take, drop, get_or}
+use lib.Seq.{take_all}
+use Rattle.std.specs.List.{list_any}
 use Rattle.laws.specs.Lists.{all}
-use Rattle.laws.proofs.Lists.{drop-step, get_or_any, all_past, all-stop, all_go}
+use Rattle.laws.proofs.Chains.{none_listed}
 use Rattle.channel.specs.declared.Record.{Record}
-use Rattle.channel.specs.Record.{empty_record}
 use Rattle.table.specs.Table.{alike, distinct}
 use Rattle.table.proofs.WellFormed.{free-alike, unlike}
-
--- no slot from j on is like slot i, and those above slot i are distinct
-abbrev pub left : List Record → ℕ → ℕ → Bool
-left l i j = all (unlike (get_or l i empty_record)) (drop j l) && distinct (drop (i + 1) l)
 
 -- no slot is like a free one
 free-row : (r : Record) → r.count ≡ 0 → (l : List Record) → all (unlike r) l ≡ true
@@ -21,34 +19,31 @@ unfolding all
 free-row r e [] = refl
 free-row r e (s ∷ l) = rw (free-alike r s e) (free-row r e l)
 
-module _ (l : List Record) (i : ℕ) where
-  -- past the last slot there is no pair
-  pub distinct-past : length l ≤ i → distinct (drop i l) ≡ true
-  unfolding distinct
-  distinct-past h = rw (drop_of_length-le l h)
+-- those behind the first
+abbrev pub others : List Record → List Record
+others l = take (length l - 1) (drop 1 l)
 
-  -- a row begins
-  pub row-begins : i < length l → distinct (drop i l) ≡ left l i (i + 1)
-  unfolding distinct
-  row-begins h = rw (drop-step l i empty_record h)
+-- no two are alike exactly if the first is like none behind it, and no two of those are
+row : (l : List Record) (d : Record) → 1 ≤ length l → distinct l ≡ all (unlike (get_or l 0 d)) (others l) && distinct (others l)
+unfolding distinct
+row [] d h = absurd (omega arith)
+row (r ∷ l) d h = rw (take_all (length (r ∷ l) - 1) l (omega arith))
 
-  -- and ends
-  pub row_ends : (j : ℕ) → length l ≤ j → left l i j ≡ distinct (drop (i + 1) l)
-  row_ends j h = rw (all_past (unlike (get_or l i empty_record)) l j h)
+module _ (l : List Record) (d : Record) (h : 1 ≤ length l) where
+  -- one behind the first is like it
+  pub row-alike : list_any (alike (get_or l 0 d)) (others l) ≡ true → distinct l ≡ false
+  row-alike e = row l d h ∙ rw (none_listed (alike (get_or l 0 d)) (others l) ∙ ap not e)
 
-  -- a free slot's row has no pair that is alike
-  pub row-free : (j : ℕ) (d : Record) → i < length l → (get_or l i d).count ≡ 0 → left l i j ≡ distinct (drop (i + 1) l)
-  row-free j d h e = rw (free-row (get_or l i empty_record) (ap (λ (r : Record). r.count) (get_or_any l i empty_record d h) ∙ e) (drop j l))
+  -- none is
+  pub row-unlike : list_any (alike (get_or l 0 d)) (others l) ≡ false → distinct l ≡ distinct (others l)
+  row-unlike e = row l d h ∙ rw (none_listed (alike (get_or l 0 d)) (others l) ∙ ap not e)
 
-  -- a pair is looked at
-  module _ (j : ℕ) (d : Record) (h : i < length l) (k : j < length l) where
-    same-pair : alike (get_or l i empty_record) (get_or l j d) ≡ alike (get_or l i d) (get_or l j d)
-    same-pair = ap (λ (r : Record). alike r (get_or l j d)) (get_or_any l i empty_record d h)
+  -- a free one is like none
+  pub row-free : (get_or l 0 d).count ≡ 0 → distinct l ≡ distinct (others l)
+  row-free e = row l d h ∙ rw (free-row (get_or l 0 d) e (others l))
 
-    -- if the two are alike, what is left doesn't hold
-    pub pair-alike : alike (get_or l i d) (get_or l j d) ≡ true → left l i j ≡ false
-    pair-alike e = rw (all-stop (unlike (get_or l i empty_record)) l j d k (ap not (same-pair ∙ e)))
-
-    -- if they aren't, the pairs after this one are left
-    pub pair-unlike : alike (get_or l i d) (get_or l j d) ≡ false → left l i j ≡ left l i (j + 1)
-    pair-unlike e = rw (all_go (unlike (get_or l i empty_record)) l j d k (ap not (same-pair ∙ e)))
+-- where none is left, no two are alike
+pub row-none : (l : List Record) → length l ≤ 0 → distinct l ≡ true
+unfolding distinct
+row-none [] h = refl
+row-none (r ∷ l) h = absurd (omega arith)

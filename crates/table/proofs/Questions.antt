@@ -14,11 +14,9 @@ use Rattle.glob.specs.Mask.{text_limit}
 use Rattle.bans.specs.Masks.{masks}
 use Rattle.bans.specs.Matching.{some_matches}
 use Rattle.bans.specs.Slots.{list_at}
-use Rattle.table.specs.declared.Slot.{Slot}
-use Rattle.table.specs.declared.Slot.TheVariants.{Held, Free, Full}
 use Rattle.table.specs.Network.{Table, network_of}
 use Rattle.table.specs.Table.{good_table}
-use Rattle.table.specs.Slots.{slot_in, is_held}
+use Rattle.table.specs.Slots.{Slot, Held, Free, Full, slot_in, is_held}
 use Rattle.table.specs.Banned.{banned_rules, banned_answer}
 use Rattle.table.specs.Private.Parts.{unbanned}
 

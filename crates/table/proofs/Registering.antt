@@ -1,5 +1,5 @@
 -- Links registered and dropped: which rule answers, that doing so twice changes nothing more, and that the network stays. Assumes nothing.
-use mathlib.Core.Path.{◌≡◌, refl, ap, ◌∙◌}
+use mathlib.Core.Path.{◌≡◌, refl, sym, ap, ◌∙◌}
 use mathlib.Core.Bool.{Bool, true, false, not, cond}
 use mathlib.Core.List.{[], ◌∷◌}
 use Prim.Native.Nat.{ℕ, ◌≤◌, ◌<◌}
@@ -7,6 +7,9 @@ use lib.Dec.{eqb}
 use borrow.Author.Tests.{lt-ltb, le-ltb, ltb-true, ltb-false}
 use Rattle.refusal.specs.Numbers.{accepted, not_well_formed, bad_link}
 use Rattle.refusal.specs.Rules.{◌when◌, first_of, ascend, ascend_from, place_in}
+use Rattle.refusal.specs.declared.Refusal.{Refusal}
+use Rattle.refusal.specs.Refusals.{number_of}
+use Rattle.refusal.proofs.Refusals.{not-accepted}
 use Rattle.refusal.proofs.Rules.{skip, stop, first-nil}
 use Rattle.links.specs.declared.Links.{Links}
 use Rattle.links.specs.Links.{link_count, is_link, with_link, without_link}
@@ -24,6 +27,14 @@ module _ (t : Table) (link : ℕ) (l : Links) where
   relinked-by : (k : ℕ) → first_of (link_rules t link) ≡ k → relinked t link l ≡ record { number = k; table = cond (eqb k accepted) (table_of (network_of t) l) t }
   unfolding relinked
   relinked-by k e = rw e
+
+  -- what the rules refuse stays as it is
+  pub links-refused : (e : Refusal) → number_of e ≡ first_of (link_rules t link) → relinked t link l ≡ record { number = number_of e; table = t }
+  links-refused e q = relinked-by (number_of e) (sym q) ∙ rw (not-accepted e)
+
+  -- and where they refuse nothing the links change
+  pub links-accepted : accepted ≡ first_of (link_rules t link) → relinked t link l ≡ record { number = accepted; table = table_of (network_of t) l }
+  links-accepted q = relinked-by accepted (sym q)
 
   -- a table that isn't well formed is refused and stays as it is
   pub links-ill-formed : good_table t ≡ false → relinked t link l ≡ record { number = not_well_formed; table = t }

@@ -2,24 +2,29 @@
 use mathlib.Core.Path.{◌≡◌, refl, sym, ap, ◌∙◌}
 use mathlib.Core.Bool.{Bool, true, false, not, cond, ◌&&◌}
 use mathlib.Core.List.{List, [], ◌∷◌}
-use Prim.Native.Nat.{ℕ, ◌≤◌, ◌<◌}
+use Rattle.std.proofs.Common.{Option, Some, None}
+use Rattle.std.specs.List.{position_or_len}
+use Prim.Native.Nat.{ℕ, ◌+◌, ◌≤◌, ◌<◌}
 use native.Mathlib.Omega.{arith}
-use lib.ListN.{length}
+use lib.ListN.{length, drop, get_or}
 use lib.Dec.{ltb}
 use borrow.Author.Tests.{eq-eqb, ne_eqb, lt-ltb, le-ltb, ltb-true, ltb-false}
 use Rattle.refusal.specs.Numbers.{no_free_slot}
 use Rattle.refusal.specs.Rules.{◌when◌, first_of}
 use Rattle.refusal.proofs.Rules.{skip, stop, first-nil}
-use Rattle.octets.specs.Room.{part}
+use Rattle.laws.proofs.Lists.{get_or_any}
 use Rattle.names.specs.Fold.{same_name}
 use Rattle.channel.specs.declared.Record.{Record}
-use Rattle.channel.specs.Record.{empty_record}
-use Rattle.channel.proofs.Decoded.{decoded-name}
-use Rattle.table.specs.declared.Found.{Found}
-use Rattle.table.specs.declared.Slot.TheVariants.{Held, Free, Full}
+use Rattle.channel.specs.Record.{decode, empty_record}
+use Rattle.table.specs.declared.Found as code
+use Rattle.table.specs.declared.Found.TheVariants as answer
 use Rattle.table.specs.Table.{is_free, holds}
-use Rattle.table.specs.Slots.{first_at, free_slot, slot_for, held_in, found_for, slot_number, slot_rules}
-use Rattle.table.proofs.First.{IsFirst, IsNone, first-is, first-none, first-all}
+use Rattle.table.specs.Slots.{Found, Held, Free, Full, first_at, free_slot, slot_for, is_held, held_in, as_found, found_for, slot_number, slot_rules}
+use Rattle.table.proofs.First.{IsFirst, IsNone, first-here, first_next, first-end, first-is, first-none, first-all, first-listed}
+
+-- what the code reads past the last slot
+abbrev pub nothing : Record
+nothing = record { name = []; name_len = 0; time = 0; modes = 0; key = []; key_len = 0; limit = 0; members = []; count = 0 }
 
 -- ---- whether a slot holds the name
 module _ (name : List ℕ) (r : Record) where
@@ -28,10 +33,10 @@ module _ (name : List ℕ) (r : Record) where
   unfolding holds
   free-holds e = rw (eq-eqb r.count 0 e)
 
-  -- the part of the room for it that is in use, however long the record says that the name is
-  pub used-holds : (r.count ≡ 0 → ⊥) → (held : List ℕ) → held ≡ part r.name 0 r.name_len → holds name r ≡ same_name held name
+  -- its name is compared
+  pub used-holds : (r.count ≡ 0 → ⊥) → (held : List ℕ) → held ≡ (decode r).name → holds name r ≡ same_name held name
   unfolding holds
-  used-holds ne held e = rw (ne_eqb r.count 0 ne, e, decoded-name r)
+  used-holds ne held e = rw (ne_eqb r.count 0 ne, e)
 
 -- ---- what the search answers
 module _ (slots : List Record) where
@@ -54,6 +59,27 @@ module _ (slots : List Record) where
       go true = refl
       go false = refl
 
+  -- what the library's search for it answers
+  abbrev pub searched : Option ℕ
+  searched = cond (ltb (first_at is_free slots) (length slots)) (Some (first_at is_free slots)) None
+
+  pub searched-is : (r : Option ℕ) → r ≡ cond (ltb (position_or_len is_free slots) (length slots)) (Some (position_or_len is_free slots)) None → searched ≡ r
+  searched-is r e = ap (λ (n : ℕ). cond (ltb n (length slots)) (Some n) None) (sym (first-listed is_free slots)) ∙ sym e
+
+  pub free-some : (k : ℕ) → searched ≡ Some k → Free k ≡ free_slot slots
+  free-some k = go (ltb (first_at is_free slots) (length slots)) refl
+    where
+      go : (t : Bool) → ltb (first_at is_free slots) (length slots) ≡ t → cond t (Some (first_at is_free slots)) None ≡ Some k → Free k ≡ free_slot slots
+      go true e q = let f : first_at is_free slots ≡ k = cc in free-found k f (omega (arith, ltb-true _ _ e))
+      go false e q = let z : ◌≡◌ {A = ℕ} 0 1 = cc in absurd (omega arith)
+
+  pub free-none : searched ≡ None → Full ≡ free_slot slots
+  free-none = go (ltb (first_at is_free slots) (length slots)) refl
+    where
+      go : (t : Bool) → ltb (first_at is_free slots) (length slots) ≡ t → cond t (Some (first_at is_free slots)) None ≡ None → Full ≡ free_slot slots
+      go true e q = let z : ◌≡◌ {A = ℕ} 0 1 = cc in absurd (omega arith)
+      go false e q = free-full (ltb-false _ _ e)
+
   module _ (name : List ℕ) where
     -- a name uses the first slot that holds it, where there is one
     pub held_found : (k : ℕ) → first_at (holds name) slots ≡ k → k < length slots → Held k ≡ slot_for slots name
@@ -64,6 +90,13 @@ module _ (slots : List Record) where
     pub held_none : length slots ≤ first_at (holds name) slots → slot_for slots name ≡ free_slot slots
     unfolding slot_for
     held_none h = rw (le-ltb (first_at (holds name) slots) (length slots) h)
+
+-- ---- what the code answers
+-- one that holds nothing isn't the first kind
+pub not-held : (f : code.Found) → ((k : ℕ) (r : _) → f ≡ answer.Held k r → ⊥) → is_held (as_found f).slot ≡ false
+not-held (answer.Held k r) h = absurd (h k r refl)
+not-held (answer.Free k) h = refl
+not-held answer.Full h = refl
 
 -- ---- what the answers say
 -- The three ways in which a search can end.
@@ -120,7 +153,29 @@ module _ (slots : List Record) (name : List ℕ) where
       go false e true f = rw (e, f) (sym (skip _ _ refl ∙ first-nil))
       go false e false f = rw (e, f) (sym (stop _ _ refl))
 
-  module _ (f : Found) (e : f.slot ≡ slot_for slots name) where
-    -- what has that slot, and the record that goes with it, is the answer, and its number is that of the rules
-    pub answers : f.«record» ≡ held_in slots f.slot → (f ≡ found_for slots name) × (slot_number f.slot ≡ first_of (slot_rules slots name))
-    answers g = (rw (g, e), ap slot_number e ∙ number_is)
+  -- what is found settles it too
+  pub number-found : (f : Found) → f ≡ found_for slots name → slot_number f.slot ≡ first_of (slot_rules slots name)
+  number-found f e = ap (λ (g : Found). slot_number g.slot) e ∙ number_is
+
+  -- ---- the search has passed over the slots below k
+  module _ (k : ℕ) (passed : first_at (holds name) slots ≡ k + first_at (holds name) (drop k slots)) where
+    module _ (d : Record) (h : k < length slots) where
+      -- one that doesn't hold the name is passed over too
+      pub slot-over : holds name (get_or slots k d) ≡ false → first_at (holds name) slots ≡ k + 1 + first_at (holds name) (drop (k + 1) slots)
+      slot-over e = first_next (holds name) slots k d h passed e
+
+      -- one that does is the answer
+      pub slot-answers : holds name (get_or slots k d) ≡ true → record { slot = Held k; «record» = get_or slots k d } ≡ found_for slots name
+      slot-answers e = rw (sym (held_found slots name k (first-here (holds name) slots k d h passed e) h), get_or_any slots k empty_record d h)
+
+    -- past the last one the lowest free slot is
+    module _ (h : length slots ≤ k) where
+      none-holds : slot_for slots name ≡ free_slot slots
+      none-holds = held_none slots name (first-end (holds name) slots k h passed)
+
+      pub free-answers : (i : ℕ) → searched slots ≡ Some i → record { slot = Free i; «record» = empty_record } ≡ found_for slots name
+      free-answers i e = rw (none-holds, ← free-some slots i e)
+
+      -- or all are used
+      pub full-answers : searched slots ≡ None → record { slot = Full; «record» = empty_record } ≡ found_for slots name
+      full-answers e = rw (none-holds, ← free-none slots e)

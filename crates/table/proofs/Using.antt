@@ -10,8 +10,7 @@ use Rattle.laws.proofs.Lists.{all-at}
 use Rattle.channel.specs.declared.Record.{Record}
 use Rattle.channel.specs.Record.{empty_record}
 use Rattle.channel.specs.WellFormed.{well_formed}
-use Rattle.table.specs.declared.Slot.TheVariants.{Held}
-use Rattle.table.specs.Slots.{slot_for}
+use Rattle.table.specs.Slots.{Held, slot_for}
 use Rattle.table.specs.Private.Parts.{good_record}
 use Rattle.table.proofs.Searching.{slot_held}
 use Rattle.table.proofs.WellFormed.{good-used, holding-used}

@@ -5,11 +5,21 @@ use Rattle.refusal.specs.Rules.{Rule, ◌when◌}
 use Rattle.laws.specs.Lists.{all}
 use Rattle.channel.specs.declared.Record.{Record}
 use Rattle.channel.specs.Record.{empty_record}
-use Rattle.table.specs.declared.Found.{Found}
-use Rattle.table.specs.declared.Slot.{Slot}
-use Rattle.table.specs.declared.Slot.TheVariants.{Held, Free, Full}
+use Rattle.table.specs.declared.Found as code
+use Rattle.table.specs.declared.Found.TheVariants as answer
 use Rattle.table.specs.Network.{Network}
 use Rattle.table.specs.Table.{is_free, holds}
+
+-- The slot that a name uses: the one that holds it, else the lowest free one; or every slot holds another name.
+pub data Slot : Type 0 where
+  Held : ℕ → Slot
+  Free : ℕ → Slot
+  Full : Slot
+
+-- The slot that a name uses, and the record in it that has the name: the empty one where no slot has it.
+pub record Found : Type 0 where
+  pub slot : Slot
+  pub «record» : Record
 
 -- the place of the first that passes the test, or how many there are
 unfoldable pub first_at : {A : Type 0} → (A → Bool) → List A → ℕ
@@ -38,6 +48,12 @@ held_in slots Full = empty_record
 -- the slot that a name uses, and the record that has it
 abbrev pub found_for : List Record → List ℕ → Found
 found_for slots name = record { slot = slot_for slots name; «record» = held_in slots (slot_for slots name) }
+
+-- what the code answers, as the slot and the record
+abbrev pub as_found : code.Found → Found
+as_found (answer.Held k r) = record { slot = Held k; «record» = r.now }
+as_found (answer.Free k) = record { slot = Free k; «record» = empty_record }
+as_found answer.Full = record { slot = Full; «record» = empty_record }
 
 -- the number that a record of that name gets: 21 where there is no slot for it
 abbrev pub slot_number : Slot → ℕ

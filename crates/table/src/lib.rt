@@ -6,20 +6,20 @@ mod slots;
 
 ghost use Rattle.std.specs.Prelude.{◌≡◌};
 ghost use Rattle.refusal.specs.Rules.{first_of};
+ghost use Rattle.refusal.specs.Refusals.{answered};
 ghost use Rattle.table.specs.Network.{head_of, table_with};
-ghost use Rattle.table.specs.Table.{empty_table, good_table, relinked as relinked_of, register_answer, unregister_answer, registered_of};
-ghost use Rattle.table.specs.Slots.{found_for, slot_number, slot_rules};
+ghost use Rattle.table.specs.Table.{empty_table, good_table, link_rules, relinked as relinked_of, register_answer, unregister_answer, registered_of};
+ghost use Rattle.table.specs.Slots.{as_found, found_for, slot_number, slot_rules};
 ghost use Rattle.table.specs.Banned.{banned_answer};
-ghost use Rattle.table.specs.Private.Parts.{unbanned as unbanned_of};
+ghost use Rattle.table.specs.Private.Parts.{banned_as};
 
-use bans::{BanList, clear_all, is_good, list_at, some_matches};
+use bans::{BanList, clear_all, list_at, some_matches};
 use channel::Record;
 use glob::TEXT_LIMIT;
 use links::{Links, with_link, without_link};
 use names::{fold, is_channel};
-use octets::part;
-use refusal::{ACCEPTED, BAD_LINK, BAD_NAME, NO_SUCH_CHANNEL, NOT_WELL_FORMED, TEXT_TOO_LONG};
-use slots::{alike, good_record, lowest_free};
+use refusal::{ACCEPTED, Refusal};
+use slots::{are_distinct, are_good};
 
 // What of a table goes by value: sixteen channel slots, a free one being the empty record, and the links.
 #[repr(C)]
@@ -29,19 +29,12 @@ pub struct Head {
     pub links: Links,
 }
 
-// The slot that a name uses: the one that holds it, else the lowest free one; or every slot holds another name.
+// The slot that a name uses: the one that holds it, with its record, else the lowest free one; or every slot holds another name.
 #[derive(Clone, Copy)]
-pub enum Slot {
-    Held(usize),
+pub enum Found<'a> {
+    Held(usize, &'a Record),
     Free(usize),
     Full,
-}
-
-// The slot that a name uses, and the record in it that has the name: the empty one where no slot has it.
-#[derive(Clone, Copy)]
-pub struct Found {
-    pub record: Record,
-    pub slot: Slot,
 }
 
 // The head after, or as given, and the number of a refusal, or ACCEPTED.
@@ -60,6 +53,21 @@ pub struct Banned {
     pub yes: bool,
 }
 
+// A question that is refused is answered no.
+impl From<Result<bool, Refusal>> for Banned {
+    ghost use Rattle.std.specs.Prelude.{◌≡◌};
+    ghost use Rattle.table.specs.Private.Parts.{banned_as};
+
+    ghost from_gives = { λ answer b. b ≡ banned_as answer };
+
+    fn from(answer: Result<bool, Refusal>) -> Banned {
+        Banned {
+            number: refusal::number(&answer),
+            yes: answer.unwrap_or(false),
+        }
+    }
+}
+
 impl Head {
     // Every slot free, no link registered; and every byte of the lists is made zero.
     pub fn empty(bans: &mut [u8; BanList::BANS]) -> Head
@@ -67,71 +75,47 @@ impl Head {
         ensures lists { bans.new ≡ empty_table.bans }
     {
         clear_all(bans);
-        let none = Record::empty();
         Head {
-            slots: [none; Record::SLOTS],
+            slots: [Record::empty(); Record::SLOTS],
             links: Links::none(),
         }
     }
 }
 
-// Whether used slots hold well-formed records with their lists, no two with equal names, and free ones are zero, their lists too. Every pair of slots is looked
-// at, i being below j. One function, so that the head is handed to no other; a free slot's row of pairs is passed over.
-pub fn is_well_formed(t: Head, bans: &[u8; BanList::BANS]) -> bool
-    ensures { result ≡ good_table (table_with t bans.now) }
+// Whether used slots hold well-formed records with their lists, no two with equal names, and free ones are zero, their lists too.
+pub fn is_well_formed(t: &Head, bans: &[u8; BanList::BANS]) -> bool
+    ensures { result ≡ good_table (table_with t.now bans.now) }
 {
-    for k in 0..Record::SLOTS {
-        let r = t.slots[k];
-        if !good_record(r) {
-            return false;
-        }
-        if !is_good(bans, k, r.count != 0) {
-            return false;
-        }
+    are_good(&t.slots, bans) && are_distinct(&t.slots)
+}
+
+// The first of the refusals 1 and 3 that applies: the table isn't well formed, or the link is none.
+#[tactic(auto, unfolding(crate::specs::Table::link_rules, refusal::specs::Rules::first_of))]
+fn check_link(t: &Head, bans: &[u8; BanList::BANS], link: u32) -> Result<(), Refusal>
+    ensures { answered result ≡ first_of (link_rules (table_with t.now bans.now) link) }
+{
+    if !is_well_formed(t, bans) {
+        return Err(Refusal::NotWellFormed);
     }
-    let mut i = 0;
-    let mut j = 1;
-    while i + 1 < Record::SLOTS {
-        if j == Record::SLOTS {
-            i += 1;
-            j = i + 1;
-            continue;
-        }
-        if t.slots[i].count == 0 {
-            j = Record::SLOTS;
-            continue;
-        }
-        let r = t.slots[i];
-        let s = t.slots[j];
-        if alike(r, s) {
-            return false;
-        }
-        j += 1;
+    if Links::COUNT <= link {
+        return Err(Refusal::BadLink);
     }
-    true
+    Ok(())
 }
 
 // The head with other links, unless the table isn't well formed or the link is none.
 fn relinked(t: Head, bans: &[u8; BanList::BANS], link: u32, links: Links) -> Registered
     ensures { result ≡ registered_of (relinked_of (table_with t bans.now) link links) }
 {
-    if !is_well_formed(t, bans) {
-        return Registered {
+    match check_link(&t, bans, link) {
+        Ok(()) => Registered {
+            head: Head { links, ..t },
+            number: ACCEPTED,
+        },
+        Err(refusal) => Registered {
             head: t,
-            number: NOT_WELL_FORMED,
-        };
-    }
-    if Links::COUNT <= link {
-        return Registered {
-            head: t,
-            number: BAD_LINK,
-        };
-    }
-    let mut next = t;
-    next.links = links;
-    Registered {
-        head: next,
-        number: ACCEPTED,
+            number: refusal.number(),
+        },
     }
 }
 
@@ -151,18 +135,14 @@ pub fn unregister(t: Head, bans: &[u8; BanList::BANS], link: u32) -> Registered
 
 // The slot that a name uses, with its record, so that nobody need look into the table again. Each used slot's folded name is compared byte by byte; the
 // first byte that differs leaves for the next slot.
-pub fn find(t: Head, name: &[u8]) -> Found
-    ensures found { result ≡ found_for t.slots name.now }
-    ensures number { slot_number result.slot ≡ first_of (slot_rules t.slots name.now) }
+// Kept (3): document 01 names this form, a labelled loop that the first byte that differs leaves (docs/PROMISES.md, 'Places and their forms').
+pub fn find<'a>(t: &'a Head, name: &[u8]) -> Found<'a>
+    ensures found { as_found result ≡ found_for t.now.slots name.now }
+    ensures number { slot_number (as_found result).slot ≡ first_of (slot_rules t.now.slots name.now) }
 {
     'slots: for k in 0..Record::SLOTS {
-        if t.slots[k].count == 0 {
-            continue 'slots;
-        }
-        let r = t.slots[k];
-        let room = r.name;
-        let held = part(&room, 0, r.name_len);
-        if held.len() != name.len() {
+        let held = t.slots[k].name();
+        if t.slots[k].count == 0 || held.len() != name.len() {
             continue 'slots;
         }
         for i in 0..name.len() {
@@ -170,41 +150,41 @@ pub fn find(t: Head, name: &[u8]) -> Found
                 continue 'slots;
             }
         }
-        let slot = Slot::Held(k);
-        return Found { record: r, slot };
+        return Found::Held(k, &t.slots[k]);
     }
-    let record = Record::empty();
-    let slot = lowest_free(t);
-    Found { record, slot }
-}
-
-// A question that is refused is answered no.
-fn unbanned(number: u8) -> Banned
-    ensures { result ≡ unbanned_of number }
-{
-    Banned { number, yes: false }
+    match t.slots.iter().position(|r| r.count == 0) {
+        Some(k) => Found::Free(k),
+        None => Found::Full,
+    }
 }
 
 // Whether a text is banned from the channel of a name: whether some mask of its list matches it.
-pub fn is_banned(t: Head, bans: &[u8; BanList::BANS], name: &[u8], text: &[u8]) -> Banned
-    ensures { result ≡ banned_answer (table_with t bans.now) name.now text.now }
+fn is_text_banned(
+    t: &Head,
+    bans: &[u8; BanList::BANS],
+    name: &[u8],
+    text: &[u8],
+) -> Result<bool, Refusal>
+    ensures { banned_as result ≡ banned_answer (table_with t.now bans.now) name.now text.now }
 {
     if !is_well_formed(t, bans) {
-        return unbanned(NOT_WELL_FORMED);
+        return Err(Refusal::NotWellFormed);
     }
     if !is_channel(name) {
-        return unbanned(BAD_NAME);
+        return Err(Refusal::BadName);
     }
-    let found = find(t, name);
-    let slot = found.slot;
-    let Slot::Held(k) = slot else {
-        return unbanned(NO_SUCH_CHANNEL);
+    let Found::Held(k, _) = find(t, name) else {
+        return Err(Refusal::NoSuchChannel);
     };
     if TEXT_LIMIT < text.len() {
-        return unbanned(TEXT_TOO_LONG);
+        return Err(Refusal::TextTooLong);
     }
-    Banned {
-        number: ACCEPTED,
-        yes: some_matches(list_at(bans, k), text),
-    }
+    Ok(some_matches(list_at(bans, k), text))
+}
+
+// The same as C has it.
+pub fn is_banned(t: &Head, bans: &[u8; BanList::BANS], name: &[u8], text: &[u8]) -> Banned
+    ensures { result ≡ banned_answer (table_with t.now bans.now) name.now text.now }
+{
+    is_text_banned(t, bans, name, text).into()
 }

@@ -1,54 +1,64 @@
 // The slots of a table, each judged as the record that it holds, and two by their names.
 ghost use Rattle.std.specs.Prelude.{◌≡◌};
-ghost use Rattle.table.specs.Table.{holds as holds_of, alike as alike_of};
-ghost use Rattle.table.specs.Slots.{free_slot};
+ghost use Rattle.laws.specs.Lists.{all};
+ghost use Rattle.table.specs.Table.{wholes_from, holds as holds_of, alike as alike_of, distinct};
+ghost use Rattle.bans.specs.Records.{good_whole};
 ghost use Rattle.table.specs.Private.Parts.{good_record};
 
-use crate::{Head, Slot};
+use bans::{BanList, is_good};
 use channel::{Record, is_blank, is_well_formed};
 use names::equal;
-use octets::part;
 
 // Whether a used slot holds a well-formed record, and a free one is zero.
-pub(crate) fn good_record(r: Record) -> bool
-    ensures { result ≡ good_record r }
+#[tactic(auto, unfolding(crate::specs::Private::Parts::good_record))]
+fn good_record(r: &Record) -> bool
+    ensures { result ≡ good_record r.now }
 {
     if r.count == 0 {
-        return is_blank(r);
+        is_blank(r)
+    } else {
+        is_well_formed(r)
     }
-    is_well_formed(r)
+}
+
+// Whether used slots hold well-formed records with their lists, and free ones are zero, their lists too.
+pub(crate) fn are_good(slots: &[Record], bans: &[u8; BanList::BANS]) -> bool
+    ensures { result ≡ all good_whole (wholes_from 0 slots.now bans.now) }
+{
+    for (k, r) in slots.iter().enumerate() {
+        if !good_record(r) || !is_good(bans, k, r.count != 0) {
+            return false;
+        }
+    }
+    true
 }
 
 // Whether a used slot holds the name.
-fn holds(r: Record, name: &[u8]) -> bool
-    ensures { result ≡ holds_of name.now r }
+#[tactic(auto, unfolding(crate::specs::Table::holds))]
+fn holds(r: &Record, name: &[u8]) -> bool
+    ensures { result ≡ holds_of name.now r.now }
 {
-    if r.count == 0 {
-        return false;
-    }
-    let room = r.name;
-    equal(part(&room, 0, r.name_len), name)
+    r.count != 0 && equal(r.name(), name)
 }
 
 // Whether two slots are used and hold equal names.
-pub(crate) fn alike(r: Record, s: Record) -> bool
-    ensures { result ≡ alike_of r s }
+#[tactic(auto, unfolding(crate::specs::Table::alike))]
+fn alike(r: &Record, s: &Record) -> bool
+    ensures { result ≡ alike_of r.now s.now }
 {
-    if r.count == 0 {
-        return false;
-    }
-    let room = r.name;
-    holds(s, part(&room, 0, r.name_len))
+    r.count != 0 && holds(s, r.name())
 }
 
-// The lowest free slot.
-pub(crate) fn lowest_free(t: Head) -> Slot
-    ensures { result ≡ free_slot t.slots }
+// Whether no two slots are used and hold equal names: each is looked at with those behind it. A free one is passed over with all of them.
+pub(crate) fn are_distinct(slots: &[Record]) -> bool
+    ensures { result ≡ distinct slots.now }
 {
-    for k in 0..Record::SLOTS {
-        if t.slots[k].count == 0 {
-            return Slot::Free(k);
+    let mut left = slots;
+    while let [r, others @ ..] = left {
+        if r.count != 0 && others.iter().any(|s| alike(r, s)) {
+            return false;
         }
+        left = others;
     }
-    Slot::Full
+    true
 }

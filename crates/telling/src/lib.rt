@@ -6,6 +6,7 @@ mod pieces;
 ghost use Rattle.std.specs.Prelude.{◌≡◌, ◌≤◌, length};
 ghost use Rattle.refusal.specs.Rules.{emitted};
 ghost use Rattle.octets.specs.Room.{front};
+ghost use Rattle.octets.specs.Pages.{added};
 ghost use Rattle.channel.specs.Record.{decode};
 ghost use Rattle.writer.specs.Form.{written};
 ghost use Rattle.writer.specs.Writing.{written_of, written_answer};
@@ -14,7 +15,7 @@ ghost use Rattle.telling.specs.Telling.{described, description_limit, described_
 use channel::Record;
 use message::LINE_LIMIT;
 use octets::pen::Pen;
-use pieces::{put_description, put_entries, put_join};
+use pieces::{put_entries, put_join, put_params};
 use refusal::Refusal;
 use writer::Written;
 
@@ -49,8 +50,15 @@ fn join(source: &[u8], r: Record, out: &mut [u8]) -> Result<usize, Refusal>
     line.copy_to(out).ok_or(Refusal::NoRoom)
 }
 
-// Puts what an SJOIN tells of a record, its parameters with one SPACE between them and no ':', at the front of the output and answers how many bytes they
-// are; 0 where there is no room for all of them. They may be longer than a line; room for DESCRIPTION_LIMIT bytes is enough.
+// Puts what an SJOIN tells of a record, its parameters with one SPACE between them and no ':'. They may be longer than a line, and are DESCRIPTION_LIMIT bytes at most.
+pub fn put_description(text: &mut Pen<'_>, r: Record)
+    ensures told { text.new ≡ added text.old (described (decode r)) }
+    ensures limit { (length (described (decode r)) ≤ description_limit) × (DESCRIPTION_LIMIT ≡ description_limit) }
+{
+    put_params(text, r);
+}
+
+// Puts the same at the front of the output and answers how many bytes they are; 0 where there is no room for all of them.
 pub fn describe(r: Record, out: &mut [u8]) -> usize
     ensures answer { result ≡ length (described_in out.old (decode r)) }
     ensures output { out.new ≡ front (described_in out.old (decode r)) out.old }

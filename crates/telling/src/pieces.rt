@@ -134,7 +134,7 @@ pub(crate) fn put_join(line: &mut Pen<'_>, source: &[u8], r: Record, list: &[u8]
 
 // Puts what is told of a record, one SPACE between parameters.
 #[tactic(auto, using(octets::proofs::Pages::pieces, crate::proofs::Described::described_text))]
-pub(crate) fn put_description(text: &mut Pen<'_>, r: Record)
+pub(crate) fn put_params(text: &mut Pen<'_>, r: Record)
     ensures { text.new ≡ added text.old (described (decode r)) }
 {
     put_lead(text, r);

@@ -66,6 +66,35 @@ fn of_source(source: &str) -> Constants {
     constants
 }
 
+/// The numbers of refusals by the header's names: a variant `NotWellFormed = 1,` of the source's enum is
+/// NOT_WELL_FORMED there. That nothing is refused is a constant, ACCEPTED.
+fn refusals() -> Constants {
+    let source = text("crates/refusal/src/lib.rt");
+    let mut numbers = of_source(&source);
+    for line in source.lines() {
+        let Some((name, number)) = line.trim().trim_end_matches(',').split_once(" = ") else {
+            continue;
+        };
+        let Ok(number) = number.parse() else { continue };
+        if name.chars().all(char::is_alphabetic) {
+            numbers.insert(in_capitals(name), number);
+        }
+    }
+    numbers
+}
+
+/// A name of several words that begin with capitals, as C writes that of a constant.
+fn in_capitals(name: &str) -> String {
+    let mut written = String::new();
+    for letter in name.chars() {
+        if letter.is_uppercase() && !written.is_empty() {
+            written.push('_');
+        }
+        written.push(letter.to_ascii_uppercase());
+    }
+    written
+}
+
 /// A number, a constant that was met before, or a number shifted by one of these.
 fn evaluated(value: &str, known: &Constants) -> Option<u64> {
     match value.split_once(" << ") {
@@ -80,7 +109,8 @@ fn places() -> BTreeMap<char, u64> {
     let constants = of_source(&source);
     let arm = |line: &str| {
         let (letter, place) = line.trim().strip_prefix("b'")?.split_once("' => ")?;
-        let place = evaluated(place.trim_end_matches(','), &constants);
+        let place = place.trim_end_matches(',').trim_start_matches("Some(").trim_end_matches(')');
+        let place = evaluated(place, &constants);
         Some((letter.parse().ok()?, place.unwrap_or_else(|| panic!("no place: {line}"))))
     };
     source.lines().filter_map(arm).collect()
@@ -89,7 +119,7 @@ fn places() -> BTreeMap<char, u64> {
 /// What the header must have, by the source.
 fn expected() -> Constants {
     let library = |name: &str| of_source(&text(&format!("crates/{name}/src/lib.rt")));
-    let mut expected = library("refusal");
+    let mut expected = refusals();
     for (name, source, constant) in LIMITS {
         let constants = library(source);
         let number = constants.get(constant);
@@ -173,19 +203,19 @@ fn version_is_the_files() {
 #[test]
 fn words_are_the_sources() {
     let source = text("crates/wording/src/lib.rt");
-    let arm = |line: &str| {
-        let (name, words) = line.trim().strip_suffix("\"),")?.split_once(" => held(b\"")?;
-        Some((name.to_string(), words.to_string()))
+    let entry = |part: &str| {
+        let (name, rest) = part.split_once(',')?;
+        let (words, _) = rest.trim_start().strip_prefix("b\"")?.split_once('"')?;
+        Some((in_capitals(name), words.to_string()))
     };
-    let arms: BTreeMap<String, String> = source.lines().filter_map(arm).collect();
-    let numbers = of_source(&text("crates/refusal/src/lib.rt"));
+    let entries: BTreeMap<String, String> = source.split("Refusal::").filter_map(entry).collect();
+    let numbers = refusals();
     let without = [0, 10, 17];
-    let texts = numbers.len() - without.len() + 1;
-    assert_eq!(arms.len(), texts, "a text for each other number, and the empty one");
-    assert_eq!(arms["_"], "");
+    assert_eq!(entries.len(), numbers.len() - without.len(), "a text for each other number");
     for number in 0..=u8::MAX {
         let name = numbers.iter().find(|(_, &value)| value == u64::from(number));
-        let name = name.filter(|_| !without.contains(&number)).map_or("_", |(name, _)| name);
-        assert_eq!(relay::refusal_text(number).as_bytes(), arms[name].as_bytes(), "{number}");
+        let name = name.filter(|_| !without.contains(&number));
+        let words = name.map_or("", |(name, _)| &entries[name]);
+        assert_eq!(relay::refusal_text(number).as_bytes(), words.as_bytes(), "{number}");
     }
 }

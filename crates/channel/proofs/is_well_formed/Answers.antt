@@ -12,11 +12,11 @@ use Rattle.channel.proofs.is_well_formed.Goals as goal
 pub returns-then-are_vacant : goal.returns-then-are_vacant
 unfolding all decode
 returns-then-are_vacant c =
-    rw (well-tests c.args.r (search (rules, unmapped)) (search rules) (search rules))
+    rw (well-tests c.args.r.now (search (rules, unmapped)))
     (grind (arith, nat_tests, common_steps))
 
 pub returns-else-are_vacant : goal.returns-else-are_vacant
 unfolding all decode
 returns-else-are_vacant c =
-    rw (well-tests c.args.r (search (rules, unmapped)) (search rules) (search rules))
+    rw (well-tests c.args.r.now (search (rules, unmapped)))
     (grind (arith, nat_tests, common_steps))

@@ -1,17 +1,14 @@
--- `relinked` meets its contract: each return is the first rule that applies, or none. Assumes nothing.
-use mathlib.Core.Path.{sym, ap, ◌∙◌}
+-- `relinked` meets its contract: the rules that the link's test answers by decide. Assumes nothing.
+use mathlib.Core.Path.{sym, ap}
+use Rattle.table.specs.Network.{table_with}
 use Rattle.table.specs.Table.{registered_of}
-use Rattle.table.proofs.Registering.{links-ill-formed, links-no-link, links-changed}
+use Rattle.table.proofs.Registering.{links-refused, links-accepted}
 use Rattle.table.proofs.relinked.Goals as goal
 
-pub returns-then-not-is_well_formed : goal.returns-then-not-is_well_formed
-returns-then-not-is_well_formed c =
-    sym (ap registered_of (links-ill-formed _ _ _ (sym c.is_well_formed.ensures ∙ c.if-not-is_well_formed.true)))
+pub returns-in-Ok : goal.returns-in-Ok
+returns-in-Ok c =
+    let a = c.args in sym (ap registered_of (links-accepted (table_with a.t a.bans.now) a.link a.links c.in-Ok.ensures))
 
-pub returns-then-link-ge-COUNT : goal.returns-then-link-ge-COUNT
-returns-then-link-ge-COUNT c =
-    sym (ap registered_of (links-no-link _ _ _ (sym c.is_well_formed.ensures ∙ c.if-not-is_well_formed.false) c.if-link-ge-COUNT.true))
-
-pub returns : goal.returns
-returns c =
-    sym (ap registered_of (links-changed _ _ _ (sym c.is_well_formed.ensures ∙ c.if-not-is_well_formed.false) c.if-link-ge-COUNT.false))
+pub returns-in-Err : goal.returns-in-Err
+returns-in-Err c =
+    let a = c.args in rw c.number.ensures (sym (ap registered_of (links-refused (table_with a.t a.bans.now) a.link a.links c.in-Err.refusal c.in-Err.ensures)))

@@ -1,5 +1,8 @@
 -- The parts of a slot's test, and a refused question.
-use Rattle.std.specs.Prelude.{ℕ, suc, Bool, true, false, not, cond, ◌&&◌, List, [], ◌∷◌}
+use Rattle.std.specs.Prelude.{ℕ, suc, Bool, true, false, not, cond, ◌&&◌, List, [], ◌∷◌, Result, Ok, Err}
+use Rattle.refusal.specs.Numbers.{accepted}
+use Rattle.refusal.specs.Refusals.{number_of}
+use Rattle.refusal.specs.declared.Refusal.{Refusal}
 use Rattle.channel.specs.declared.Record.{Record}
 use Rattle.channel.specs.WellFormed.{is_blank, well_formed}
 use Rattle.bans.specs.WellFormed.{good_list}
@@ -19,3 +22,8 @@ good_lists k (r ∷ rs) bans = good_list (not (is_free r)) (list_at bans k) && g
 -- a question that is refused is answered no
 abbrev pub unbanned : ℕ → Banned
 unbanned number = record { number = number; yes = false }
+
+-- an answer to a question as C has it
+abbrev pub banned_as : Result Bool Refusal → Banned
+banned_as (Ok answer) = record { number = accepted; yes = answer }
+banned_as (Err e) = unbanned (number_of e)

@@ -18,4 +18,4 @@ filled r links = record { slots = replicate slot_count r; links = links }
 pub returns : goal.returns
 unfolding empty_table empty_lists filled
 returns c =
-    let size : length c.args.bans.now ≡ bans_size = c.clear_all-arg-1.given.0.1 in record { answer = ap₂ filled c.empty-none.ensures.value c.none.ensures.value; lists = c.clear_all.ensures ∙ ap (λ (n : ℕ). replicate n 0) size }
+    let size : length c.args.bans.now ≡ bans_size = c.clear_all-arg-1.given.0.1 in record { answer = ap₂ filled c.empty.ensures.value c.none.ensures.value; lists = c.clear_all.ensures ∙ ap (λ (n : ℕ). replicate n 0) size }

@@ -1,4 +1,4 @@
--- `in_order` meets its contract. The invariant: the members so far are in order, and whatever is above `last` is above them all. Assumes nothing.
+-- `ordered` meets its contract. The invariant: the members so far are in order, and whatever is above `last` is above them all. Assumes nothing.
 use mathlib.Core.Path.{sym, ap, ◌∙◌}
 use mathlib.Core.List.{List, []}
 use native.Mathlib.Omega.{arith}
@@ -6,8 +6,8 @@ use lib.Seq.{take_all}
 use Rattle.channel.specs.declared.Member.{Member}
 use Rattle.channel.specs.Members.{roster, ordered}
 use Rattle.channel.proofs.Ordering.{inserted-none, inserted-sorted, inserted-last, inserted-put}
-use Rattle.channel.proofs.members.in_order.Goals as goal
-use Rattle.channel.proofs.members.in_order.Goals.{then-is_below, else-is_below}
+use Rattle.channel.proofs.members.ordered.Goals as goal
+use Rattle.channel.proofs.members.ordered.Goals.{then-is_below, else-is_below}
 
 -- what the code reads past the list's end
 abbrev none : Member
