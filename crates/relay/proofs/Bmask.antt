@@ -23,12 +23,9 @@ use Rattle.bans.specs.Putting.{Added, add_answer}
 use Rattle.bans.specs.Slots.{list_at, list_of, list_with}
 use Rattle.bans.proofs.Slots.{used-list, load-whole}
 use Rattle.bans.proofs.Uniting.{add-full, add-keeps, add-list}
-use Rattle.table.specs.declared.Found.{Found}
-use Rattle.table.specs.declared.Slot.{Slot}
-use Rattle.table.specs.declared.Slot.TheVariants.{Held, Free, Full}
 use Rattle.table.specs.Network.{Network, list_in, with_list}
 use Rattle.table.specs.Table.{is_free, good_network}
-use Rattle.table.specs.Slots.{slot_in, held_in, is_held}
+use Rattle.table.specs.Slots.{Found, Slot, Held, Free, Full, slot_in, held_in, is_held}
 use Rattle.table.proofs.Searching.{slot_held}
 use Rattle.table.proofs.WellFormed.{holding-used, list-good, list-whole, list-change}
 use Rattle.sjoin.specs.Join.{time_in, name_in}

@@ -26,10 +26,9 @@ use Rattle.channel.proofs.Proper.{Proper}
 use Rattle.bans.specs.Slots.{list_at, empty_list}
 use Rattle.bans.proofs.Slots.{stored_same, empty-whole}
 use Rattle.merging.specs.Merging.{merge}
-use Rattle.table.specs.declared.Slot.TheVariants.{Held, Free}
 use Rattle.table.specs.Network.{Table, Network, network_of, with_slots, emptied_if}
 use Rattle.table.specs.Table.{good_table}
-use Rattle.table.specs.Slots.{slot_in}
+use Rattle.table.specs.Slots.{Held, Free, slot_in}
 use Rattle.sjoin.specs.Join.{mode_rules, join_rules, channel_in}
 use Rattle.sjoin.proofs.Wellformed.{read-proper}
 use Rattle.telling.specs.Telling.{sjoin}

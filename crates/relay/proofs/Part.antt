@@ -18,12 +18,9 @@ use Rattle.channel.specs.Limits.{slot_count}
 use Rattle.channel.specs.Members.{has_member, without}
 use Rattle.channel.specs.Record.{decode, empty_record}
 use Rattle.bans.specs.Slots.{list_at}
-use Rattle.table.specs.declared.Found.{Found}
-use Rattle.table.specs.declared.Slot.{Slot}
-use Rattle.table.specs.declared.Slot.TheVariants.{Held, Free, Full}
 use Rattle.table.specs.Network.{Network, with_slots, with_bans, emptied_if}
 use Rattle.table.specs.Table.{good_network}
-use Rattle.table.specs.Slots.{slot_in, held_in, is_held, place_of}
+use Rattle.table.specs.Slots.{Found, Slot, Held, Free, Full, slot_in, held_in, is_held, place_of}
 use Rattle.table.proofs.Searching.{slot_held}
 use Rattle.table.proofs.WellFormed.{slots-few, slots-good, slots-distinct, list-good, slot-change}
 use Rattle.table.proofs.Changing.{good-at, without-good, without-keeps, kept_set, distinct-kept}

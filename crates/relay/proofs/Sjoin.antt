@@ -21,12 +21,9 @@ use Rattle.channel.specs.Standing.{counts, settings_at, standing, bare}
 use Rattle.channel.proofs.Proper.{Proper, proper-fits}
 use Rattle.channel.proofs.Records.{decode-encode}
 use Rattle.merging.specs.Merging.{Combined, combined}
-use Rattle.table.specs.declared.Found.{Found}
-use Rattle.table.specs.declared.Slot.{Slot}
-use Rattle.table.specs.declared.Slot.TheVariants.{Held, Free, Full}
 use Rattle.table.specs.Network.{Network}
 use Rattle.table.specs.Table.{good_network}
-use Rattle.table.specs.Slots.{slot_in, held_in, found_for, place_of, slot_rules}
+use Rattle.table.specs.Slots.{Found, Slot, Held, Free, Full, slot_in, held_in, found_for, place_of, slot_rules}
 use Rattle.table.proofs.WellFormed.{slots-few}
 use Rattle.sjoin.specs.Join.{mode_rules, join_rules, channel_in}
 use Rattle.telling.specs.Telling.{join_message}

@@ -48,7 +48,7 @@ fn drop_user(
             slots[k] = Record::empty();
             continue;
         }
-        let left = without(slots[k], user);
+        let left = without(&slots[k], user);
         slots[k] = left;
         empty_if(bans, k, left.count == 0);
     }

@@ -2,6 +2,7 @@
 ghost use Rattle.std.specs.Prelude.{◌≡◌, ◌≤◌, length};
 ghost use Rattle.channel.specs.Standing.{bare as bare_of};
 ghost use Rattle.message.specs.Grammar.{line_limit};
+ghost use Rattle.table.specs.Slots.{as_found};
 ghost use Rattle.relay.specs.Commands.{Sjoin};
 ghost use Rattle.relay.specs.Private.Work.{by_number, by_place};
 ghost use Rattle.relay.specs.Private.Commands.{asked_by};
@@ -13,7 +14,7 @@ use crate::stubs::read_join as read_message;
 use merging::combine;
 use message::Message;
 use refusal::{Fault, Refusal};
-use table::{Found, Slot};
+use table::Found;
 
 // SJOIN: the name, and the record that the line tells of.
 pub(crate) fn join_request(line: &[u8], m: Message) -> Result<Request, Fault>
@@ -82,12 +83,12 @@ fn merged(slot: usize, held: &Record, incoming: &Record) -> Result<Change, Refus
 }
 
 // An incoming record is to be merged into the one that has its name, or opens the lowest free slot.
-pub(crate) fn joins(found: &Found, incoming: &Record) -> Result<Change, Refusal>
-    ensures { by_number result ≡ joins_found found.now.slot found.now.«record» incoming.now }
+pub(crate) fn joins(found: Found, incoming: &Record) -> Result<Change, Refusal>
+    ensures { by_number result ≡ joins_found (as_found found.entry).slot (as_found found.entry).«record» incoming.now }
 {
-    match found.slot {
-        Slot::Held(k) => merged(k, &found.record, incoming),
-        Slot::Free(k) => Ok(set(k, *incoming, false, incoming)),
-        Slot::Full => Err(Refusal::NoFreeSlot),
+    match found {
+        Found::Held(k, held) => merged(k, held, incoming),
+        Found::Free(k) => Ok(set(k, *incoming, false, incoming)),
+        Found::Full => Err(Refusal::NoFreeSlot),
     }
 }

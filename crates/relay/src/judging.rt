@@ -5,6 +5,7 @@ ghost use Rattle.refusal.specs.Rules.{first_of};
 ghost use Rattle.refusal.specs.Refusals.{answered};
 ghost use Rattle.message.specs.Parts.{content_by};
 ghost use Rattle.table.specs.Network.{network_of, table_with};
+ghost use Rattle.table.specs.Slots.{as_found};
 ghost use Rattle.relay.specs.Relay.{entry_rules};
 ghost use Rattle.relay.specs.Private.Work.{by_number};
 ghost use Rattle.relay.specs.Private.Commands.{looked_up, settled_in};
@@ -40,10 +41,10 @@ pub(crate) fn entry(good: bool, n: usize, links: Links, link: u32) -> Result<(),
 }
 
 // The slot that a channel's name uses, which is a part of the line.
-fn slot_of(t: &Head, line: &[u8], name: Span) -> Found
-    ensures { result ≡ looked_up t.now.slots line.now name }
+fn slot_of<'a>(t: &'a Head, line: &[u8], name: Span) -> Found<'a>
+    ensures { as_found result ≡ looked_up t.now.slots line.now name }
 {
-    find(*t, part(line, name.start, name.end))
+    find(t, part(line, name.start, name.end))
 }
 
 // What a request comes to in the slot that its channel's name uses, with the line's own parts and the ban lists: one of the refusals 19 to 22 and 27, or a change.
@@ -57,14 +58,14 @@ pub(crate) fn settled(
     ensures { by_number result ≡ settled_in (network_of (table_with t.now bans.now)) line.now request.now (content_by line.now m) }
 {
     match request {
-        Request::Sjoin { name, incoming } => joins(&slot_of(t, line, *name), incoming),
-        Request::Part { name, user } => parts(&slot_of(t, line, *name), *user),
+        Request::Sjoin { name, incoming } => joins(slot_of(t, line, *name), incoming),
+        Request::Part { name, user } => parts(slot_of(t, line, *name), *user),
         Request::Quit { user } => Ok(Change {
             deed: Deed::Drop { user: *user },
             sending: Sending::AsRead,
         }),
         Request::Bmask { name, time } => {
-            masks(&slot_of(t, line, *name), *time, param_in(line, m, MASKS_AT), bans)
+            masks(slot_of(t, line, *name), *time, param_in(line, m, MASKS_AT), bans)
         }
     }
 }

@@ -106,7 +106,7 @@ pub fn take(
     ensures lists { bans.new ≡ (process_answer (table_with t.old bans.old) (arrival link line.now) (length out.old)).table.bans }
     ensures output { out.new ≡ front (sent (table_with t.old bans.old) (arrival link line.now) (length out.old)) out.old }
 {
-    let good = is_well_formed(*t, bans);
+    let good = is_well_formed(t, bans);
     entry(good, out.len(), t.links, link)?;
     let m = parse(line)?;
     let request = requested(line, m)?;

@@ -1,6 +1,7 @@
 // BMASK: what its line asks for, and what that comes to in the slot that its channel uses. Nothing is written.
 ghost use Rattle.std.specs.Prelude.{◌≡◌};
 ghost use Rattle.message.specs.Parts.{content_by};
+ghost use Rattle.table.specs.Slots.{as_found};
 ghost use Rattle.relay.specs.Private.Work.{by_number, ruled};
 ghost use Rattle.relay.specs.Private.Bmask.{masks_found, work};
 
@@ -10,7 +11,7 @@ use crate::stubs::read_masks as read_message;
 use bmask::add_listed;
 use message::Message;
 use refusal::Refusal;
-use table::{Found, Slot};
+use table::Found;
 
 // The place of the masks among the parameters.
 pub(crate) const MASKS_AT: usize = 3;
@@ -27,17 +28,17 @@ pub(crate) fn mask_request(line: &[u8], m: Message) -> Result<Request, Refusal>
 // The masks of a list are to be added to those of the channel that has the name, if there is one and there is room; where they are later than it, nothing is.
 #[tactic(auto, unfolding(crate::specs::Private::Bmask::masks_held))]
 pub(crate) fn masks(
-    found: &Found,
+    found: Found,
     time: u32,
     list: &[u8],
     bans: &[u8; BanList::BANS],
 ) -> Result<Change, Refusal>
-    ensures { by_number result ≡ masks_found found.now.slot found.now.«record» time list.now bans.now }
+    ensures { by_number result ≡ masks_found (as_found found.entry).slot (as_found found.entry).«record» time list.now bans.now }
 {
-    let Slot::Held(slot) = found.slot else {
+    let Found::Held(slot, held) = found else {
         return Err(Refusal::NoSuchChannel);
     };
-    if found.record.time < time {
+    if held.time < time {
         return Ok(Change {
             deed: Deed::Nothing,
             sending: Sending::Silent,

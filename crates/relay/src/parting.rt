@@ -1,6 +1,7 @@
 // PART: what its line asks for, and what that comes to in the slot that its channel uses. Nothing is written.
 ghost use Rattle.std.specs.Prelude.{◌≡◌};
 ghost use Rattle.message.specs.Parts.{content_by};
+ghost use Rattle.table.specs.Slots.{as_found};
 ghost use Rattle.relay.specs.Private.Work.{by_number, ruled};
 ghost use Rattle.relay.specs.Private.Part.{parts_held, parts_found, work};
 
@@ -12,7 +13,7 @@ use message::Message;
 use message::spans::param_in;
 use names::{USER_ID, is_channel};
 use refusal::Refusal;
-use table::{Found, Slot};
+use table::Found;
 
 // PART: the channel's name, and the user who leaves it.
 pub(crate) fn part_request(line: &[u8], m: Message) -> Result<Request, Refusal>
@@ -34,10 +35,10 @@ pub(crate) fn part_request(line: &[u8], m: Message) -> Result<Request, Refusal>
 fn left(slot: usize, held: &Record, user: [u8; USER_ID]) -> Result<Change, Refusal>
     ensures { by_number result ≡ parts_held slot held.now user }
 {
-    if !has_member(*held, user) {
+    if !has_member(held, user) {
         return Err(Refusal::NotOnChannel);
     }
-    let record = without(*held, user);
+    let record = without(held, user);
     Ok(Change {
         deed: Deed::Set {
             slot,
@@ -49,11 +50,11 @@ fn left(slot: usize, held: &Record, user: [u8; USER_ID]) -> Result<Change, Refus
 }
 
 // The user is to leave the channel that has the name, if there is one.
-pub(crate) fn parts(found: &Found, user: [u8; USER_ID]) -> Result<Change, Refusal>
-    ensures { by_number result ≡ parts_found found.now.slot found.now.«record» user }
+pub(crate) fn parts(found: Found, user: [u8; USER_ID]) -> Result<Change, Refusal>
+    ensures { by_number result ≡ parts_found (as_found found.entry).slot (as_found found.entry).«record» user }
 {
-    match found.slot {
-        Slot::Held(k) => left(k, &found.record, user),
-        Slot::Free(_) | Slot::Full => Err(Refusal::NoSuchChannel),
+    match found {
+        Found::Held(k, held) => left(k, held, user),
+        Found::Free(_) | Found::Full => Err(Refusal::NoSuchChannel),
     }
 }

@@ -92,7 +92,7 @@ module _ (last : Bool) (r : RecordRead) where
 module _ (t : Table) (at : ℕ) where
   pub stops : (log : List ℕ) (last : Bool) (number place : ℕ) → missing_for number place ≡ read_on last (read_answer log at)
       → replay_from last t at (drop at log) ≡ record { table = t; used = at; number = number; place = place }
-  unfolding read_answer
+  unfolding read_answer read_on
   stops log last number place e = go (found (drop at log)) refl
     where
       told : Replay → Type 0
@@ -102,7 +102,6 @@ module _ (t : Table) (at : ℕ) where
       by-number x ne is = e ∙ ap (read_on last) is ∙ read_same last x ne
 
       fault : (f : Fault) → missing_for number place ≡ read_on last (missing_for f.number f.place) → told (ended t at (fault_if last (some f)))
-      unfolding read_on
       fault f q = cases last refl (eqb f.number log_cut) refl
         where
           same : missing_for number place ≡ missing_for f.number f.place → told (ended t at (some f))

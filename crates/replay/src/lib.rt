@@ -26,6 +26,7 @@ pub struct Replayed {
 }
 
 // The table that a replay begins with: every slot free, and all links registered. Every byte of the lists is made zero.
+#[tactic(auto, unfolding(crate::specs::Replay::ready_table, table::specs::Table::empty_table))]
 pub fn start(bans: &mut [u8; BanList::BANS]) -> Head
     ensures answer { result ≡ head_of ready_table }
     ensures lists { bans.new ≡ ready_table.bans }
@@ -39,6 +40,7 @@ pub fn start(bans: &mut [u8; BanList::BANS]) -> Head
 }
 
 // The record that stands at a place, if one does. That one is cut there is no fault where the log goes on.
+#[tactic(auto, using(crate::proofs::Cuts::cuts), unfolding(crate::specs::Private::Stopping::read_on))]
 fn next(log: &[u8], at: usize, last: bool) -> Result<Option<LoggedLine>, Fault>
     ensures { read_by result ≡ read_on last (read_answer log.now at) }
 {

@@ -7,8 +7,7 @@ use Rattle.bans.specs.Putting.{Added, add_answer}
 use Rattle.bans.specs.Slots.{list_at, list_of}
 use Rattle.sjoin.specs.Join.{time_in}
 use Rattle.bmask.specs.Masks.{listed, bmask_rules}
-use Rattle.table.specs.declared.Slot.{Slot}
-use Rattle.table.specs.declared.Slot.TheVariants.{Held, Free, Full}
+use Rattle.table.specs.Slots.{Slot, Held, Free, Full}
 use Rattle.relay.specs.declared.Change.{Change}
 use Rattle.relay.specs.declared.Deed.TheVariants.{Nothing, Add}
 use Rattle.relay.specs.declared.Request.TheVariants.{Bmask}

@@ -9,9 +9,8 @@ use Rattle.message.specs.Content.{Content}
 use Rattle.message.specs.Parts.{bytes_at, content_by}
 use Rattle.channel.specs.declared.Record.{Record}
 use Rattle.bmask.specs.Masks.{mask_list_in}
-use Rattle.table.specs.declared.Found.{Found}
 use Rattle.table.specs.Network.{Network}
-use Rattle.table.specs.Slots.{found_for}
+use Rattle.table.specs.Slots.{Found, found_for}
 use Rattle.sjoin.specs.Join.{span_place}
 use Rattle.relay.specs.declared.Change.{Change}
 use Rattle.relay.specs.declared.Request.{Request}

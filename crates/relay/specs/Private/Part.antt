@@ -4,8 +4,7 @@ use Rattle.refusal.specs.Numbers.{no_such_channel, not_on_channel}
 use Rattle.channel.specs.declared.Record.{Record}
 use Rattle.channel.specs.Record.{decode}
 use Rattle.channel.specs.Members.{has_member, without}
-use Rattle.table.specs.declared.Slot.{Slot}
-use Rattle.table.specs.declared.Slot.TheVariants.{Held, Free, Full}
+use Rattle.table.specs.Slots.{Slot, Held, Free, Full}
 use Rattle.message.specs.Content.{source_in}
 use Rattle.relay.specs.declared.Change.{Change}
 use Rattle.relay.specs.declared.Deed.TheVariants.{Set}

@@ -6,8 +6,7 @@ use Rattle.channel.specs.Limits.{key_limit}
 use Rattle.channel.specs.Record.{encode}
 use Rattle.channel.specs.Standing.{bare}
 use Rattle.merging.specs.Merging.{Combined, combined}
-use Rattle.table.specs.declared.Slot.{Slot}
-use Rattle.table.specs.declared.Slot.TheVariants.{Held, Free, Full}
+use Rattle.table.specs.Slots.{Slot, Held, Free, Full}
 use Rattle.sjoin.specs.Join.{join_rules, channel_in}
 use Rattle.relay.specs.declared.Change.{Change}
 use Rattle.relay.specs.declared.Deed.TheVariants.{Set}
