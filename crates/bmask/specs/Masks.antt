@@ -1,6 +1,8 @@
 -- What a BMASK line says (document 02, §2): `:sid BMASK time name b list`. The numbers 12 to 16 and 26, and the masks of the list.
-use Rattle.std.specs.Prelude.{ℕ, Bool, not, cond, ◌&&◌, List, [], ◌∷◌, ◌++◌, length, get_or, eqb}
+use Rattle.std.specs.Prelude.{ℕ, Bool, not, cond, ◌&&◌, List, [], ◌∷◌, ◌++◌, length, get_or, eqb, Result, Ok, Err}
 use Rattle.refusal.specs.Numbers.{accepted, wrong_param_count, bad_source, bad_masks}
+use Rattle.refusal.specs.declared.Refusal.{Refusal}
+use Rattle.refusal.specs.Refusals.{number_of}
 use Rattle.refusal.specs.Rules.{Rule, ◌when◌, first_of}
 use Rattle.laws.specs.Lists.{all, is_nil, same}
 use Rattle.octets.specs.Decimals.{value_of}
@@ -11,7 +13,6 @@ use Rattle.message.specs.Content.{Content, prefix_is}
 use Rattle.message.specs.Parts.{content_by}
 use Rattle.message.specs.Words.{words_of}
 use Rattle.sjoin.specs.Join.{time_in, head_rules}
-use Rattle.bmask.specs.declared.Listing.{Listing}
 
 -- ---- the parameters: time and name stand where SJOIN's do, then the type and the list
 abbrev pub param_count : ℕ
@@ -55,6 +56,16 @@ unfoldable pub bmask_rules : Content → List Rule
 bmask_rules c = source_rules c ++ telling_rules c
 
 -- ---- the answer
+-- The number of a refusal, or `accepted`, and the line's time, 0 with a refusal.
+pub record Listing : Type 0 where
+  pub number : ℕ
+  pub time : ℕ
+
+-- what an answer tells
+abbrev pub as_listing : Result ℕ Refusal → Listing
+as_listing (Ok time) = record { number = accepted; time = time }
+as_listing (Err e) = record { number = number_of e; time = 0 }
+
 -- a number, and the time, or 0
 abbrev pub listing : ℕ → Content → Listing
 listing k c = record { number = k; time = cond (eqb k accepted) (value_of (time_in c)) 0 }

@@ -3,19 +3,16 @@
 #![tactic(auto)]
 
 ghost use Rattle.std.specs.Prelude.{◌≡◌};
-ghost use Rattle.refusal.specs.Rules.{first_of};
 ghost use Rattle.laws.specs.Lists.{same};
 ghost use Rattle.bans.specs.Putting.{added, add_answer};
-ghost use Rattle.message.specs.Parts.{content_by};
-ghost use Rattle.bmask.specs.Masks.{ban_type, listed, good_masks, bmask_rules, listing_in};
+ghost use Rattle.bmask.specs.Masks.{ban_type, listed, good_masks, listing_in, as_listing};
 
 use bans::{BanList, is_mask, put};
 use message::spans::{param_in, prefix_in};
-use message::{Message, next_word};
+use message::{Message, words};
 use names::is_server_id;
-use octets::part;
-use refusal::{ACCEPTED, BAD_MASKS, BAD_SOURCE, WRONG_PARAM_COUNT};
-use sjoin::{head_number, time_of};
+use refusal::Refusal;
+use sjoin::read_head;
 
 // The parameters of a line.
 const PARAMS: usize = 4;
@@ -25,13 +22,6 @@ const TYPE_AT: usize = 2;
 
 // The place of the list among the parameters.
 const LIST_AT: usize = 3;
-
-// The number of a refusal, or ACCEPTED, and the line's time, 0 with a refusal.
-#[derive(Clone, Copy)]
-pub struct Listing {
-    pub number: u8,
-    pub time: u32,
-}
 
 // Whether the type is the one that there is: `b`.
 fn is_ban(kind: &[u8]) -> bool
@@ -44,52 +34,25 @@ fn is_ban(kind: &[u8]) -> bool
 fn masks_good(list: &[u8]) -> bool
     ensures { result ≡ good_masks list.now }
 {
-    let mut word = next_word(list, 0);
-    if word.start == list.len() {
-        return false;
-    }
-    while word.start != list.len() {
-        if !is_mask(part(list, word.start, word.end)) {
-            return false;
-        }
-        word = next_word(list, word.end);
-    }
-    true
+    words(list).next().is_some() && words(list).all(|word| is_mask(word))
 }
 
-// The first of the numbers 12 to 16 and 26 that applies, or ACCEPTED.
-fn number_of(text: &[u8], m: Message) -> u8
-    ensures { result ≡ first_of (bmask_rules (content_by text.now m)) }
+// What a message says whose parts are spans of the text: its time, or the first of the numbers 12 to 16 and 26 that applies.
+#[tactic(auto, using(crate::proofs::Rules::judging), unfolding(crate::specs::Masks::listing_in, crate::specs::Masks::bmask_rules, refusal::specs::Rules::first_of))]
+pub fn read_message(text: &[u8], m: Message) -> Result<u32, Refusal>
+    ensures { as_listing result ≡ listing_in text.now m }
 {
     if m.count != PARAMS {
-        return WRONG_PARAM_COUNT;
+        return Err(Refusal::WrongParamCount);
     }
     if !is_server_id(prefix_in(text, m)) {
-        return BAD_SOURCE;
+        return Err(Refusal::BadSource);
     }
-    let head = head_number(text, m);
-    if head != ACCEPTED {
-        return head;
+    let time = read_head(text, m)?;
+    if !is_ban(param_in(text, m, TYPE_AT)) || !masks_good(param_in(text, m, LIST_AT)) {
+        return Err(Refusal::BadMasks);
     }
-    if !is_ban(param_in(text, m, TYPE_AT)) {
-        return BAD_MASKS;
-    }
-    if !masks_good(param_in(text, m, LIST_AT)) {
-        return BAD_MASKS;
-    }
-    ACCEPTED
-}
-
-// What a message says whose parts are spans of the text: the first of the numbers 12 to 16 and 26 that applies, or its time.
-pub fn read_message(text: &[u8], m: Message) -> Listing
-    ensures { result ≡ listing_in text.now m }
-{
-    let number = number_of(text, m);
-    if number != ACCEPTED {
-        return Listing { number, time: 0 };
-    }
-    let time = time_of(text, m);
-    Listing { number, time }
+    Ok(time)
 }
 
 // A channel's list with the masks of a line's list, one after the other. None where over 32 would result.
@@ -97,10 +60,8 @@ pub fn add_listed(list: BanList, text: &[u8]) -> Option<BanList>
     ensures { added list result ≡ add_answer (listed text.now) list }
 {
     let mut sofar = list;
-    let mut word = next_word(text, 0);
-    while word.start != text.len() {
-        sofar = put(sofar, part(text, word.start, word.end))?;
-        word = next_word(text, word.end);
+    for word in words(text) {
+        sofar = put(sofar, word)?;
     }
     Some(sofar)
 }

@@ -1,18 +1,17 @@
 -- Laws of the input split into lines: the first line's length, and the line under way with more of its bytes. Assumes nothing.
-use Prim.Native.Nat.{ℕ, suc, ◌+◌, ◌-◌, ◌≤◌, ◌<◌, min}
+use Prim.Native.Nat.{ℕ, zero, suc, ◌+◌, ◌-◌, ◌≤◌, min}
 use mathlib.Core.Path.{◌≡◌, refl, sym, ap, ◌∙◌}
-use mathlib.Core.Bool.{Bool, true, false, cond}
+use mathlib.Core.Bool.{Bool, true, false, cond, true≢false}
 use mathlib.Core.List.{List, [], ◌∷◌, ◌++◌}
 use native.Mathlib.Omega.{arith}
-use lib.ListN.{length, take, drop, length-append, length-drop, length-take}
-use lib.Seq.{take_at, take-append-add}
+use lib.ListN.{length, take}
+use lib.Seq.{take-append-add, take-append_seam, take-nil}
 use lib.Dec.{eqb}
+use Rattle.std.specs.List.{IsFirstMatchOrLen}
 use Rattle.laws.proofs.Lists.{take_within}
 use Rattle.octets.specs.Bytes.{lf}
 use Rattle.octets.specs.Search.{before}
-use Rattle.octets.specs.Room.{part, put_at}
-use Rattle.octets.proofs.Room.{part-front, put-fits}
-use Rattle.console.specs.Lines.{input_limit, kept, first_line, ends_in_lf}
+use Rattle.console.specs.Lines.{input_limit, kept, first_line}
 
 -- ---- the first line
 -- the bytes before the first LF, and that one, if there is one
@@ -25,44 +24,31 @@ length-first (b ∷ s) = go (eqb b lf) (length-first s)
     go true ih = omega arith
     go false ih = omega arith
 
--- at a place
-module _ (s : List ℕ) (i : ℕ) where
-  -- it has a byte, where there is one
-  pub first_some : i < length s → 0 < length (first_line (drop i s))
-  first_some h = omega (arith, length-first (drop i s), length-drop i s)
+-- up to and with the first LF, or else to the end
+first-is : (s : List ℕ) (i : ℕ) → IsFirstMatchOrLen (λ b. eqb b lf) s i → take (i + 1) s ≡ first_line s
+unfolding first_line
+first-is [] i h = take-nil (i + 1)
+first-is (b ∷ s) i h = go (eqb b lf) refl i h (first-is s)
+  where
+    go : (t : Bool) → eqb b lf ≡ t → (i : ℕ) → IsFirstMatchOrLen (λ b. eqb b lf) (b ∷ s) i
+        → ((j : ℕ) → IsFirstMatchOrLen (λ b. eqb b lf) s j → take (j + 1) s ≡ first_line s)
+        → take (i + 1) (b ∷ s) ≡ cond t (b ∷ []) (b ∷ first_line s)
+    go true e zero h ih = refl
+    go true e (suc j) h ih = absurd (true≢false (sym e ∙ h.0 0 0 (omega arith) (omega arith)))
+    go false e zero h ih = absurd (true≢false (sym (h.1 (omega arith) 0) ∙ e))
+    go false e (suc j) h ih =
+        let one : suc j + 1 ≡ suc (j + 1) = omega arith in
+        rw one (ap (λ (l : List ℕ). b ∷ l) (ih j (λ k d l m. h.0 (suc k) d (omega arith) (omega arith), λ m d. h.1 (omega arith) d)))
 
-  -- and none past the end
-  pub first-in : i ≤ length s → i + length (first_line (drop i s)) ≤ length s
-  first-in h = omega (arith, length-first (drop i s), length-drop i s)
-
--- nothing ends no line
-pub ends-nothing : (s : List ℕ) → length s ≡ 0 → false ≡ ends_in_lf s
-ends-nothing [] h = refl
-ends-nothing (b ∷ s) h = absurd (omega arith)
+-- So it is what the library's `split_inclusive` cuts off first: the front of what is left, as long as the clause of its `next` says.
+pub split-first : (s x rest : List ℕ) (i : ℕ) → s ≡ x ++ rest → length x ≡ min (i + 1) (length s) → IsFirstMatchOrLen (λ b. eqb b lf) s i → x ≡ first_line s
+split-first s x rest i cut counts h = sym (ap (take (length x)) cut ∙ take-append_seam x rest) ∙ take_within s (i + 1) (length x) counts ∙ first-is s i h
 
 -- ---- the line under way
 take_past : (l more : List ℕ) (n : ℕ) → length l ≤ n → take n (l ++ more) ≡ l ++ take (n - length l) more
 take_past l more n h = let e : n ≡ length l + (n - length l) = omega arith in ap (λ (j : ℕ). take j (l ++ more)) e ∙ take-append-add l more (n - length l)
 
-module _ (bytes more : List ℕ) (len start n : ℕ) (room : length bytes ≡ input_limit) (starts : start ≡ min len input_limit) (counts : n ≡ min (length more) (input_limit - start)) where
-  abbrev old : List ℕ
-  old = take start bytes
-
-  old-length : length old ≡ start
-  old-length = omega (arith, length-take start bytes)
-
-  old-is : take len bytes ≡ old
-  old-is = sym (take_within bytes len start (omega arith))
-
-  new_is : take n more ≡ take (input_limit - start) more
-  new_is = take_within more (input_limit - start) n (omega arith)
-
-  pub extended-holds : take (start + n) (put_at bytes start (part more 0 n)) ≡ kept (take len bytes ++ more)
-  extended-holds =
-      let new : List ℕ = take n more in
-      let k : length new ≡ n = omega (arith, length-take n more) in
-      let added = ap (put_at bytes start) (part-front more n) ∙ put-fits bytes start new (omega (arith, k)) in
-      let left : input_limit - length old ≡ input_limit - start = omega (arith, old-length) in
-      ap (take (start + n)) added
-      ∙ take_at (old ++ new) (drop (start + length new) bytes) (start + n) (omega (arith, length-append old new, old-length, k))
-      ∙ sym (ap (λ (l : List ℕ). take input_limit (l ++ more)) old-is ∙ take_past old more input_limit (omega (arith, old-length)) ∙ ap (λ (j : ℕ). old ++ take j more) left ∙ ap (◌++◌ old) (sym new_is))
+-- what is kept of it, with as many bytes behind as have room
+pub extended-holds : (held more : List ℕ) → length held ≤ input_limit → (n : ℕ) → n ≡ min (input_limit - length held) (length more) → held ++ take n more ≡ kept (held ++ more)
+extended-holds held more few n counts =
+    ap (◌++◌ held) (take_within more (input_limit - length held) n counts) ∙ sym (take_past held more input_limit few)

@@ -2,9 +2,9 @@
 use Prim.Native.Nat.{ℕ, ◌-◌, ◌≤◌}
 use mathlib.Core.Path.{◌≡◌, refl, sym, ap, ◌∙◌}
 use mathlib.Core.Bool.{Bool, true, false, cond, true≢false}
-use mathlib.Core.List.{List, [], ◌∷◌, ◌++◌}
+use mathlib.Core.List.{List}
 use native.Mathlib.Omega.{arith}
-use lib.ListN.{length, take, get_or, length-append, length-take}
+use lib.ListN.{length, take, get_or, length-take}
 use lib.Dec.{eqb}
 use borrow.Author.Tests.{ne_eqb}
 use Rattle.std.specs.declared.cmp.Ordering.{Ordering}
@@ -14,51 +14,24 @@ use Rattle.std.specs.Cmp.Lexicographic.{pointwise}
 use Rattle.std.proofs.lemmas.Bool.Decides.{Decides-eqb}
 use Rattle.std.proofs.lemmas.Slice.Eq.{slice_eq-Decides}
 use Rattle.octets.proofs.Ordered.{compare_refl, compare_same}
-use Rattle.octets.specs.Bytes.{cr, lf}
+use Rattle.octets.specs.Bytes.{cr}
 use Rattle.octets.specs.Order.{compare}
-use Rattle.octets.specs.Room.{part}
-use Rattle.octets.proofs.Room.{part-front}
 use Rattle.laws.specs.Lists.{is_nil}
 use Rattle.laws.proofs.Lists.{nil-length}
 use Rattle.console.specs.declared.requests.Request.TheVariants.{Help, Nothing}
-use Rattle.console.specs.declared.lines.Pending.{Pending}
-use Rattle.console.specs.Lines.{input_limit, held_in, ends_in_lf}
+use Rattle.console.specs.Lines.{ends_in_lf}
 use Rattle.console.specs.Requests.{ended, request_in}
-use Rattle.console.specs.Buffers.{typed_room}
-use Rattle.console.specs.Typing.{typed, help_word, helped, typed_in}
-use Rattle.console.proofs.Answering.{front-few}
+use Rattle.console.specs.Typing.{help_word, helped, typed_in}
 
 -- ---- the end of a line
-ended-in : (s : List ℕ) → length (ended s) ≤ length s
+pub ended_in : (s : List ℕ) → length (ended s) ≤ length s
 unfolding ended
-ended-in s = go (ends_in_lf s) (eqb (get_or s (length s - 2) 0) cr)
+ended_in s = go (ends_in_lf s) (eqb (get_or s (length s - 2) 0) cr)
   where
     go : (t u : Bool) → length (cond t (cond u (take (length s - 2) s) (take (length s - 1) s)) s) ≤ length s
     go true true = omega (arith, length-take (length s - 2) s)
     go true false = omega (arith, length-take (length s - 1) s)
     go false u = omega arith
-
-module _ (line : Pending) (s : List ℕ) (is : s ≡ part line.bytes 0 line.len) where
-  held : s ≡ held_in line
-  unfolding held_in
-  held = is ∙ part-front line.bytes line.len
-
-  -- a line without LF is taken as it is
-  pub typed-open : ends_in_lf s ≡ false → typed (held_in line) ≡ s
-  unfolding typed
-  typed-open e = rw (← held, e)
-
-  -- one with LF gets CR LF
-  pub typed-ends : ends_in_lf s ≡ true → (t : List ℕ) → t ≡ ended s → typed (held_in line) ≡ t ++ (cr ∷ lf ∷ [])
-  unfolding typed
-  typed-ends e t f = rw (← held, e, f)
-
-  module _ (room : length line.bytes ≡ input_limit) where
-    pub open-few : length s ≤ input_limit
-    open-few = front-few line.bytes s line.len is (omega arith)
-
-    pub typed-few : (t : List ℕ) → t ≡ ended s → length (t ++ (cr ∷ lf ∷ [])) ≤ typed_room
-    typed-few t f = omega (arith, length-append t (cr ∷ lf ∷ []), ap (λ (l : List ℕ). length l) f, ended-in s, open-few)
 
 -- ---- what is asked for
 module _ (s t : List ℕ) (is : t ≡ ended s) where

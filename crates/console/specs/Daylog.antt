@@ -1,5 +1,5 @@
 -- What is said of the day log at a start, and the table that a day goes on with.
-use Rattle.std.specs.Prelude.{ℕ, ◌≡◌, Bool, true, ◌||◌, List, [], ◌∷◌, ◌++◌, eqb}
+use Rattle.std.specs.Prelude.{Result, OnOk, IfOk, ℕ, ◌≡◌, Bool, true, ◌||◌, List, [], ◌∷◌, ◌++◌, eqb}
 use Rattle.refusal.specs.Numbers.{accepted, log_cut}
 use Rattle.octets.specs.Bytes.{lf}
 use Rattle.octets.specs.Decimals.{digits_of}
@@ -9,7 +9,7 @@ use Rattle.table.specs.Network.{table_with}
 use Rattle.replay.specs.Replay.{replayed}
 use Rattle.logfile.specs.Restarts.{started_from}
 use Rattle.wording.specs.Wording.{bytes_of, words_of}
-use Rattle.console.specs.declared.daylog.Restored.{Restored}
+use Rattle.console.specs.declared.stopping.Stop.{Stop}
 use Rattle.console.specs.Answers.{spaced}
 
 -- a number and a place: `28 at 57`
@@ -33,7 +33,7 @@ abbrev pub goes_on : ℕ → Bool
 goes_on number = eqb number accepted || eqb number log_cut
 
 -- The table that a day goes on with, where it can, is that of a start from some log that can be gone on with.
-pub record OfSomeStart (r : Restored) (bans : List ℕ) : Type 0 where
+pub record OfSomeStart (r : Result Head Stop) (bans : List ℕ) : Type 0 where
   pub log : List ℕ
-  pub sound : r.ready ≡ true → goes_on (replayed log).number ≡ true
-  pub same : r.ready ≡ true → table_with r.head bans ≡ started_from log
+  pub sound : OnOk r (goes_on (replayed log).number ≡ true)
+  pub same : IfOk r (λ head. table_with head bans ≡ started_from log)

@@ -16,8 +16,8 @@ kept_after held [] = held
 kept_after held (piece ∷ pieces) = kept_after (kept (held ++ piece)) pieces
 
 -- what is kept of the line under way
-unfoldable pub held_in : Pending → List ℕ
-held_in line = take line.len line.bytes
+abbrev pub held_in : Pending → List ℕ
+held_in line = line.bytes.items
 
 -- the bytes of the first line, up to and including its LF; all of them where there is no LF
 unfoldable pub first_line : List ℕ → List ℕ

@@ -14,381 +14,228 @@ mod groups;
 mod lines;
 mod requests;
 mod showing;
+mod stopping;
 
-ghost use Rattle.std.specs.Prelude.{◌≡◌, true, length};
-ghost use Rattle.console.specs.Buffers.{records_room, answers_room};
-ghost use Rattle.console.specs.Groups.{has_room, Takes};
+ghost use Rattle.std.specs.Prelude.{◌≡◌, true, OnOk};
+ghost use Rattle.console.specs.Groups.{has_room, no_lines, Takes};
 
 use answers::{
-    print, put_accepted, put_input, put_refused, say_banned, say_channels, say_done, say_help,
+    ROOM, print, put_accepted, put_refused, say_banned, say_channels, say_done, say_help,
 };
 use bans::BanList;
-use daylog::{Journal, keep, open_journal, restore};
-use groups::{ANSWERS, RECORDS, has_room, put_record};
-use lines::{Pending, ends_in_lf, extended, line_end};
-use logfile::fail;
+use daylog::{PATH, keep, open_journal, restore};
+use groups::Group;
+use lines::{Pending, ends_in_lf};
 use message::LINE_LIMIT;
 use octets::part;
 use refusal::ACCEPTED;
 use relay::process;
-use requests::{Request, line_from, name_in, put_typed, request_in, text_in, typed_request};
-use std::io;
+use requests::{Request, line_from, name_in, request_in, text_in, typed, typed_request};
+use std::fs::File;
 use std::io::{IsTerminal, Print, Read};
-use table::{Head, is_banned, register, unregister};
+use std::{io, mem};
+use stopping::Stop;
+use table::{Head, Registered, is_banned, register, unregister};
 
-// Room for a line that was typed.
-const TYPED: usize = 575;
+// The most bytes that are read at once.
+const PIECE: usize = 4096;
 
-// What is kept from one line to the next, but for what is lent: the ban lists, and the records and answers of the group. The table's head, the line under way, the
-// journal, how many bytes of records and of answers the group has, whether the input is typed, and whether the program goes on.
+// What is kept from one line to the next: the table's head and its ban lists, the group that is put together, the line under way, the file of the day log, if there is
+// one, and whether the input is typed. It is large, so it is lent.
 #[derive(Drop)]
 struct Session {
     head: Head,
+    bans: [u8; BanList::BANS],
+    group: Group,
     pending: Pending,
-    journal: Journal,
-    recorded: usize,
-    answered: usize,
+    journal: Option<File>,
     typed: bool,
-    more: bool,
 }
 
-// Whether an answer was written. Where it wasn't, the program stops: whoever waits for it can't be told.
-fn went(rt: &HostRuntime, written: io::Result<()>) -> bool {
-    if let Err(e) = written {
-        fail(&rt.stderr(), b"relay: standard output", e);
-        return false;
-    }
-    true
-}
-
-// Closes the group: its records are kept, and then it is answered. Where either fails the program stops.
-fn close_group(rt: &HostRuntime, mut s: Session, records: &[u8], answers: &[u8]) -> Session
-    ensures { (result.recorded ≡ 0) × (result.answered ≡ 0) }
-{
-    let recorded = s.recorded;
-    let answered = s.answered;
-    s.recorded = 0;
-    s.answered = 0;
-    if !s.more {
-        return s;
-    }
-    if !keep(rt, &s.journal, part(records, 0, recorded)) {
-        s.more = false;
-        return s;
-    }
-    s.more = went(rt, print(rt, part(answers, 0, answered)));
-    s
-}
-
-// A line came from a link. Its answer joins the group, and so does its record where it is accepted.
-fn take(
-    mut s: Session,
-    bans: &mut [u8; BanList::BANS],
-    records: &mut [u8],
-    answers: &mut [u8],
-    link: u32,
-    line: &[u8],
-) -> Session
-    requires { (has_room s.recorded s.answered ≡ true) × (length records.old ≡ records_room) × (length answers.old ≡ answers_room) }
-    ensures { Takes s bans.old records.old answers.old link line.now result bans.new records.new answers.new }
-{
-    let mut out = [0u8; LINE_LIMIT];
-    let taken = process(s.head, bans, link, line, &mut out);
-    if taken.number != ACCEPTED {
-        s.answered = put_refused(
-            answers,
-            s.answered,
-            taken.number,
-            taken.place,
-            line,
-            s.typed,
-        );
-        return s;
-    }
-    let head = taken.head;
-    s.head = head;
-    s.recorded = put_record(records, s.recorded, link, line);
-    s.answered = put_accepted(answers, s.answered, taken.set, part(&out, 0, taken.len));
-    s
-}
-
-// Answers a request that is no link's line, the group before it being closed.
-fn reply(
-    rt: &HostRuntime,
-    mut s: Session,
-    bans: &[u8; BanList::BANS],
-    request: Request,
-    input: &[u8],
-) -> Session {
-    if !s.more {
-        return s;
-    }
-    match request {
-        Request::Register(link) => {
-            let r = register(s.head, bans, link);
-            let head = r.head;
-            s.head = head;
-            s.more = went(rt, say_done(rt, r.number, s.typed));
-        }
-        Request::Unregister(link) => {
-            let r = unregister(s.head, bans, link);
-            let head = r.head;
-            s.head = head;
-            s.more = went(rt, say_done(rt, r.number, s.typed));
-        }
-        Request::Banned(end, start) => {
-            let answer = is_banned(s.head, bans, name_in(input, end), text_in(input, start));
-            s.more = went(rt, say_banned(rt, answer, s.typed));
-        }
-        Request::Channels => s.more = went(rt, say_channels(rt, s.head, bans)),
-        Request::Help => s.more = went(rt, say_help(rt)),
-        Request::Take(_, _) => return s,
-        Request::Unknown => return s,
-        Request::Nothing => return s,
-    }
-    s
-}
-
-// Answers an input line: a whole one, or the last one, which is taken as it is.
-fn respond(
-    rt: &HostRuntime,
-    mut s: Session,
-    bans: &mut [u8; BanList::BANS],
-    records: &mut [u8],
-    answers: &mut [u8],
-    request: Request,
-    input: &[u8],
-) -> Session
-    requires { (has_room s.recorded s.answered ≡ true) × (length records.old ≡ records_room) × (length answers.old ≡ answers_room) }
-{
-    match request {
-        Request::Take(link, start) => take(
-            s,
+impl Session {
+    // The table is empty, and nothing has come.
+    fn new(journal: Option<File>) -> Session {
+        let mut bans = [0u8; BanList::BANS];
+        let head = Head::empty(&mut bans);
+        Session {
+            head,
             bans,
-            records,
-            answers,
-            link,
-            line_from(input, start),
-        ),
-        Request::Unknown => {
-            s.answered = put_input(answers, s.answered);
-            s
+            group: Group::empty(),
+            pending: Pending::empty(),
+            journal,
+            typed: false,
         }
-        Request::Nothing => s,
-        _ => reply(
-            rt,
-            close_group(rt, s, records, answers),
-            bans,
-            request,
-            input,
-        ),
     }
-}
 
-// Answers a line that was typed, whose CR may be missing.
-fn respond_typed(
-    rt: &HostRuntime,
-    s: Session,
-    bans: &mut [u8; BanList::BANS],
-    records: &mut [u8],
-    answers: &mut [u8],
-    line: Pending,
-) -> Session
-    requires { (has_room s.recorded s.answered ≡ true) × (length records.old ≡ records_room) × (length answers.old ≡ answers_room) }
-{
-    let mut text = [0u8; TYPED];
-    let n = put_typed(line, &mut text);
-    let taken = part(&text, 0, n);
-    respond(rt, s, bans, records, answers, typed_request(taken), taken)
-}
-
-// The line under way is at its end: it is answered, unless the program stops, and the next one begins.
-fn answer(
-    rt: &HostRuntime,
-    mut s: Session,
-    bans: &mut [u8; BanList::BANS],
-    records: &mut [u8],
-    answers: &mut [u8],
-) -> Session
-    requires { (has_room s.recorded s.answered ≡ true) × (length records.old ≡ records_room) × (length answers.old ≡ answers_room) }
-{
-    if !s.more {
-        return s;
+    // Closes the group: its records are kept, and then it is answered.
+    fn close_group(&mut self, rt: &HostRuntime) -> Result<(), Stop>
+        ensures { OnOk result (self.new.group ≡ no_lines) }
+    {
+        keep(self.journal.as_ref(), self.group.records())?;
+        print(rt, self.group.answers()).map_err(Stop::Output)?;
+        self.group.clear();
+        Ok(())
     }
-    let line = s.pending;
-    let bytes = line.bytes;
-    let none = Pending::empty();
-    s.pending = none;
-    if s.typed {
-        return respond_typed(rt, s, bans, records, answers, line);
-    }
-    let input = part(&bytes, 0, line.len);
-    respond(rt, s, bans, records, answers, request_in(input), input)
-}
 
-// Answers the line under way in the group, or in a new one where that is full.
-fn finish(
-    rt: &HostRuntime,
-    s: Session,
-    bans: &mut [u8; BanList::BANS],
-    records: &mut [u8],
-    answers: &mut [u8],
-) -> Session
-    requires { (length records.old ≡ records_room) × (length answers.old ≡ answers_room) }
-{
-    if has_room(s.recorded, s.answered) {
-        return answer(rt, s, bans, records, answers);
-    }
-    let next = close_group(rt, s, records, answers);
-    answer(rt, next, bans, records, answers)
-}
-
-// Bytes of the line under way, up to its LF or the end of what was read.
-fn take_part(
-    rt: &HostRuntime,
-    mut s: Session,
-    bans: &mut [u8; BanList::BANS],
-    records: &mut [u8],
-    answers: &mut [u8],
-    bytes: &[u8],
-) -> Session
-    requires { (length records.old ≡ records_room) × (length answers.old ≡ answers_room) }
-{
-    let line = extended(s.pending, bytes);
-    s.pending = line;
-    if ends_in_lf(bytes) {
-        return finish(rt, s, bans, records, answers);
-    }
-    s
-}
-
-// A piece of the input, which may begin and end anywhere in a line.
-fn take_piece(
-    rt: &HostRuntime,
-    start: Session,
-    bans: &mut [u8; BanList::BANS],
-    records: &mut [u8],
-    answers: &mut [u8],
-    piece: &[u8],
-) -> Session
-    requires { (length records.old ≡ records_room) × (length answers.old ≡ answers_room) }
-{
-    let mut s = start;
-    let mut at = 0;
-    while at < piece.len() && s.more {
-        let end = line_end(piece, at);
-        s = take_part(rt, s, bans, records, answers, part(piece, at, end));
-        at = end;
-    }
-    s
-}
-
-// The last line, which is under way where the input ends: it is taken as it is.
-fn take_last(
-    rt: &HostRuntime,
-    s: Session,
-    bans: &mut [u8; BanList::BANS],
-    records: &mut [u8],
-    answers: &mut [u8],
-) -> Session
-    requires { (length records.old ≡ records_room) × (length answers.old ≡ answers_room) }
-{
-    let line = s.pending;
-    if line.len == 0 {
-        return s;
-    }
-    finish(rt, s, bans, records, answers)
-}
-
-// The input is at its end.
-fn close(
-    rt: &HostRuntime,
-    s: Session,
-    bans: &mut [u8; BanList::BANS],
-    records: &mut [u8],
-    answers: &mut [u8],
-) -> Session
-    requires { (length records.old ≡ records_room) × (length answers.old ≡ answers_room) }
-{
-    let taken = take_last(rt, s, bans, records, answers);
-    let mut last = close_group(rt, taken, records, answers);
-    last.more = false;
-    last
-}
-
-// One read, and the group of its lines. Where it fails the program stops: what is under way isn't the last line, but a torn one.
-fn step(
-    rt: &HostRuntime,
-    mut s: Session,
-    bans: &mut [u8; BanList::BANS],
-    records: &mut [u8],
-    answers: &mut [u8],
-) -> Session
-    requires { (length records.old ≡ records_room) × (length answers.old ≡ answers_room) }
-{
-    let mut piece = [0u8; 4096];
-    let mut input = rt.stdin();
-    let n = match input.read(&mut piece) {
-        Ok(n) => n,
-        Err(e) => {
-            fail(&rt.stderr(), b"relay: standard input", e);
-            s.more = false;
-            return s;
+    // Closes the group unless there is room in it for another line.
+    fn make_room(&mut self, rt: &HostRuntime) -> Result<(), Stop>
+        ensures { OnOk result (has_room self.new.group ≡ true) }
+    {
+        if !self.group.has_room() {
+            self.close_group(rt)?;
         }
-    };
-    if n == 0 {
-        return close(rt, s, bans, records, answers);
+        Ok(())
     }
-    let taken = take_piece(rt, s, bans, records, answers, &piece[..n]);
-    close_group(rt, taken, records, answers)
+
+    // A line came from a link. Its answer joins the group, and so does its record where it is accepted.
+    fn take(&mut self, link: u32, line: &[u8])
+        requires { has_room self.old.group ≡ true }
+        ensures { Takes self.old link line.now self.new }
+    {
+        let mut out = [0u8; LINE_LIMIT];
+        let taken = process(self.head, &mut self.bans, link, line, &mut out);
+        let mut text = [0u8; ROOM];
+        if taken.number != ACCEPTED {
+            let n = put_refused(&mut text, 0, taken.number, taken.place, line, self.typed);
+            self.group.put_answer(part(&text, 0, n));
+            return;
+        }
+        self.head = taken.head;
+        self.group.put_record(link, line);
+        let n = put_accepted(&mut text, 0, taken.set, part(&out, 0, taken.len));
+        self.group.put_answer(part(&text, 0, n));
+    }
+
+    // A link is registered or dropped, or can't be: that is answered.
+    fn done(&mut self, rt: &HostRuntime, r: Registered) -> io::Result<()> {
+        self.head = r.head;
+        say_done(rt, r.number, self.typed)
+    }
+
+    // Answers a request that joins no group, the one before it being closed.
+    fn reply(&mut self, rt: &HostRuntime, request: Request, input: &[u8]) -> io::Result<()> {
+        match request {
+            Request::Register(link) => {
+                let r = register(self.head, &self.bans, link);
+                self.done(rt, r)
+            }
+            Request::Unregister(link) => {
+                let r = unregister(self.head, &self.bans, link);
+                self.done(rt, r)
+            }
+            Request::Banned { end, start } => {
+                let answer = is_banned(
+                    self.head,
+                    &self.bans,
+                    name_in(input, end),
+                    text_in(input, start),
+                );
+                say_banned(rt, answer, self.typed)
+            }
+            Request::Channels => say_channels(rt, self.head, &self.bans),
+            Request::Help => say_help(rt),
+            Request::Take { .. } | Request::Unknown | Request::Nothing => Ok(()),
+        }
+    }
+
+    // Answers an input line: a whole one, or the last one, which is taken as it is.
+    fn respond(&mut self, rt: &HostRuntime, request: Request, input: &[u8]) -> Result<(), Stop> {
+        match request {
+            Request::Take { link, start } => {
+                self.make_room(rt)?;
+                self.take(link, line_from(input, start));
+                Ok(())
+            }
+            Request::Unknown => {
+                self.make_room(rt)?;
+                self.group.put_answer(b"! input\n");
+                Ok(())
+            }
+            Request::Nothing => Ok(()),
+            _ => {
+                self.close_group(rt)?;
+                self.reply(rt, request, input).map_err(Stop::Output)
+            }
+        }
+    }
+
+    // Answers a line that was typed, whose CR may be missing.
+    fn respond_typed(&mut self, rt: &HostRuntime, line: &Pending) -> Result<(), Stop> {
+        let text = typed(line);
+        let input = text.as_slice();
+        self.respond(rt, typed_request(input), input)
+    }
+
+    // The line under way is at its end: it is answered, and the next one begins.
+    fn finish(&mut self, rt: &HostRuntime) -> Result<(), Stop> {
+        let line = mem::replace(&mut self.pending, Pending::empty());
+        if self.typed {
+            return self.respond_typed(rt, &line);
+        }
+        let input = line.bytes();
+        self.respond(rt, request_in(input), input)
+    }
+
+    // A piece of the input, which may begin and end anywhere in a line.
+    fn take_piece(&mut self, rt: &HostRuntime, piece: &[u8]) -> Result<(), Stop> {
+        for part in piece.split_inclusive(|b| *b == b'\n') {
+            self.pending.extend(part);
+            if ends_in_lf(part) {
+                self.finish(rt)?;
+            }
+        }
+        Ok(())
+    }
+
+    // The input is at its end. A line that is under way is the last one.
+    fn close(&mut self, rt: &HostRuntime) -> Result<(), Stop> {
+        if !self.pending.bytes().is_empty() {
+            self.finish(rt)?;
+        }
+        self.close_group(rt)
+    }
+
+    // Reads until the input ends; the lines of one read are a group. The turns are counted since nothing else says that the loop ends: the input could go on forever.
+    // Where a read fails the program stops: what is under way isn't the last line, but a torn one.
+    fn serve(&mut self, rt: &HostRuntime) -> Result<(), Stop> {
+        let mut piece = [0u8; PIECE];
+        for _ in 0..u64::MAX {
+            let n = rt.stdin().read(&mut piece).map_err(Stop::Input)?;
+            if n == 0 {
+                return self.close(rt);
+            }
+            self.take_piece(rt, &piece[..n])?;
+            self.close_group(rt)?;
+        }
+        Ok(())
+    }
 }
 
 // Whether the input is typed, at a terminal. If so, whoever types is told how to begin.
 fn is_typed(rt: &HostRuntime) -> bool {
-    if !rt.stdin().is_terminal() {
-        return false;
+    let typed = rt.stdin().is_terminal();
+    if typed {
+        let _ = Print::write_all(&rt.stderr(), b"note: help prints the requests\n");
     }
-    let _ = Print::write_all(&rt.stderr(), b"note: help prints the requests\n");
-    true
+    typed
 }
 
-// Reads until the input ends. The turns are counted since nothing else says that the loop ends: the input could go on forever.
-fn serve(
-    rt: &HostRuntime,
-    start: Session,
-    bans: &mut [u8; BanList::BANS],
-    records: &mut [u8],
-    answers: &mut [u8],
-)
-    requires { (length records.old ≡ records_room) × (length answers.old ≡ answers_room) }
-{
-    let mut s = start;
-    let mut turns = u64::MAX;
-    while turns > 0 && s.more {
-        s = step(rt, s, bans, records, answers);
-        turns -= 1;
-    }
+// Goes on with the day, until the input ends or the program has to stop.
+fn run(rt: &HostRuntime, journal: Option<File>) -> Result<(), Stop> {
+    let mut s = Session::new(journal);
+    s.head = restore(rt, s.journal.as_ref(), &mut s.bans)?;
+    s.typed = is_typed(rt);
+    s.serve(rt)
 }
 
 fn main(rt: HostRuntime) {
-    let mut bans = [0u8; BanList::BANS];
-    let journal = open_journal(&rt);
-    let restored = restore(&rt, &journal, &mut bans);
-    if !restored.ready {
-        return;
+    let mut path = [0u8; PATH];
+    match open_journal(&rt, &mut path) {
+        Ok(journal) => {
+            if let Err(stop) = run(&rt, journal) {
+                stop.say(&rt.stderr());
+            }
+        }
+        Err(unusable) => unusable.say(&rt.stderr()),
     }
-    let head = restored.head;
-    let typed = is_typed(&rt);
-    let s = Session {
-        head,
-        pending: Pending::empty(),
-        journal,
-        recorded: 0,
-        answered: 0,
-        typed,
-        more: true,
-    };
-    let mut records = [0u8; RECORDS];
-    let mut answers = [0u8; ANSWERS];
-    serve(&rt, s, &mut bans, &mut records, &mut answers);
 }

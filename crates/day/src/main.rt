@@ -7,7 +7,7 @@
 mod printing;
 
 use bans::BanList;
-use logfile::{Source, fail, replay_file};
+use logfile::{fail, replay_file};
 use octets::part;
 use printing::{ROOM, put_day};
 use std::io::Print;
@@ -15,15 +15,13 @@ use std::io::Print;
 // Prints what the log has come to, unless it wasn't read to its end.
 fn main(rt: HostRuntime) {
     let mut bans = [0u8; BanList::BANS];
-    let mut log = Source::new(rt.stdin());
-    let r = replay_file(&mut log, &mut bans);
-    if r.failed {
-        fail(&rt.stderr(), b"replay: standard input", log.why());
-        return;
-    }
+    let r = match replay_file(&mut rt.stdin(), &mut bans) {
+        Ok(r) => r,
+        Err(why) => return fail(&rt.stderr(), b"replay: standard input", why),
+    };
     let mut text = [0u8; ROOM];
     let n = put_day(r.head, &bans, r.number, r.place, &mut text);
-    if let Err(e) = rt.write_all(part(&text, 0, n)) {
-        fail(&rt.stderr(), b"replay: standard output", e);
+    if let Err(why) = rt.write_all(part(&text, 0, n)) {
+        fail(&rt.stderr(), b"replay: standard output", why);
     }
 }

@@ -5,7 +5,6 @@ use mathlib.Core.Bool.{true, false, not}
 use mathlib.Core.List.{List, [], ◌∷◌, ◌++◌}
 use Prim.Native.Nat.{ℕ, ◌+◌, ◌<◌}
 use native.Mathlib.Numerals.{add-one}
-use native.Mathlib.Nat.{zero-add}
 use native.Mathlib.Omega.{arith}
 use lib.ListN.{length, take, drop, take-append-drop}
 use lib.Seq.{take-length}
@@ -30,9 +29,6 @@ pub rules-ascend : (f : Feeder) → ascend (feed_rules f) ≡ true
 unfolding ascend_from place_in
 rules-ascend f = refl
 
-past-none : (r : Fed) → past 0 r ≡ r
-past-none r = rw (zero-add r.used)
-
 module _ (f : Feeder) (s : List ℕ) where
   pub answer-refused : is_reached f ≡ false → feed_answer f s ≡ fed f 0 [] not_well_formed
   unfolding feed_answer
@@ -46,9 +42,9 @@ module _ (f : Feeder) (s : List ℕ) where
   feeds-refused e r is = is ∙ sym (answer-refused e)
 
   -- ---- an unfinished line
-  pub feeds-kept : KeepsLine f → (r : Fed) → r ≡ past 0 (answer_to (Unfinished (held_bytes f)) s) → r ≡ feed_answer f s
+  pub feeds-kept : KeepsLine f → (r : Fed) → r ≡ answer_to (Unfinished (held_bytes f)) s → r ≡ feed_answer f s
   feeds-kept k r is =
-      is ∙ past-none (answer_to (Unfinished (held_bytes f)) s) ∙ sym (answer-taken k.reached ∙ ap (λ (p : Pending). answer_to p s) (pending-kept f k.undropped))
+      is ∙ sym (answer-taken k.reached ∙ ap (λ (p : Pending). answer_to p s) (pending-kept f k.undropped))
 
   -- ---- a line that is dropped
   module _ (reached : is_reached f ≡ true) (drops : f.dropping ≡ true) where

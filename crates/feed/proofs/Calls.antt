@@ -80,6 +80,10 @@ answer-state q n [] = (refl, refl)
 answer-state q n (Whole l ∷ es) = (refl, refl)
 answer-state q n (TooLong ∷ es) = (refl, refl)
 
+pub answer-within : (p : Pending) (s : List ℕ) → (answer_to p s).used ≤ length s
+unfolding answer_to
+answer-within p s = rw (answer-state (after_all p (take (used p s) s)) (used p s) (events p (take (used p s) s))).1 (used-within s p)
+
 answer-number : (q : Pending) (n : ℕ) (es : List Event) → ((answer_of q n es).number ≡ accepted) ⊎ ((answer_of q n es).number ≡ line_too_long)
 unfolding answer_of
 answer-number q n [] = inl refl

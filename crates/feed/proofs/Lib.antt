@@ -7,7 +7,6 @@ mod Failures
 mod Witnesses
 mod Runs
 mod Answers
-mod Tests
 mod Rooms
 mod Gathering
 mod ByState

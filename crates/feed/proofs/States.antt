@@ -77,7 +77,7 @@ module _ (f : Feeder) (reached : is_reached f ≡ true) where
   unfolding is_reached
   tests = all-passed (reached_tests f) reached
 
-  room_whole : length f.bytes ≡ line_limit
+  pub room_whole : length f.bytes ≡ line_limit
   unfolding reached_tests
   room_whole = eqb-true (length f.bytes) line_limit tests.0
 

@@ -1,26 +1,41 @@
 // The feeder (document 02, §1): bytes as the radio gives them, however they are cut, made into lines. LF ends a line. A state keeps the bytes of an unfinished
-// line; a line with a 513th byte is refused once, by LINE_TOO_LONG, and dropped up to and with its LF. A caller has a state for each link, and calls `feed` with
+// line; a line with a 513th byte is refused once, by LineTooLong, and dropped up to and with its LF. A caller has a state for each link, and calls `feed` with
 // what came until it is used up.
 #![tactic(auto)]
 
-ghost use Rattle.std.specs.Prelude.{◌≡◌, [], ◌++◌, ◌+◌, ◌≤◌, length, drop};
+ghost use Rattle.std.specs.Prelude.{◌≡◌, [], ◌++◌, ◌+◌, ◌≤◌, length};
+ghost use Rattle.refusal.specs.Refusals.{answered};
 ghost use Rattle.laws.specs.Lists.{padded};
 ghost use Rattle.message.specs.Grammar.{line_limit};
 ghost use Rattle.feed.specs.Lines.{Unfinished, Dropping, nothing};
-ghost use Rattle.feed.specs.Feeder.{state_of, is_reached, fed as fed_of, answer_to, feed_answer};
-ghost use Rattle.feed.specs.Private.Gathering.{is_clean, KeepsLine, held_bytes, past};
+ghost use Rattle.feed.specs.Feeder.{state_of, is_reached, fed, answer_to, feed_answer};
+ghost use Rattle.feed.specs.Private.Gathering.{is_clean, KeepsLine, held_bytes};
 
 use message::LINE_LIMIT;
-use octets::{Class, all_in, part, place_of, put, zero_from};
-use refusal::{ACCEPTED, LINE_TOO_LONG, NOT_WELL_FORMED};
+use octets::{Class, all_in, part, place_of, zero_from};
+use refusal::{Refusal, number};
 
 // What is kept of the line under way: the bytes of an unfinished line, unused room zero; or none, where the line is too long and is dropped up to and with its LF.
+// Kept (6): C's struct.
 #[repr(C)]
 #[derive(Clone, Copy)]
 pub struct Feeder {
     pub bytes: [u8; LINE_LIMIT],
     pub len: usize,
     pub dropping: bool,
+}
+
+// The answer to a call: the state after it, how many of the bytes were used, and what was yielded. A line, unused room zero, where its length isn't 0;
+// the number of LineTooLong, where a line is too long; or nothing. That of NotWellFormed: no bytes reach the state, and it is as given.
+// Kept (1, 6): C's struct.
+#[repr(C)]
+#[derive(Clone, Copy)]
+pub struct Fed {
+    pub state: Feeder,
+    pub used: usize,
+    pub line: [u8; LINE_LIMIT],
+    pub len: usize,
+    pub number: u8,
 }
 
 impl Feeder {
@@ -34,115 +49,89 @@ impl Feeder {
             dropping: false,
         }
     }
-}
 
-// The answer to a call: the state after it, how many of the bytes were used, and what was yielded. A line, unused room zero, where its length isn't 0;
-// LINE_TOO_LONG, where a line is too long; or nothing. NOT_WELL_FORMED: no bytes reach the state, and it is as given.
-#[repr(C)]
-#[derive(Clone, Copy)]
-pub struct Fed {
-    pub state: Feeder,
-    pub used: usize,
-    pub line: [u8; LINE_LIMIT],
-    pub len: usize,
-    pub number: u8,
-}
-
-// Whether the first bytes of a room hold no LF, and the others are zero.
-fn is_clean(bytes: &[u8; LINE_LIMIT], len: usize) -> bool
-    ensures { result ≡ is_clean bytes.now len }
-{
-    if !all_in(part(bytes, 0, len), Class::NonLf) {
-        return false;
+    // A line that is too long, and dropped.
+    fn dropping() -> Feeder
+        ensures { result ≡ state_of Dropping }
+    {
+        Feeder {
+            dropping: true,
+            ..Feeder::empty()
+        }
     }
-    zero_from(bytes, len)
+
+    // Whether the bytes in use hold no LF, and the others are zero.
+    fn is_clean(&self) -> bool
+        ensures { result ≡ is_clean self.now.bytes self.now.len }
+    {
+        all_in(part(&self.bytes, 0, self.len), Class::NonLf) && zero_from(&self.bytes, self.len)
+    }
+
+    // The bytes of an unfinished line with more behind them, which fit.
+    fn extended(&self, more: &[u8]) -> [u8; LINE_LIMIT]
+        requires { KeepsLine self.now × (self.now.len + length more.now ≤ line_limit) }
+        ensures { result ≡ padded line_limit 0 (held_bytes self.now ++ more.now) }
+    {
+        let mut bytes = self.bytes;
+        bytes[self.len..self.len + more.len()].copy_from_slice(more);
+        bytes
+    }
+
+    // The answer to bytes behind an unfinished line. No more of them are looked at than the line has room for, and one.
+    fn gather(&self, bytes: &[u8]) -> Fed
+        requires { KeepsLine self.now }
+        ensures { result ≡ answer_to (Unfinished (held_bytes self.now)) bytes.now }
+    {
+        let room = LINE_LIMIT - self.len;
+        let looked = bytes.len().min(room + 1);
+        let ahead = &bytes[..looked];
+        let found = place_of(ahead, b'\n');
+        if found == looked {
+            if room < looked {
+                return Fed::unlined(Feeder::dropping(), looked, Err(Refusal::LineTooLong));
+            }
+            let kept = Feeder {
+                bytes: self.extended(ahead),
+                len: self.len + looked,
+                dropping: false,
+            };
+            return Fed::unlined(kept, looked, Ok(()));
+        }
+        let used = found + 1;
+        let too_long = room < used;
+        if too_long {
+            return Fed::unlined(Feeder::empty(), used, Err(Refusal::LineTooLong));
+        }
+        let line = self.extended(&ahead[..used]);
+        Fed {
+            line,
+            len: self.len + used,
+            ..Fed::unlined(Feeder::empty(), used, Ok(()))
+        }
+    }
+}
+
+impl Fed {
+    // The answer that has no line.
+    fn unlined(state: Feeder, used: usize, answer: Result<(), Refusal>) -> Fed
+        ensures { result ≡ fed state used [] (answered answer) }
+    {
+        Fed {
+            state,
+            used,
+            line: [0u8; LINE_LIMIT],
+            len: 0,
+            number: number(&answer),
+        }
+    }
 }
 
 // Whether some bytes reach the state from the empty one.
+#[tactic(auto, unfolding(crate::specs::Feeder::is_reached, crate::specs::Feeder::reached_tests, laws::specs::Lists::all))]
 pub fn is_reached(state: Feeder) -> bool
     ensures { result ≡ is_reached state }
 {
-    if LINE_LIMIT < state.len {
-        return false;
-    }
-    if !is_clean(&state.bytes, state.len) {
-        return false;
-    }
-    if state.dropping {
-        return state.len == 0;
-    }
-    true
-}
-
-// A line that is too long, and dropped.
-fn dropping() -> Feeder
-    ensures { result ≡ state_of Dropping }
-{
-    Feeder {
-        bytes: [0u8; LINE_LIMIT],
-        len: 0,
-        dropping: true,
-    }
-}
-
-// The answer that has no line.
-fn unlined(state: Feeder, used: usize, number: u8) -> Fed
-    ensures { result ≡ fed_of state used [] number }
-{
-    Fed {
-        state,
-        used,
-        line: [0u8; LINE_LIMIT],
-        len: 0,
-        number,
-    }
-}
-
-// The bytes of an unfinished line with more behind them, which fit.
-fn extended(state: Feeder, more: &[u8]) -> [u8; LINE_LIMIT]
-    requires { KeepsLine state × (state.len + length more.now ≤ line_limit) }
-    ensures { result ≡ padded line_limit 0 (held_bytes state ++ more.now) }
-{
-    let mut bytes = state.bytes;
-    put(&mut bytes, state.len, more);
-    bytes
-}
-
-// The answer to the bytes from a place on, behind an unfinished line. No more of them are looked at than the line has room for, and one.
-fn gather(state: Feeder, bytes: &[u8], at: usize) -> Fed
-    requires { KeepsLine state × (at ≤ length bytes.now) }
-    ensures { result ≡ past at (answer_to (Unfinished (held_bytes state)) (drop at bytes.now)) }
-{
-    let held = state.len;
-    let room = LINE_LIMIT - held;
-    let stop = at + (bytes.len() - at).min(room + 1);
-    let ahead = part(bytes, at, stop);
-    let found = place_of(ahead, b'\n');
-    let end = at + found;
-    let len = held + found;
-    if end == stop {
-        if LINE_LIMIT < len {
-            return unlined(dropping(), end, LINE_TOO_LONG);
-        }
-        let kept = Feeder {
-            bytes: extended(state, ahead),
-            len,
-            dropping: false,
-        };
-        return unlined(kept, end, ACCEPTED);
-    }
-    let behind = end + 1;
-    if len == LINE_LIMIT {
-        return unlined(Feeder::empty(), behind, LINE_TOO_LONG);
-    }
-    let whole = len + 1;
-    Fed {
-        state: Feeder::empty(),
-        used: behind,
-        line: extended(state, part(bytes, at, behind)),
-        len: whole,
-        number: ACCEPTED,
-    }
+    state.len <= LINE_LIMIT && state.is_clean() && (!state.dropping || state.len == 0)
 }
 
 // Takes bytes up to and with the first that yields something, else all of them. What is left of a line that is dropped yields nothing more, so what stands behind
@@ -151,14 +140,19 @@ pub fn feed(state: Feeder, bytes: &[u8]) -> Fed
     ensures { result ≡ feed_answer state bytes.now }
 {
     if !is_reached(state) {
-        return unlined(state, 0, NOT_WELL_FORMED);
+        return Fed::unlined(state, 0, Err(Refusal::NotWellFormed));
     }
     if !state.dropping {
-        return gather(state, bytes, 0);
+        return state.gather(bytes);
     }
     let end = place_of(bytes, b'\n');
     if end == bytes.len() {
-        return unlined(state, end, ACCEPTED);
+        return Fed::unlined(state, end, Ok(()));
     }
-    gather(Feeder::empty(), bytes, end + 1)
+    let behind = end + 1;
+    let fed = Feeder::empty().gather(&bytes[behind..]);
+    Fed {
+        used: behind + fed.used,
+        ..fed
+    }
 }

@@ -60,10 +60,9 @@ impl<R: Read> Read for Source<R> {
 pub fn fail(to: &impl Print, what: &[u8], why: io::Error) {
     let text = InlineText::<REASON>::of(why);
     let all = text.as_str();
-    let words = match all.rsplit_once(" (os error ") {
-        Some((words, _)) => words,
-        None => all,
-    };
+    let words = all
+        .rsplit_once(" (os error ")
+        .map_or(all, |(words, _)| words);
     let _ = to.write_all(what);
     let _ = to.write_all(b": ");
     let _ = to.write_all(words.as_bytes());

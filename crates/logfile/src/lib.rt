@@ -4,76 +4,59 @@
 mod failing;
 mod progress;
 
-ghost use Rattle.std.specs.Prelude.{◌≡◌, true, ◌+◌, ◌≤◌, List, ℕ, Option, IfSome};
-ghost use Rattle.logfile.specs.Private.Progress.{room, place_limit, ReadSoFar, ReadFrom, answer_of};
+ghost use Rattle.std.specs.Prelude.{◌≡◌, List, ℕ, IfSome, IfErr};
+ghost use Rattle.logfile.specs.Failing.{source_why, source_remaining};
 ghost use Rattle.logfile.specs.Files.{IsOfLog, OfSomeLog};
 
 use bans::BanList;
 pub use failing::{Source, fail};
-use progress::{PIECE, Progress, close, go_on};
+use progress::{PIECE, Progress};
+use std::io;
 use std::io::Read;
+use std::ops::ControlFlow;
 use table::Head;
 
 // The table's head after, all links being registered; the place behind the last record that was taken; the number of what ended the replay, and its place in the log,
-// or zeros. Where reading failed, the log wasn't read to its end, and these say nothing.
+// or zeros.
 #[derive(Clone, Copy)]
 pub struct FileReplay {
     pub head: Head,
     pub used: u64,
     pub number: u8,
     pub place: u64,
-    pub failed: bool,
 }
 
 // The most reads. Places have 64 bits, and no read takes one further than a piece and what was left of the one before: so many reads can't take it past the last.
 const TURNS: u64 = 2251799813685248;
 
-// One read. Where it fails there is no answer: what came isn't the whole log.
-fn step<R: Read>(mut c: Progress, bans: &mut [u8; BanList::BANS], file: &mut R) -> Progress
-    requires { (c.more ≡ true) × (c.at ≤ place_limit) }
-    ensures near { result.at ≤ c.at + room }
-    ensures read { ReadSoFar c bans.old → ReadSoFar result bans.new }
-    ensures known { (had : Option (List ℕ)) → ReadFrom had (R.remaining file.old) c bans.old → ReadFrom had (R.remaining file.new) result bans.new }
+// Replays the log that a reader holds which keeps why it failed. Where a read fails there is no answer but why: what came isn't the whole log.
+fn replay_source<R: Read>(
+    source: &mut Source<R>,
+    bans: &mut [u8; BanList::BANS],
+) -> io::Result<FileReplay>
+    ensures some { OfSomeLog result bans.new }
+    ensures known { IfSome (source_remaining R.remaining source.old) (λ log. IsOfLog result bans.new log) }
+    ensures why { IfErr result (λ e. source_why source.new ≡ e) }
 {
+    let mut progress = Progress::begin(bans);
     let mut piece = [0u8; PIECE];
-    match file.read(&mut piece) {
-        Ok(0) => close(c, bans),
-        Ok(n) => go_on(c, bans, &piece[..n]),
-        Err(_) => {
-            c.more = false;
-            c.failed = true;
-            c
+    for _ in 0..TURNS {
+        let n = source.read(&mut piece)?;
+        if n == 0 {
+            return Ok(progress.close(bans));
+        }
+        if let ControlFlow::Break(answer) = progress.go_on(bans, &piece[..n]) {
+            return Ok(answer);
         }
     }
+    Err(source.why())
 }
 
-// What the log has come to, or that this is no answer.
-fn answer(c: Progress, failed: bool) -> FileReplay
-    ensures { result ≡ answer_of c failed }
-{
-    let head = c.head;
-    FileReplay {
-        head,
-        used: c.at,
-        number: c.number,
-        place: c.place,
-        failed,
-    }
-}
-
-// Replays the log that a file holds, from where it stands to its end.
-pub fn replay_file<R: Read>(file: &mut R, bans: &mut [u8; BanList::BANS]) -> FileReplay
+// Replays the log that a file holds, from where it stands to its end. Where reading fails, the log wasn't read to its end, and why is all that is said.
+pub fn replay_file<R: Read>(file: &mut R, bans: &mut [u8; BanList::BANS]) -> io::Result<FileReplay>
     ensures some { OfSomeLog result bans.new }
     ensures known { IfSome (R.remaining file.old) (λ log. IsOfLog result bans.new log) }
 {
-    let mut c = Progress::begin(bans);
-    let mut turns = TURNS;
-    while turns > 0 && c.more {
-        c = step(c, bans, file);
-        turns -= 1;
-    }
-    if c.more {
-        return answer(c, true);
-    }
-    answer(c, c.failed)
+    let mut source = Source::new(file);
+    replay_source(&mut source, bans)
 }

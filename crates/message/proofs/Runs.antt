@@ -10,7 +10,7 @@ use lib.Dec.{eqb}
 use borrow.Author.Tests.{eq-eqb, ne_eqb, eqb-true, eqb-false}
 use Rattle.octets.specs.Bytes.{space, colon}
 use Rattle.octets.specs.Search.{before}
-use Rattle.octets.proofs.Search.{before-past, before-stop, before-go, before-front, before-within}
+use Rattle.octets.proofs.Search.{before-front, before-within}
 use Rattle.laws.proofs.Lists.{drop-step}
 use Rattle.message.specs.declared.Message.{Message}
 use Rattle.message.specs.Grammar.{middle_limit, part_at, word, spaces, rest, after_middle}
@@ -26,15 +26,8 @@ word-before (b ∷ s) = ap (λ (l : List ℕ). cond (eqb b space) [] (b ∷ l)) 
 
 -- at the end there is no word
 pub word-past : (s : List ℕ) (i : ℕ) → length s ≤ i → length (word (drop i s)) ≡ 0
-word-past s i h = rw (word-before (drop i s)) (before-past space s i h)
-
--- nor is there one at a SPACE
-pub word-stop : (s : List ℕ) (i : ℕ) → i < length s → get_or s i 0 ≡ space → length (word (drop i s)) ≡ 0
-word-stop s i h e = rw (word-before (drop i s)) (before-stop space s i h e)
-
--- any other byte is one more of it
-pub word-go : (s : List ℕ) (i : ℕ) → i < length s → (get_or s i 0 ≡ space → ⊥) → length (word (drop i s)) ≡ suc (length (word (drop (i + 1) s)))
-word-go s i h e = rw (word-before (drop i s), word-before (drop (i + 1) s)) (before-go space s i h e)
+unfolding word
+word-past s i h = rw (drop_of_length-le s h)
 
 -- ---- a word is the front of what it stands in
 -- it stands first

@@ -18,6 +18,8 @@ use Rattle.laws.proofs.Lists.{map-twice, same_by-lengths, same_by-differ, same_b
 use Rattle.names.specs.Fold.{caret, tilde, fold, with_caret, alike, same_name}
 use Rattle.names.specs.Names.{hash}
 use Rattle.names.specs.Private.Likeness.{likeness}
+use Rattle.std.specs.List.{list_all, zip}
+use Rattle.laws.proofs.Chains.{same_zipped}
 
 -- ---- single bytes
 -- no byte below 'A' is folded
@@ -138,6 +140,9 @@ alike-likeness a b =
     (λ e. eq-eqb (likeness a) (likeness b) (caret-back _ _ (likeness-caret a) (likeness-caret b) (sym (fold-likeness a) ∙ eqb-true (fold a) (fold b) e ∙ fold-likeness b)))
     (λ e. eq-eqb (fold a) (fold b) (fold-likeness a ∙ ap with_caret (eqb-true (likeness a) (likeness b) e) ∙ sym (fold-likeness b)))
 
+-- what bytes that are alike are known by
+pub ruleset likenesses = (alike-likeness, folds-differ)
+
 -- ---- whole names
 -- the fold keeps the length
 pub length-folds : (a : List ℕ) → length (map fold a) ≡ length a
@@ -191,6 +196,10 @@ module _ (a b : List ℕ) where
   -- names of other lengths are other names
   pub lengths_differ : (length a ≡ length b → ⊥) → same_name a b ≡ false
   lengths_differ ne = name-bytes a b ∙ same_by-differ alike a b ne
+
+  -- names of one length are equal exactly if their bytes are alike in pairs
+  pub name-zipped : length a ≡ length b → list_all (λ p. alike p.0 p.1) (zip a b) ≡ same_name a b
+  name-zipped e = same_zipped alike a b e ∙ sym (name-bytes a b)
 
 -- at a place of both
 module _ (a b : List ℕ) (i : ℕ) where

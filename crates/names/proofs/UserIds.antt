@@ -10,9 +10,9 @@ use lib.Seq.{length-take-le}
 use lib.Dec.{eqb}
 use borrow.Author.Tests.{eq-eqb, ne_eqb, eqb-true}
 use Rattle.octets.specs.Bytes.{within, is_non_space, is_digit, is_id_byte}
-use Rattle.laws.specs.Lists.{all, is_nil, starts_with}
+use Rattle.laws.specs.Lists.{all, is_nil, starts_with, padded}
 use Rattle.laws.proofs.Bools.{and_left, and_right, and-three}
-use Rattle.laws.proofs.Lists.{drop-step, all-step, all_head, all_cons, all_append, all-imp}
+use Rattle.laws.proofs.Lists.{drop-step, all-step, all_head, all_cons, all_append, all-imp, padded-whole}
 use Rattle.octets.proofs.Clean.{digit-id, id-clean}
 use Rattle.names.specs.Names.{server_id_length, user_id_length, is_server_id, is_user_id}
 
@@ -105,3 +105,14 @@ id-tests (a ∷ t) = λ h.
     let short : length (a ∷ take 2 t) ≡ server_id_length = omega (arith, length-take-le 2 t (omega arith)) in
     rw (eq-eqb (length (a ∷ t)) user_id_length h, eq-eqb (length (a ∷ take 2 t)) server_id_length short, split is_id_byte 2 t, all-step is_id_byte t 2 0 (omega arith))
     (sorted (within 48 a 57) (all is_id_byte (take 2 t)) (within 65 (get_or t 2 0) 90) (within 48 (get_or t 2 0) 57) (all is_id_byte (drop 3 t)))
+
+-- nine bytes are held as they are
+pub id-whole : (id : List ℕ) → length id ≡ user_id_length → padded user_id_length 0 id ≡ id
+id-whole id h = padded-whole 0 user_id_length id h
+
+-- bytes of another number are no user id
+pub id-length : (id : List ℕ) → (length id ≡ user_id_length → ⊥) → is_user_id id ≡ false
+unfolding is_user_id
+id-length id ne = rw (ne_eqb (length id) user_id_length ne)
+
+pub ruleset whole_ids = (id-tests, id-whole, id-length)

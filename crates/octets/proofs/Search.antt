@@ -1,32 +1,21 @@
 -- Laws of the first place of a byte: the bytes before it, that byte, and those behind it are all of them, and it isn't among those before it; so bytes without it
 -- may be passed over, block by block. Assumes nothing.
 use mathlib.Core.Path.{◌≡◌, refl, sym, ap, ◌∙◌}
-use mathlib.Core.Bool.{Bool, true, false}
+use mathlib.Core.Bool.{Bool, true, false, not, cond}
 use mathlib.Core.List.{List, [], ◌∷◌, ◌++◌}
 use Prim.Native.Nat.{ℕ, suc, ◌+◌, ◌≤◌, ◌<◌}
 use native.Mathlib.Omega.{arith}
-use lib.ListN.{length, take, drop, get_or, drop_of_length-le, take-append-drop}
-use lib.Seq.{length-take-le, take-add}
-use lib.Dec.{eqb}
-use borrow.Author.Tests.{eq-eqb, ne_eqb, eqb-true, not-true}
+use lib.ListN.{length, take, drop, take-append-drop}
+use lib.Seq.{length-take-le}
+use lib.Dec.{eqb, ltb}
+use borrow.Author.Tests.{ltb-false, eqb-true, not-true}
+use Rattle.std.specs.Option.{unwrap_or}
+use Rattle.std.specs.List.{position, position_or_len}
+use Rattle.std.proofs.lemmas.List.Recursion.{is_position_or_len}
+use Rattle.std.proofs.lemmas.List.Sums.{prefix_len-le-length}
 use Rattle.laws.specs.Lists.{all}
-use Rattle.laws.proofs.Lists.{drop-step, all_head, all_tail, all_append}
+use Rattle.laws.proofs.Lists.{all_head, all_tail}
 use Rattle.octets.specs.Search.{differs, before}
-use Rattle.octets.specs.Private.Blocks.{block_length, Clear}
-
--- ---- at a place, for a loop
-module _ (b : ℕ) (s : List ℕ) (i : ℕ) where
-  pub before-past : length s ≤ i → length (before b (drop i s)) ≡ 0
-  unfolding before
-  before-past h = rw (drop_of_length-le s h)
-
-  pub before-stop : i < length s → get_or s i 0 ≡ b → length (before b (drop i s)) ≡ 0
-  unfolding before
-  before-stop h e = rw (drop-step s i 0 h, eq-eqb _ b e)
-
-  pub before-go : i < length s → (get_or s i 0 ≡ b → ⊥) → length (before b (drop i s)) ≡ suc (length (before b (drop (i + 1) s)))
-  unfolding before
-  before-go h e = rw (drop-step s i 0 h, ne_eqb _ b e)
 
 -- ---- the bytes divided
 -- b isn't among those before it
@@ -75,15 +64,29 @@ unfolding before
 before-behind b [] t e = omega arith
 before-behind b (x ∷ u) t e = rw (not-true (eqb x b) (all_head (differs b) x u e)) (ap suc (before-behind b u t (all_tail (differs b) x u e)) ∙ omega arith)
 
-pub before-clear : (b : ℕ) (s : List ℕ) (at : ℕ) → Clear b s at → at + length (before b (drop at s)) ≡ length (before b s)
-before-clear b s at c =
-    let n : length (take at s) ≡ at = length-take-le at s c.inside in
-    sym (rw (take-append-drop at s, n) at (before-behind b (take at s) (drop at s) c.clear))
+-- a block of others is passed over
+pub before-passed : (b n : ℕ) (s block rest : List ℕ) → block ≡ take n s → rest ≡ drop n s → length rest + n ≡ length s → all (differs b) block ≡ true
+    → length (before b s) ≡ n + length (before b rest)
+before-passed b n s block rest e f h k =
+    let front : length (take n s) ≡ n = length-take-le n s (omega arith) in
+    rw (take-append-drop n s, front, ← f) at (before-behind b (take n s) (drop n s) (rw e at k))
 
--- ---- blocks
-pub clear_none : (b : ℕ) (s : List ℕ) → Clear b s 0
-unfolding all
-clear_none b s = record { inside = omega arith; clear = refl }
+-- ---- as a search along the bytes finds it
+-- the place of the first that passes a test, or the end
+pub first_place : (p : ℕ → Bool) (s : List ℕ) → unwrap_or (position p s) (length s) ≡ position_or_len p s
+first_place p s = go (ltb (position_or_len p s) (length s)) refl
+  where
+    go : (t : Bool) → ltb (position_or_len p s) (length s) ≡ t → unwrap_or (position p s) (length s) ≡ position_or_len p s
+    go true e = rw e
+    go false e = rw e (omega (arith, ltb-false _ _ e, prefix_len-le-length (λ x. not (p x)) s))
 
-pub clear-more : (b : ℕ) (s : List ℕ) (at : ℕ) → Clear b s at → at + block_length ≤ length s → all (differs b) (take block_length (drop at s)) ≡ true → Clear b s (at + block_length)
-clear-more b s at c h e = record { inside = h; clear = rw (take-add at block_length s) (all_append (differs b) (take at s) (take block_length (drop at s)) c.clear e) }
+pub before-place : (b : ℕ) (s : List ℕ) → unwrap_or (position (λ x. eqb x b) s) (length s) ≡ length (before b s)
+unfolding before
+before-place b s = first_place (λ x. eqb x b) s ∙ sym (is_position_or_len (λ s. length (before b s)) (λ x. eqb x b) refl step s)
+  where
+    step : (x : ℕ) (xs : List ℕ) → length (before b (x ∷ xs)) ≡ cond (eqb x b) 0 (1 + length (before b xs))
+    step x xs = go (eqb x b) refl
+      where
+        go : (t : Bool) → eqb x b ≡ t → length (before b (x ∷ xs)) ≡ cond (eqb x b) 0 (1 + length (before b xs))
+        go true e = rw e
+        go false e = rw e (omega arith)

@@ -1,3 +1,2 @@
 -- What private functions promise. No public contract cites these files: nobody needs to believe them.
-pub mod Blocks
 pub mod Additions

@@ -2,7 +2,7 @@
 ghost use Rattle.std.specs.Prelude.{◌≡◌, true, not, cond, ◌<◌};
 ghost use Rattle.octets.specs.Bytes.{is_digit};
 ghost use Rattle.laws.specs.Lists.{all};
-ghost use Rattle.octets.specs.Decimals.{leads_with_zero, value_of, value_up_to, decimal_up_to, is_malformed, value_in, is_up_to, digit as digit_of, digits_of};
+ghost use Rattle.octets.specs.Decimals.{is_decimal, value_of, value_up_to, decimal_up_to, is_malformed, value_in, is_up_to, digit as digit_of, digits_of};
 ghost use Rattle.octets.specs.Room.{put_at, end_of};
 
 use crate::{Class, all_in, put};
@@ -10,47 +10,38 @@ use crate::{Class, all_in, put};
 // The most digits of a 64-bit number.
 const MOST_DIGITS: usize = 20;
 
-// Whether the first of several bytes is the digit 0.
-fn leads_with_zero(s: &[u8]) -> bool
-    ensures { result ≡ leads_with_zero s.now }
-{
-    if s.len() <= 1 {
-        return false;
-    }
-    s[0] == b'0'
-}
-
 // The number that digits stand for, up to a limit. It stops as soon as the limit is passed, so nothing overflows, however many digits come.
 fn value_up_to(s: &[u8], limit: u32) -> Option<u32>
     requires { all is_digit s.now ≡ true }
     ensures { result ≡ value_up_to limit s.now }
 {
-    let past = limit as u64 + 1;
-    let mut value: u64 = 0;
-    let mut i = 0;
-    while i < s.len() {
-        value = value * 10 + (s[i] - b'0') as u64;
-        if past <= value {
+    let limit = u64::from(limit);
+    let mut value = 0u64;
+    for b in s {
+        value = value * 10 + u64::from(*b - b'0');
+        if limit < value {
             return None;
         }
-        i += 1;
     }
     Some(value as u32)
 }
 
+// Whether the bytes are one or more digits, the first of several not 0.
+#[tactic(auto, unfolding(crate::specs::Decimals::is_decimal, crate::specs::Decimals::leads_with_zero, laws::specs::Lists::starts_with))]
+fn is_decimal(s: &[u8]) -> bool
+    ensures { result ≡ is_decimal s.now }
+{
+    !s.is_empty() && all_in(s, Class::Digit) && !matches!(s, [b'0', _, ..])
+}
+
 // The number that the bytes are in decimal, without leading zeros, up to a limit, however many digits come.
+#[tactic(auto, unfolding(crate::specs::Decimals::is_decimal, crate::specs::Decimals::value_up_to, crate::specs::Decimals::decimal_up_to))]
 pub fn decimal(s: &[u8], limit: u32) -> Option<u32>
     ensures answer { result ≡ decimal_up_to limit s.now }
     ensures malformed { is_malformed result ≡ not (is_up_to limit s.now) }
     ensures value { value_in result ≡ cond (is_up_to limit s.now) (value_of s.now) 0 }
 {
-    if s.len() == 0 {
-        return None;
-    }
-    if !all_in(s, Class::Digit) {
-        return None;
-    }
-    if leads_with_zero(s) {
+    if !is_decimal(s) {
         return None;
     }
     value_up_to(s, limit)

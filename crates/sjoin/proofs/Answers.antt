@@ -1,6 +1,6 @@
 -- The answer to a line: what `record_of` puts together is the record of its channel, and each answer is the number and the record that the rules give.
 -- Assumes nothing.
-use Prim.Native.Nat.{ℕ, ◌+◌, ◌-◌, ◌≤◌}
+use Prim.Native.Nat.{ℕ, ◌+◌, ◌-◌, ◌≤◌, ◌<◌}
 use mathlib.Core.Path.{◌≡◌, refl, sym, ap, ◌∙◌}
 use mathlib.Core.Bool.{true, false}
 use mathlib.Core.List.{List, []}
@@ -10,10 +10,18 @@ use native.Mathlib.Omega.{arith}
 use lib.ListN.{length, take, drop, get_or, length-map, length-take, length-drop}
 use lib.Dec.{leb}
 use borrow.Author.Tests.{ne_eqb, leb-true, not-false}
+use Rattle.std.specs.Prelude.{Some, None, Ok, Err}
+use Rattle.refusal.specs.declared.Fault.{Fault as Refused}
+use Rattle.refusal.specs.declared.Refusal.{Refusal}
+use Rattle.refusal.specs.declared.Refusal.TheVariants.{LineTooLong, BadMembers}
 use Rattle.refusal.specs.Numbers.{accepted, is_mode_number}
 use Rattle.refusal.specs.Rules.{first_of}
-use Rattle.refusal.specs.Faults.{Fault, number_of}
+use Rattle.refusal.specs.Refusals.{number_of, unplaced}
+use Rattle.refusal.specs.Faults as specs
+use Rattle.refusal.specs.Faults.{Fault, fault}
+use Rattle.refusal.proofs.Refusals.{number-given}
 use Rattle.refusal.proofs.Rules.{first_plain, first-none, append-some, append-none}
+use Rattle.refusal.proofs.Faults.{given-some}
 use Rattle.laws.specs.Lists.{padded}
 use Rattle.octets.specs.Decimals.{value_of}
 use Rattle.octets.specs.Room.{part}
@@ -29,20 +37,22 @@ use Rattle.channel.specs.Record.{nobody, encode}
 use Rattle.channel.specs.Members.{roster, ordered}
 use Rattle.message.specs.declared.Message.{Message}
 use Rattle.message.specs.Content.{Content}
+use Rattle.message.specs.Grammar.{line_limit, param_limit}
 use Rattle.message.specs.Parts.{content_by, prefix_span, param_span}
 use Rattle.message.specs.Reading.{body_rules, line_rules, number_for, is_read, content_of, message_of}
 use Rattle.message.specs.Words.{words_of}
 use Rattle.message.proofs.Readings.{rules-numbered, number-none, read_small, refused-number}
-use Rattle.message.proofs.SpanContents.{prefix-held, param-held, message-holds}
+use Rattle.message.proofs.SpanContents.{params-count, prefix-held, param-held, message-holds}
 use Rattle.message.proofs.Prefixes.{prefix-there}
-use Rattle.sjoin.specs.declared.Told.{Told}
 use Rattle.sjoin.specs.Modes.{key_letter, limit_letter, modes_byte, argument_of}
 use Rattle.sjoin.specs.Entries.{member_of, named}
-use Rattle.sjoin.specs.Faults.{Site, fault_at}
-use Rattle.sjoin.specs.Join.{time_in, name_in, modes_in, list_in, arguments_in, fewest, most, good_count, source_rules, fault_in, join_rules, channel_in, span_place, line_place, told, span_rules, told_in, line_join_rules, told_by}
-use Rattle.sjoin.specs.Private.Scanning.{Parted, refused_by}
-use Rattle.sjoin.proofs.Faults.{fault-numbered}
-use Rattle.sjoin.proofs.Judged.{span-rules}
+use Rattle.sjoin.specs.Faults.{Site, site_at, fault_at}
+use Rattle.sjoin.specs.Join.{time_in, name_in, modes_in, list_in, arguments_in, fewest, most, good_count, source_rules, head_rules, fault_in, lead_rules, join_rules, channel_in, span_place, line_place, as_told, told, span_rules, told_in, line_join_rules, told_by}
+use Rattle.sjoin.specs.Private.Scanning.{placed, Parted, Tells}
+use Rattle.sjoin.specs.Private.Parts.{entries_in}
+use Rattle.sjoin.proofs.Faults.{fault-numbered, mode-number}
+use Rattle.sjoin.proofs.Listed.{list-room, entries-odd, entries-named}
+use Rattle.sjoin.proofs.Judged.{span-rules, span-long, source-counts, source-decides, head-decides, modes-decide, lead-decides, unlisted, listed}
 
 -- ---- the count of parameters
 -- a good count is neither too few nor too many
@@ -111,31 +121,108 @@ unfolding span_place
 place-some k text m e = rw e
 
 -- the number of a fault has the fault's place
-pub place-fault : (text : List ℕ) (m : Message) → span_place (number_of (fault_in (content_by text m))) text m ≡ fault_at (length text) m (fault_in (content_by text m))
+pub place-fault : (text : List ℕ) (m : Message) → span_place (specs.number_of (fault_in (content_by text m))) text m ≡ fault_at (length text) m (fault_in (content_by text m))
 place-fault text m = go (fault_in (content_by text m)) refl
   where
-    go : (o : Option (Fault Site)) → fault_in (content_by text m) ≡ o → span_place (number_of o) text m ≡ fault_at (length text) m o
+    go : (o : Option (Fault Site)) → fault_in (content_by text m) ≡ o → span_place (specs.number_of o) text m ≡ fault_at (length text) m o
     go none e = place_none accepted text m refl
     go (some f) e = place-some f.number text m (fault-numbered (modes_in (content_by text m)) (arguments_in (content_by text m)) f e) ∙ ap (fault_at (length text) m) e
 
 -- ---- the answer
-told_none : (k place : ℕ) (c : Content) → (k ≡ accepted → ⊥) → refused_by k place ≡ told k place c
-told_none k place c ne = rw (ne_eqb k accepted ne)
+-- an answer that refuses tells the number of its rule and its place, with the empty record
+told-refused : (f : Refused) (k place : ℕ) (c : Content) → number_of f.refusal ≡ k → f.place ≡ place → as_told (Err f) ≡ told k place c
+told-refused f k place c e p = rw (← e, ← p, ne_eqb (number_of f.refusal) accepted (number-given f.refusal))
 
 module _ (text : List ℕ) (m : Message) where
-  -- the number of a rule that applies is the answer to spans, with its place and the empty record
-  pub in-refused : (k : ℕ) → k ≡ first_of (span_rules text m) → (k ≡ accepted → ⊥) → refused_by k (span_place k text m) ≡ told_in text m
+  abbrev content : Content
+  content = content_by text m
+
+  -- the number of the first rule that applies is the answer to spans, with its place
+  refused-in : (f : Refused) → number_of f.refusal ≡ first_of (span_rules text m) → f.place ≡ span_place (number_of f.refusal) text m → as_told (Err f) ≡ told_in text m
   unfolding told_in
-  in-refused k e ne = told_none k (span_place k text m) (content_by text m) ne ∙ ap (λ (n : ℕ). told n (span_place n text m) (content_by text m)) e
+  refused-in f e p = told-refused f (first_of (span_rules text m)) (span_place (first_of (span_rules text m)) text m) content e (p ∙ ap (λ (n : ℕ). span_place n text m) e)
 
   -- so is one that has no place
-  pub in-plain : (k : ℕ) → k ≡ first_of (span_rules text m) → (k ≡ accepted → ⊥) → is_mode_number k ≡ false → refused_by k 0 ≡ told_in text m
-  in-plain k e ne p = ap (refused_by k) (sym (place_none k text m p)) ∙ in-refused k e ne
+  plain-in : (e : Refusal) → number_of e ≡ first_of (span_rules text m) → is_mode_number (number_of e) ≡ false → as_told (Err (unplaced e)) ≡ told_in text m
+  plain-in e is p = refused-in (unplaced e) is (sym (place_none (number_of e) text m p))
 
-  -- where none applies, the record of the channel is the answer to spans
-  pub in-record : (r : Record) → first_of (span_rules text m) ≡ accepted → r ≡ encode (channel_in (content_by text m)) → ◌≡◌ {A = Told} (record { number = accepted; place = 0; «record» = r }) (told_in text m)
-  unfolding told_in span_place
-  in-record r e f = rw (e, f)
+  -- a text that is too long
+  pub long-told : line_limit < length text → as_told (Err (unplaced LineTooLong)) ≡ told_in text m
+  long-told h = plain-in LineTooLong (span-long text m h) refl
+
+  module _ (short : length text ≤ line_limit) where
+    ruled : first_of (span_rules text m) ≡ first_of (join_rules content)
+    ruled = span-rules text m short
+
+    -- count or source
+    pub source-told : (e : Refusal) → number_of e ≡ first_of (source_rules content) → as_told (Err (unplaced e)) ≡ told_in text m
+    source-told e is =
+        plain-in e (is ∙ sym (ruled ∙ source-decides content (λ z. number-given e (is ∙ z)))) (ap is_mode_number is ∙ first_plain (source_rules content) refl)
+
+    module _ (s : first_of (source_rules content) ≡ accepted) where
+      -- the count is good, so that there is a list behind time, name and modes
+      counted : length m.params ≡ param_limit → (1 ≤ m.count) × (length content.params ≡ m.count - 1 + 1)
+      counted full = omega (arith, params-count text m full, bounds content (source-counts content s))
+
+      pub some-params : length m.params ≡ param_limit → 1 ≤ m.count
+      some-params full = (counted full).0
+
+      pub list-parted : length m.params ≡ param_limit → Parted content (m.count - 1)
+      list-parted full = parted content (m.count - 1) (source-counts content s) (counted full).1
+
+      -- time or name
+      pub head-told : (e : Refusal) → number_of e ≡ first_of (head_rules content) → as_told (Err (unplaced e)) ≡ told_in text m
+      head-told e is =
+          let ne : first_of (head_rules content) ≡ accepted → ⊥ = λ z. number-given e (is ∙ z) in
+          let l = head-decides content ne in
+          plain-in e (is ∙ sym (ruled ∙ lead-decides content s (λ z. ne (sym l ∙ z)) ∙ l)) (ap is_mode_number is ∙ first_plain (head_rules content) refl)
+
+      module _ (h : first_of (head_rules content) ≡ accepted) where
+        -- the modes
+        pub modes-told : (f : Refused) → some (fault (number_of f.refusal) f.place) ≡ placed (site_at (length text) m) (fault_in content) → as_told (Err f) ≡ told_in text m
+        unfolding placed
+        modes-told f is = go (fault_in content) refl is
+          where
+            go : (o : Option (Fault Site)) → fault_in content ≡ o → some (fault (number_of f.refusal) f.place) ≡ placed (site_at (length text) m) o → as_told (Err f) ≡ told_in text m
+            go none g e = given-some e
+            go (some x) g e =
+                let same : fault (number_of f.refusal) f.place ≡ fault x.number (site_at (length text) m x.place) = cc in
+                let number : number_of f.refusal ≡ x.number = ap (λ (y : Fault ℕ). y.number) same in
+                let l : first_of (lead_rules content) ≡ x.number = modes-decide content h ∙ mode-number content ∙ ap specs.number_of g in
+                refused-in f (number ∙ sym (ruled ∙ lead-decides content s (λ z. number-given f.refusal (number ∙ sym l ∙ z)) ∙ l))
+                (ap (λ (y : Fault ℕ). y.place) same ∙ sym (ap (λ (n : ℕ). span_place n text m) (number ∙ sym (ap specs.number_of g)) ∙ place-fault text m ∙ ap (fault_at (length text) m) g))
+
+        module _ (sound : none ≡ placed (site_at (length text) m) (fault_in content)) where
+          led-by : first_of (lead_rules content) ≡ accepted
+          unfolding placed
+          led-by = go (fault_in content) refl sound
+            where
+              go : (o : Option (Fault Site)) → fault_in content ≡ o → none ≡ placed (site_at (length text) m) o → first_of (lead_rules content) ≡ accepted
+              go none g e = modes-decide content h ∙ mode-number content ∙ ap specs.number_of g
+              go (some x) g e = given-some (sym e)
+
+          -- the list
+          pub list-told : None ≡ entries_in (list_in content) → as_told (Err (unplaced BadMembers)) ≡ told_in text m
+          list-told e = plain-in BadMembers (sym (ruled ∙ unlisted content s led-by (entries-odd (list_in content) e))) refl
+
+          -- or the record of the channel
+          module _ (entries : Roster) (full : length m.params ≡ param_limit) (e : Some entries ≡ entries_in (list_in content)) where
+            accepts : first_of (join_rules content) ≡ accepted
+            accepts = listed content s led-by (entries-named (list_in content) entries e).0
+
+            pub telling : (time : ℕ) → time ≡ value_of (time_in content) → Tells content (m.count - 1) time entries
+            telling time is =
+                let good = (entries-named (list_in content) entries e).0 in record {
+                  parted = list-parted full;
+                  passes = accepts;
+                  time = is;
+                  few = list-room (list_in content) good (omega (arith, list-small text m));
+                  named = (entries-named (list_in content) entries e).1;
+                }
+
+            pub record-told : (r : Record) → r ≡ encode (channel_in content) → as_told (Ok r) ≡ told_in text m
+            unfolding told_in span_place
+            record-told r is = rw (ruled ∙ accepts, is)
 
 -- no number of the reader is one of modes
 pub reader-plain : (line : List ℕ) → is_mode_number (number_for line) ≡ false
@@ -143,15 +230,17 @@ unfolding number_for line_rules body_rules
 reader-plain line = first_plain (line_rules line) refl
 
 module _ (line : List ℕ) where
-  -- a line that isn't read is answered by the reader's number, with the empty record
-  pub told-unread : (k : ℕ) → is_read line ≡ false → k ≡ number_for line → refused_by k 0 ≡ told_by line
-  unfolding told_by line_join_rules number_for
-  told-unread k h e =
-      let ne : k ≡ accepted → ⊥ = λ z. refused-number line h (sym e ∙ z) in
-      let p : line_place k line ≡ 0 = place_none k line (message_of line) (ap is_mode_number e ∙ reader-plain line) in
-      told_none k 0 (content_of line) ne
-      ∙ ap (λ (place : ℕ). told k place (content_of line)) (sym p)
-      ∙ ap (λ (n : ℕ). told n (line_place n line) (content_of line)) (e ∙ sym (append-some (join_rules (content_of line)) (line_rules line) (refused-number line h)))
+  -- a line that isn't read is answered by the reader's number
+  pub unread-number : is_read line ≡ false → first_of (line_join_rules line) ≡ number_for line
+  unfolding line_join_rules number_for
+  unread-number h = append-some (join_rules (content_of line)) (line_rules line) (refused-number line h)
+
+  pub told-unread : (e : Refusal) → is_read line ≡ false → number_of e ≡ number_for line → as_told (Err (unplaced e)) ≡ told_by line
+  unfolding told_by
+  told-unread e h is =
+      let k : number_of e ≡ first_of (line_join_rules line) = is ∙ sym (unread-number h) in
+      told-refused (unplaced e) (first_of (line_join_rules line)) (line_place (first_of (line_join_rules line)) line) (content_of line) k
+      (sym (place_none (first_of (line_join_rules line)) line (message_of line) (ap is_mode_number (unread-number h) ∙ reader-plain line)))
 
   module _ (h : is_read line ≡ true) where
     -- the reader's own rules don't apply to a line that is read

@@ -1,25 +1,31 @@
 -- Laws of what is wrong with modes: there is no fault exactly if the modes are good by document 01's words, and the number of a fault is one of theirs. Assumes nothing.
-use Prim.Native.Nat.{ℕ, suc, ◌+◌, ◌≤◌, ◌<◌}
+use Prim.Native.Nat.{ℕ, suc, ◌+◌, ◌-◌, ◌≤◌, ◌<◌}
 use mathlib.Core.Path.{◌≡◌, refl, sym, ap, ◌∙◌}
 use mathlib.Core.Bool.{Bool, true, false, not, cond, ◌&&◌, and-false, and-true, and_assoc, and_comm}
 use mathlib.Core.List.{List, [], ◌∷◌, map}
 use mathlib.Core.Option.{Option, some, none}
 use native.Mathlib.Omega.{arith}
-use lib.ListN.{length}
+use lib.ListN.{length, drop, get_or, length-take, length-drop}
 use lib.Dec.{eqb, leb, ltb}
 use borrow.Author.Tests.{eq-eqb, eqb-true, eqb-false, lt-ltb, le-ltb, leb-true, ltb-false}
 use Rattle.refusal.specs.Numbers.{accepted, unknown_mode, bad_key, bad_limit, mode_numbers, is_mode_number}
 use Rattle.refusal.specs.Rules.{◌when◌, first_of}
-use Rattle.refusal.specs.Faults.{Fault, number_of, first_fault}
-use Rattle.refusal.proofs.Faults.{absent, absent-append, absent_none, none-absent, Every, every_append, every_given}
+use Rattle.refusal.specs.Faults.{Fault, fault, number_of, first_fault}
+use Rattle.refusal.proofs.Faults.{absent, absent-append, absent_none, none-absent, given-some, append-given, append-passed, Every, every_append, every_given}
 use Rattle.laws.specs.Lists.{all, starts_with}
 use Rattle.laws.proofs.Bools.{and_left, and_right, and-swap, eqb_swap}
+use Rattle.octets.specs.Room.{part}
+use Rattle.message.specs.declared.Span.{Span}
+use Rattle.message.specs.declared.Message.{Message}
+use Rattle.message.specs.Grammar.{param_limit}
 use Rattle.message.specs.Content.{Content}
+use Rattle.message.specs.Parts.{content_by, param_span}
+use Rattle.message.proofs.SpanContents.{params-count, param-held, param-span-some}
 use Rattle.channel.specs.Modes.{plus}
 use Rattle.sjoin.specs.Modes.{key_letter, letters_of, is_mode, lacks, once, good_letters, parametered, good_argument, good_arguments, is_modes}
-use Rattle.sjoin.specs.Faults.{Site, Letter, Param, End, arguments_at, letter_checks, own_checks, argument_number, argument_checks, count_checks, modes_checks, modes_fault}
+use Rattle.sjoin.specs.Faults.{Site, Letter, Param, End, modes_at, arguments_at, site_at, letter_checks, own_checks, argument_number, argument_checks, count_checks, modes_checks, modes_fault}
 use Rattle.sjoin.specs.Join.{modes_in, arguments_in, fault_in, mode_rules}
-use Rattle.sjoin.specs.Private.Scanning.{letter_place}
+use Rattle.sjoin.specs.Private.Scanning.{letter_place, placed, Parted}
 
 -- ---- the letters
 -- none of some letters is one of others
@@ -149,9 +155,6 @@ fault-numbered modes args f e =
     let letters = parametered (letters_of modes) in
     every_given Numbered (modes_checks modes args) f (every_append Numbered (own_checks modes) (count_checks letters args) (sign-numbered modes) (count-numbered letters args)) e
 
-pub letter-numbered : (modes : List ℕ) (f : Fault Site) → first_fault (own_checks modes) ≡ some f → is_mode_number f.number ≡ true
-letter-numbered modes f e = every_given Numbered (own_checks modes) f (sign-numbered modes) e
-
 -- one of theirs is no other number
 mode-bounds : (n : ℕ) → is_mode_number n ≡ true → (unknown_mode ≤ n) × (n ≤ bad_limit)
 mode-bounds n e = (leb-true unknown_mode n (and_left (leb unknown_mode n) (leb n bad_limit) e), leb-true n bad_limit (and_right (leb unknown_mode n) (leb n bad_limit) e))
@@ -220,3 +223,59 @@ letter-found modes f e = go f.place (every_given _ (own_checks modes) f (sign-wi
     go (Letter i) h = (refl, h)
     go (Param k) h = absurd h
     go End h = absurd h
+
+-- ---- the letters' faults, in a text
+-- where one is told it stands in the modes, or they are empty
+placed-within : (modes : List ℕ) (f : Fault ℕ) → some f ≡ placed letter_place (first_fault (own_checks modes)) → f.place < suc (length (letters_of modes))
+unfolding placed
+placed-within modes f e = go (first_fault (own_checks modes)) refl e
+  where
+    go : (o : Option (Fault Site)) → first_fault (own_checks modes) ≡ o → some f ≡ placed letter_place o → f.place < suc (length (letters_of modes))
+    go none g h = given-some h
+    go (some x) g h = let same : f ≡ fault x.number (letter_place x.place) = cc in omega (arith, ap (λ (y : Fault ℕ). y.place) same, (letter-found modes x g).1)
+
+module _ (text : List ℕ) (m : Message) (last : ℕ) (p : Parted (content_by text m) last) (full : length m.params ≡ param_limit) (d : Span) (modes : List ℕ) (is : modes ≡ modes_in (content_by text m)) where
+  abbrev start : ℕ
+  start = (get_or m.params modes_at d).start
+
+  begins : get_or m.params modes_at d ≡ param_span (length text) m modes_at
+  begins = let n = params-count text m full in param-span-some text m modes_at d (omega (arith, n, p.count, p.behind)) (omega (arith, full))
+
+  -- a fault of the letters stands within it
+  pub letters-inside : (f : Fault ℕ) → some f ≡ placed letter_place (first_fault (own_checks modes)) → (limit : ℕ) → start < limit → length text < limit → start + f.place < limit
+  unfolding placed part
+  letters-inside f e limit h g =
+      let s = get_or m.params modes_at d in
+      let held = ap (λ (l : List ℕ). length l) (is ∙ sym (ap (λ (x : Span). part text x.start x.end) begins ∙ param-held text m modes_at)) in
+      let at = placed-within modes f e in
+      omega (arith, h, g, held, at, length-take (s.end - s.start) (drop s.start text), length-drop s.start text, length-drop 1 modes)
+
+  -- a fault of the letters is that of the modes
+  pub letters-decide : (f : Fault ℕ) → some f ≡ placed letter_place (first_fault (own_checks modes)) → some (fault f.number (start + f.place)) ≡ placed (site_at (length text) m) (fault_in (content_by text m))
+  unfolding placed modes_checks
+  letters-decide f e = go (first_fault (own_checks modes)) refl e
+    where
+      go : (o : Option (Fault Site)) → first_fault (own_checks modes) ≡ o → some f ≡ placed letter_place o → some (fault f.number (start + f.place)) ≡ placed (site_at (length text) m) (fault_in (content_by text m))
+      go none g h = given-some h
+      go (some x) g h =
+          let c = content_by text m in
+          let found = (letter-found modes x g).0 in
+          let at : start + letter_place x.place ≡ site_at (length text) m x.place =
+          ap (λ (s : Span). s.start + letter_place x.place) begins ∙ ap (site_at (length text) m) (sym found) in
+          let same : f ≡ fault x.number (letter_place x.place) = cc in
+          ap (λ (g : Fault ℕ). some (fault g.number (start + g.place))) same ∙ rw (append-given (own_checks (modes_in c)) (count_checks (parametered (letters_of (modes_in c))) (arguments_in c)) x (ap (λ (l : List ℕ). first_fault (own_checks l)) (sym is) ∙ g), at)
+
+  -- and where they have none, what follows decides
+  pub letters-pass : none ≡ placed letter_place (first_fault (own_checks modes))
+      → placed (site_at (length text) m) (first_fault (count_checks (parametered (letters_of modes)) (arguments_in (content_by text m)))) ≡ placed (site_at (length text) m) (fault_in (content_by text m))
+  unfolding placed modes_checks
+  letters-pass e = go (first_fault (own_checks modes)) refl e
+    where
+      go : (o : Option (Fault Site)) → first_fault (own_checks modes) ≡ o → none ≡ placed letter_place o
+          → placed (site_at (length text) m) (first_fault (count_checks (parametered (letters_of modes)) (arguments_in (content_by text m)))) ≡ placed (site_at (length text) m) (fault_in (content_by text m))
+      go none g h =
+          let c = content_by text m in
+          ap (placed (site_at (length text) m))
+          (ap (λ (l : List ℕ). first_fault (count_checks (parametered (letters_of l)) (arguments_in c))) is
+          ∙ sym (append-passed (own_checks (modes_in c)) (count_checks (parametered (letters_of (modes_in c))) (arguments_in c)) (ap (λ (l : List ℕ). first_fault (own_checks l)) (sym is) ∙ g)))
+      go (some x) g h = given-some (sym h)

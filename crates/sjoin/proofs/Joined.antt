@@ -1,5 +1,5 @@
 -- What is known of a line that no rule refuses: each test is passed, and key and limit fit their letters. Assumes nothing.
-use Prim.Native.Nat.{ℕ, ◌≤◌}
+use Prim.Native.Nat.{ℕ, suc}
 use mathlib.Core.Path.{◌≡◌, refl, sym, ap, ◌∙◌}
 use mathlib.Core.Bool.{Bool, true, false, true≢false, ◌&&◌}
 use mathlib.Core.Logic.{◌⊎◌, inl, inr}
@@ -8,6 +8,7 @@ use native.Mathlib.Omega.{arith}
 use lib.ListN.{length}
 use lib.Dec.{eqb}
 use borrow.Author.Tests.{not-false, eqb-true}
+use Rattle.std.specs.Prelude.{unwrap_or}
 use Rattle.refusal.specs.Numbers.{accepted}
 use Rattle.refusal.specs.Rules.{first_of}
 use Rattle.refusal.proofs.Rules.{first-none, both-none}
@@ -15,14 +16,12 @@ use Rattle.laws.specs.Lists.{all, same}
 use Rattle.octets.specs.Decimals.{zero_digit, is_decimal, value_from, value_of}
 use Rattle.laws.proofs.Bools.{and_left, and_right}
 use Rattle.names.specs.Names.{is_channel, is_server_id}
-use Rattle.channel.specs.Limits.{key_limit}
 use Rattle.channel.specs.Modes.{place_among}
-use Rattle.channel.proofs.Keys.{key-length}
 use Rattle.message.specs.Content.{Content, prefix_is}
-use Rattle.sjoin.specs.Modes.{key_letter, limit_letter, letters_of, lacks, has_parameter, parametered, is_limit, good_letters, good_argument, good_arguments, argument_among, argument_of, is_modes}
+use Rattle.sjoin.specs.Modes.{limit_letter, letters_of, lacks, has_parameter, parametered, is_limit, good_letters, good_argument, good_arguments, argument_among, argument_of, is_modes}
 use Rattle.sjoin.specs.Entries.{good_entries}
 use Rattle.sjoin.specs.Join.{time_in, name_in, modes_in, list_in, arguments_in, good_count, is_time, head_rules, mode_rules, join_rules}
-use Rattle.sjoin.specs.Private.Scanning.{limit_in}
+use Rattle.sjoin.specs.Private.Parts.{limit_in}
 use Rattle.sjoin.proofs.Faults.{good-modes, mode-none}
 use Rattle.sjoin.proofs.Judged.{modes-numbered, heads}
 
@@ -95,14 +94,20 @@ pub argument-suits : (modes : List ℕ) (args : List (List ℕ)) (letter : ℕ) 
 unfolding is_modes argument_of
 argument-suits modes args letter has h = suits letter has (letters_of modes) args (and_right (good_letters modes) (good_arguments (parametered (letters_of modes)) args) h)
 
--- the key keeps to its room
-pub key-short : (s k : List ℕ) → Suits key_letter s k → length k ≤ key_limit
-unfolding good_argument
-key-short s k (inl g) = rw g.1 (omega arith)
-key-short s k (inr g) = key-length k g.1
+-- and there are as many as letters that have one
+exact : (letters : List ℕ) (args : List (List ℕ)) → good_arguments letters args ≡ true → length letters ≡ length args
+unfolding good_arguments
+exact [] [] h = refl
+exact [] (a ∷ args) h = absurd (true≢false (sym h))
+exact (x ∷ s) [] h = absurd (true≢false (sym h))
+exact (x ∷ s) (a ∷ args) h = ap suc (exact s args (and_right (good_argument x a) (good_arguments s args) h))
+
+pub arguments-exact : (modes : List ℕ) (args : List (List ℕ)) → is_modes modes args ≡ true → length (parametered (letters_of modes)) ≡ length args
+unfolding is_modes
+arguments-exact modes args h = exact (parametered (letters_of modes)) args (and_right (good_letters modes) (good_arguments (parametered (letters_of modes)) args) h)
 
 -- the limit is the value of its text
-pub limit-read : (s l : List ℕ) → Suits limit_letter s l → limit_in l ≡ value_of l
+pub limit-read : (s l : List ℕ) → Suits limit_letter s l → unwrap_or (limit_in l) 0 ≡ value_of l
 unfolding good_argument limit_in is_limit is_decimal value_from
 limit-read s l (inl g) = rw g.1
 limit-read s l (inr g) = rw g.1

@@ -47,34 +47,10 @@ unfolding join_rules mode_rules
 rules-numbered c = refl
 
 -- ---- the time
--- a text that is read as a number is a time, and the number its value
-pub time-value : (s : List ℕ) (n : ℕ) → decimal_up_to time_limit s ≡ Some n → (is_time s ≡ true) × (value_of s ≡ n)
-unfolding is_time
-time-value s n e =
-    let r = decimal-read time_limit n s e in
-    (rw (r.1, decimal-digits n, value-digits n, le-leb n time_limit r.0), rw r.1 (value-digits n))
-
--- a text that isn't read is no time
-pub time-none : (s : List ℕ) → decimal_up_to time_limit s ≡ None → is_time s ≡ false
-unfolding decimal_up_to is_time
-time-none s e = go (is_decimal s) refl (leb (value_of s) time_limit) refl
-  where
-    go : (t : Bool) → is_decimal s ≡ t → (u : Bool) → leb (value_of s) time_limit ≡ u → is_time s ≡ false
-    go true f true g =
-        let d : decimal_up_to time_limit s ≡ Some (value_of s) = rw f (value_in time_limit s (leb-true (value_of s) time_limit g)) in
-        let z : ◌≡◌ {A = ℕ} 0 1 = cc in absurd (omega arith)
-    go true f false g = rw (f, g)
-    go false f u g = rw f
-
--- a time says its value
-pub time-said : (s : List ℕ) → is_time s ≡ true → time_of s ≡ value_of s
-unfolding time_of
-time-said s t = rw t
-
 -- one that is good is `0` exactly if its value is 0
-pub time-zero : (s : List ℕ) → is_time s ≡ true → same s (zero_digit ∷ []) ≡ eqb (value_of s) 0
+pub time_zero : (s : List ℕ) → is_time s ≡ true → same s (zero_digit ∷ []) ≡ eqb (value_of s) 0
 unfolding is_time value_from
-time-zero s t =
+time_zero s t =
     let d = digits_value s (and_left (is_decimal s) _ t) in
     both_ways (same s (zero_digit ∷ [])) (eqb (value_of s) 0)
     (λ e. eq-eqb (value_of s) 0 (ap value_of (same_true s (zero_digit ∷ []) e)))
@@ -83,7 +59,7 @@ time-zero s t =
 -- and else it is from 1 up to the last
 pub time-bounds : (s : List ℕ) → is_time s ≡ true → same s (zero_digit ∷ []) ≡ false → (1 ≤ value_of s) × (value_of s ≤ time_limit)
 unfolding is_time
-time-bounds s t z = (omega (arith, eqb-false (value_of s) 0 (sym (time-zero s t) ∙ z)), leb-true (value_of s) time_limit (and_right (is_decimal s) _ t))
+time-bounds s t z = (omega (arith, eqb-false (value_of s) 0 (sym (time_zero s t) ∙ z)), leb-true (value_of s) time_limit (and_right (is_decimal s) _ t))
 
 -- ---- the numbers of count and source, in their order
 module _ (c : Content) where
@@ -116,27 +92,9 @@ module _ (c : Content) where
   source-counts e = not-false _ (first-none _ _ (λ z. omega arith) e).0
 
 -- ---- those of time and name
-module _ (c : Content) where
-  -- a bad time gives its number
-  pub untimed : is_time (time_in c) ≡ false → bad_time ≡ first_of (head_rules c)
-  untimed e = sym (stop _ _ (ap not e))
-
-  module _ (t : is_time (time_in c) ≡ true) where
-    -- a time that is 0 gives its number
-    pub zero-time : value_of (time_in c) ≡ 0 → zero_time ≡ first_of (head_rules c)
-    zero-time e = sym (skip _ _ (ap not t) ∙ stop _ _ (time-zero (time_in c) t ∙ eq-eqb (value_of (time_in c)) 0 e))
-
-    module _ (z : value_of (time_in c) ≡ 0 → ⊥) where
-      later : same (time_in c) (zero_digit ∷ []) ≡ false
-      later = time-zero (time_in c) t ∙ ne_eqb (value_of (time_in c)) 0 z
-
-      -- behind a good time a bad name gives its number
-      pub unnamed : is_channel (name_in c) ≡ false → bad_name ≡ first_of (head_rules c)
-      unnamed e = sym (skip _ _ (ap not t) ∙ skip _ _ later ∙ stop _ _ (ap not e))
-
-      -- where time and name are good, no rule of theirs applies
-      pub headed : is_channel (name_in c) ≡ true → accepted ≡ first_of (head_rules c)
-      headed e = sym (skip _ _ (ap not t) ∙ skip _ _ later ∙ skip _ _ (ap not e) ∙ first-nil)
+-- where both are good, no rule of theirs applies
+pub headed : (c : Content) → is_time (time_in c) ≡ true → (value_of (time_in c) ≡ 0 → ⊥) → is_channel (name_in c) ≡ true → accepted ≡ first_of (head_rules c)
+headed c t z e = sym (skip _ _ (ap not t) ∙ skip _ _ (time_zero (time_in c) t ∙ ne_eqb (value_of (time_in c)) 0 z) ∙ skip _ _ (ap not e) ∙ first-nil)
 
 -- What the rules of time and name test, each passed.
 pub record Heads (c : Content) : Type 0 where

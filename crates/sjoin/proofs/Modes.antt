@@ -1,14 +1,16 @@
 -- Laws of mode letters: a byte of the modes seen so far tells whether a letter comes again, and their bits united are the modes' byte. Assumes nothing.
 use Prim.Native.Nat.{ℕ, ◌+◌, ◌≤◌, ◌<◌}
 use mathlib.Core.Path.{◌≡◌, refl, sym, ap, ◌∙◌}
-use mathlib.Core.Bool.{Bool, true, false, not, cond, or_comm}
+use mathlib.Core.Bool.{Bool, true, false, not, cond, or_comm, and-true}
 use mathlib.Core.List.{List, [], ◌∷◌}
 use mathlib.Core.Option.{Option, some, none}
 use native.Mathlib.Omega.{arith}
 use lib.Bits.{bit_or, or_zero_l, or_zero_r}
-use lib.ListN.{length, drop, get_or, drop_of_length-le}
+use lib.ListN.{length, take, drop, get_or, drop_of_length-le}
 use lib.Dec.{eqb}
 use borrow.Author.Tests.{eq-eqb, eqb-true, lt-ltb, le-ltb, ltb-true}
+use Rattle.std.specs.List.{fold}
+use Rattle.std.specs.Cmp.Lexicographic.{pointwise}
 use Rattle.refusal.specs.Numbers.{unknown_mode, mode_twice}
 use Rattle.refusal.specs.Faults.{Fault, fault, first_fault}
 use Rattle.laws.specs.Lists.{all, starts_with}
@@ -18,9 +20,9 @@ use Rattle.laws.proofs.Lists.{drop-step}
 use Rattle.laws.proofs.Joins.{joining-bits}
 use Rattle.channel.specs.Modes.{letters, mode_count, has_mode, with_mode, mode_place, plus}
 use Rattle.channel.proofs.Letters.{has-no-mode, has-with, with-union, place_found}
-use Rattle.sjoin.specs.Modes.{is_mode, lacks, modes_byte}
+use Rattle.sjoin.specs.Modes.{letters_of, is_mode, lacks, modes_byte}
 use Rattle.sjoin.specs.Faults.{Site, Letter, letter_checks, own_checks}
-use Rattle.sjoin.specs.Private.Scanning.{seen_checks}
+use Rattle.sjoin.specs.Private.Scanning.{seen_checks, letter_place, placed}
 
 -- ---- a letter's place
 -- a mode's place is no other letter's
@@ -61,52 +63,72 @@ seen-letters (x ∷ s) seen i before h = go (is_mode x) refl (λ m. seen-letters
     go false e ih = rw e
 
 -- ---- the first letter at fault
--- without '+' in front it is the first byte
+-- whether a mark stands in front, as the code tests it
+pub begins : (mark : ℕ) (s : List ℕ) → pointwise eqb (take 1 s) (mark ∷ []) ≡ starts_with mark s
+unfolding starts_with
+begins mark [] = refl
+begins mark (x ∷ s) = and-true (eqb x mark)
+
+-- without it that is the first byte
 pub sign-missing : (s : List ℕ) → starts_with plus s ≡ false → first_fault (own_checks s) ≡ some (fault unknown_mode (Letter 0))
 unfolding own_checks first_fault
 sign-missing s e = rw e
 
--- behind '+' it is the first that is no mode, or a mode that was seen
+-- behind it the first that is no mode, or a mode that was seen
 pub sign-seen : (s : List ℕ) → starts_with plus s ≡ true → first_fault (own_checks s) ≡ first_fault (seen_checks 0 1 (drop 1 s))
 unfolding own_checks first_fault
 sign-seen s e = rw e (sym (seen-letters (drop 1 s) 0 1 [] sees-none))
 
-module _ (s : List ℕ) (i seen : ℕ) where
-  -- past the end no letter is left that could be at fault
-  pub seen-past : length s ≤ i → first_fault (seen_checks seen i (drop i s)) ≡ none
-  unfolding seen_checks first_fault
-  seen-past h = rw (drop_of_length-le s h)
+-- the first fault of the letters from place i on, behind those seen; they stand behind '+'
+abbrev pub left : List ℕ → ℕ → ℕ → Option (Fault Site)
+left letters i seen = first_fault (seen_checks seen (i + 1) (drop i letters))
 
-  module _ (mode : ℕ) (h : i < length s) (is : mode ≡ mode_place (get_or s i 0)) where
+module _ (modes : List ℕ) where
+  -- where the modes begin with another byte it is at fault
+  pub unsigned : pointwise eqb (take 1 modes) (plus ∷ []) ≡ false → some (fault unknown_mode 0) ≡ placed letter_place (first_fault (own_checks modes))
+  unfolding placed
+  unsigned e = rw (sign-missing modes (sym (begins plus modes) ∙ e))
+
+  -- and else a letter behind '+' may be
+  pub begun : (letters : List ℕ) → pointwise eqb (take 1 modes) (plus ∷ []) ≡ true → letters ≡ drop 1 modes → left letters 0 0 ≡ first_fault (own_checks modes)
+  begun letters e is = rw is (sym (sign-seen modes (sym (begins plus modes) ∙ e)))
+
+module _ (letters : List ℕ) (i seen : ℕ) (given : Option (Fault Site)) (is : left letters i seen ≡ given) where
+  -- past the end none is left that could be at fault
+  pub over : length letters ≤ i → none ≡ placed letter_place given
+  unfolding seen_checks first_fault placed
+  over h = rw (← is, drop_of_length-le letters h)
+
+  module _ (mode : ℕ) (h : i < length letters) (stands : mode ≡ mode_place (get_or letters i 0)) where
     -- a byte that is no mode is unknown
-    pub seen_other : mode_count ≤ mode → first_fault (seen_checks seen i (drop i s)) ≡ some (fault unknown_mode (Letter i))
-    unfolding seen_checks first_fault
-    seen_other k = rw (drop-step s i 0 h, ← is, le-ltb mode mode_count k)
+    pub unknown : mode_count ≤ mode → some (fault unknown_mode (i + 1)) ≡ placed letter_place given
+    unfolding seen_checks first_fault placed
+    unknown k = rw (← is, drop-step letters i 0 h, ← stands, le-ltb mode mode_count k)
 
     -- a mode that was seen stands there twice
-    pub seen_twice : mode < mode_count → has_mode seen mode ≡ true → first_fault (seen_checks seen i (drop i s)) ≡ some (fault mode_twice (Letter i))
-    unfolding seen_checks first_fault
-    seen_twice k e = rw (drop-step s i 0 h, ← is, lt-ltb mode mode_count k, e)
+    pub twice : mode < mode_count → has_mode seen mode ≡ true → some (fault mode_twice (i + 1)) ≡ placed letter_place given
+    unfolding seen_checks first_fault placed
+    twice k e = rw (← is, drop-step letters i 0 h, ← stands, lt-ltb mode mode_count k, e)
 
     -- behind a mode that wasn't seen the others decide, with that one seen
-    pub seen-go : mode < mode_count → has_mode seen mode ≡ false → first_fault (seen_checks seen i (drop i s)) ≡ first_fault (seen_checks (with_mode seen mode) (i + 1) (drop (i + 1) s))
+    pub goes : mode < mode_count → has_mode seen mode ≡ false → left letters (i + 1) (with_mode seen mode) ≡ given
     unfolding seen_checks first_fault
-    seen-go k e = rw (drop-step s i 0 h, ← is, lt-ltb mode mode_count k, e)
+    goes k e = sym (sym is ∙ rw (drop-step letters i 0 h, ← stands, lt-ltb mode mode_count k, e))
+
+-- all that a reader of the letters needs
+pub ruleset judging = (unsigned, begun, over, unknown, twice, goes)
 
 -- ---- the modes' byte
 -- the bits of letters, united
 abbrev pub bits : List ℕ → ℕ
 bits s = total bit_or 0 (λ x. with_mode 0 (mode_place x)) s
 
--- the bits of the letters after '+' are the modes' byte
-pub bits-first : (s : List ℕ) → bit_or 0 (bits (drop 1 s)) ≡ modes_byte s
+-- added one after the other to some bits, they are those of all
+pub bits-folded : (s : List ℕ) (m : ℕ) → fold (λ b x. with_mode b (mode_place x)) m s ≡ bit_or m (bits s)
+bits-folded [] m = sym (or_zero_r m)
+bits-folded (x ∷ s) m = bits-folded s (with_mode m (mode_place x)) ∙ rw (with-union m (mode_place x)) (joining-bits.assoc m (with_mode 0 (mode_place x)) (bits s))
+
+-- and those of the letters after '+' are the modes' byte
+pub bits_all : (modes letters : List ℕ) → letters ≡ letters_of modes → fold (λ b x. with_mode b (mode_place x)) 0 letters ≡ modes_byte modes
 unfolding modes_byte
-bits-first s = or_zero_l (bits (drop 1 s))
-
--- past the end there is nothing to add
-pub bits-past : (s : List ℕ) (i m : ℕ) → length s ≤ i → bit_or m (bits (drop i s)) ≡ m
-bits-past s i m h = rw (drop_of_length-le s {i = i} h) (or_zero_r m)
-
--- a letter's bit, set first, counts as one of those from the letter on
-pub bits-go : (s : List ℕ) (i m : ℕ) → i < length s → bit_or (with_mode m (mode_place (get_or s i 0))) (bits (drop (i + 1) s)) ≡ bit_or m (bits (drop i s))
-bits-go s i m h = rw (drop-step s i 0 h, with-union m (mode_place (get_or s i 0))) (joining-bits.assoc m (with_mode 0 (mode_place (get_or s i 0))) (bits (drop (i + 1) s)))
+bits_all modes letters is = rw is (bits-folded (letters_of modes) 0 ∙ or_zero_l (bits (letters_of modes)))

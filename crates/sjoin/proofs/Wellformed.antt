@@ -28,7 +28,7 @@ use Rattle.channel.proofs.Statuses.{stays-by_id}
 use Rattle.channel.proofs.Proper.{Proper, member-passes, both-statuses, encode-well}
 use Rattle.message.specs.Grammar.{line_limit}
 use Rattle.message.specs.Content.{Content}
-use Rattle.message.specs.Reading.{number_for, is_read, content_of, message_of}
+use Rattle.message.specs.Reading.{is_read, content_of, message_of}
 use Rattle.message.proofs.Readings.{read_small, refused-number}
 use Rattle.message.proofs.SpanContents.{message-holds}
 use Rattle.message.specs.Words.{words_of}
@@ -36,8 +36,7 @@ use Rattle.sjoin.specs.Modes.{key_letter, limit_letter, letters_of, is_mode, lac
 use Rattle.sjoin.specs.Entries.{past, status_of, is_entry, member_of, good_entries, named}
 use Rattle.sjoin.specs.Join.{time_in, modes_in, list_in, arguments_in, join_rules, channel_in, told_by}
 use Rattle.sjoin.proofs.Modes.{bits, same_place}
-use Rattle.sjoin.specs.declared.Told.{Told}
-use Rattle.sjoin.proofs.Answers.{list-small, told-unread, told-number, told-says}
+use Rattle.sjoin.proofs.Answers.{list-small, unread-number, told-number, told-says}
 use Rattle.sjoin.proofs.Limits.{limit-bounds}
 use Rattle.sjoin.proofs.Listed.{list-entries, list-room}
 use Rattle.sjoin.proofs.Judged.{time-bounds}
@@ -139,8 +138,9 @@ read-well line h none = encode-well (channel_in (content_of line)) (read-proper 
 
 -- So the record told of a line that is accepted is well formed.
 pub line-well : (line : List ℕ) → (told_by line).number ≡ accepted → well_formed (told_by line).«record» ≡ true
+unfolding told_by
 line-well line e = go (is_read line) refl
   where
     go : (t : Bool) → is_read line ≡ t → well_formed (told_by line).«record» ≡ true
     go true h = rw (told-says line h e) (read-well line h (sym (told-number line h) ∙ e))
-    go false h = absurd (refused-number line h (ap (λ (t : Told). t.number) (told-unread line (number_for line) h refl) ∙ e))
+    go false h = absurd (refused-number line h (sym (unread-number line h) ∙ e))

@@ -1,23 +1,25 @@
 -- What an SJOIN line says: `:sid SJOIN time name modes [key] [limit] list`. The numbers 12 to 18 of document 01, with 32 to 36 in the place of 17 (document 02, §6), and the
 -- channel that it tells of.
-use Rattle.std.specs.Prelude.{ℕ, ◌-◌, Bool, not, cond, ◌&&◌, List, [], ◌∷◌, ◌++◌, map, length, take, drop, get_or, eqb, leb, ltb}
+use Rattle.std.specs.Prelude.{ℕ, ◌-◌, Bool, not, cond, ◌&&◌, List, [], ◌∷◌, ◌++◌, map, length, take, drop, get_or, eqb, leb, ltb, Result, Ok, Err}
 use Rattle.std.proofs.Math.Option.{Option}
 use Rattle.refusal.specs.Numbers.{accepted, line_too_long, wrong_param_count, bad_source, bad_time, zero_time, bad_name, bad_members, mode_numbers, is_mode_number}
 use Rattle.refusal.specs.Rules.{Rule, ◌when◌, first_of}
 use Rattle.refusal.specs.Faults.{Fault, number_of}
+use Rattle.refusal.specs.Refusals.{number_of as refusal_number}
+use Rattle.refusal.specs.declared.Fault.{Fault as Refused}
 use Rattle.laws.specs.Lists.{same}
 use Rattle.octets.specs.Decimals.{zero_digit, is_decimal, value_of}
 use Rattle.names.specs.Names.{is_channel, is_server_id}
 use Rattle.channel.specs.Limits.{time_limit}
 use Rattle.channel.specs.Channel.{Channel}
 use Rattle.channel.specs.Members.{ordered}
+use Rattle.channel.specs.declared.Record.{Record}
 use Rattle.channel.specs.Record.{encode, empty_record}
 use Rattle.message.specs.declared.Message.{Message}
 use Rattle.message.specs.Grammar.{line_limit}
 use Rattle.message.specs.Content.{Content, prefix_is}
 use Rattle.message.specs.Parts.{content_by}
 use Rattle.message.specs.Reading.{line_rules, content_of, message_of}
-use Rattle.sjoin.specs.declared.Told.{Told}
 use Rattle.sjoin.specs.Modes.{key_letter, limit_letter, modes_byte, argument_of}
 use Rattle.sjoin.specs.Faults.{Site, modes_at, arguments_at, modes_fault, fault_at}
 use Rattle.sjoin.specs.Entries.{good_entries, named}
@@ -55,10 +57,6 @@ good_count c = leb fewest (length c.params) && leb (length c.params) most
 -- decimal without leading zeros, and not too large
 unfoldable pub is_time : List ℕ → Bool
 is_time s = is_decimal s && leb (value_of s) time_limit
-
--- the time that some bytes say, 0 where they say none
-unfoldable pub time_of : List ℕ → ℕ
-time_of s = cond (is_time s) (value_of s) 0
 
 -- of count and source: 12 and 13
 abbrev pub source_rules : Content → List Rule
@@ -117,6 +115,18 @@ abbrev pub line_place : ℕ → List ℕ → ℕ
 line_place number line = span_place number line (message_of line)
 
 -- ---- the answer
+-- The number of a refusal, or `accepted`; the place in the line of what is wrong with its modes, 0 with any other number; and the record that the line tells of, or the
+-- empty one.
+pub record Told : Type 0 where
+  pub number : ℕ
+  pub place : ℕ
+  pub «record» : Record
+
+-- what an answer tells
+abbrev pub as_told : Result Record Refused → Told
+as_told (Ok r) = record { number = accepted; place = 0; «record» = r }
+as_told (Err f) = record { number = refusal_number f.refusal; place = f.place; «record» = empty_record }
+
 -- a number, its place, and the record of the channel, or the empty one
 abbrev pub told : ℕ → ℕ → Content → Told
 told k place c = record {

@@ -1,109 +1,91 @@
 // The modes of an SJOIN line: their letters, and which of them have a parameter.
-ghost use Rattle.std.specs.Prelude.{◌≡◌};
+ghost use Rattle.std.specs.Prelude.{◌≡◌, cond};
+ghost use Rattle.refusal.specs.Numbers.{accepted};
 ghost use Rattle.refusal.specs.Faults.{first_fault};
-ghost use Rattle.laws.specs.Lists.{starts_with};
-ghost use Rattle.sjoin.specs.Modes.{has_parameter, modes_byte, good_argument};
+ghost use Rattle.refusal.specs.Refusals.{answered, told_fault};
+ghost use Rattle.channel.specs.Modes.{with_mode, mode_place};
+ghost use Rattle.sjoin.specs.Modes.{letters_of, has_parameter, modes_byte, good_argument};
 ghost use Rattle.sjoin.specs.Faults.{own_checks, argument_number};
-ghost use Rattle.sjoin.specs.Private.Scanning.{limit_in, letter_verdict};
+ghost use Rattle.sjoin.specs.Private.Scanning.{letter_place, placed};
+ghost use Rattle.sjoin.specs.Private.Parts.{limit_in};
 
-use crate::Verdict;
 use channel::Record;
 use channel::key::is_key;
 use channel::modes::{MODES, has_mode, mode_place, with_mode};
 use octets::decimals::decimal;
-use refusal::{ACCEPTED, BAD_KEY, BAD_LIMIT, MODE_TWICE, UNKNOWN_MODE};
-
-// Whether the first byte is the mark.
-pub(crate) fn starts_with(s: &[u8], mark: u8) -> bool
-    ensures { result ≡ starts_with mark s.now }
-{
-    if s.len() == 0 {
-        return false;
-    }
-    s[0] == mark
-}
+use refusal::{Fault, Refusal};
 
 // The first letter at fault, by its place in the modes: '+' stands first, then letters of the eight, each at most once.
-pub(crate) fn letter_fault(modes: &[u8]) -> Verdict
-    ensures { result ≡ letter_verdict (first_fault (own_checks modes.now)) }
+#[tactic(auto, using(crate::proofs::Modes::judging))]
+pub(crate) fn check_letters(modes: &[u8]) -> Result<(), Fault>
+    ensures { told_fault result ≡ placed letter_place (first_fault (own_checks modes.now)) }
 {
-    if !starts_with(modes, b'+') {
-        return Verdict {
-            number: UNKNOWN_MODE,
-            place: 0,
-        };
-    }
-    let mut seen = 0u8;
-    let mut i = 1;
-    while i < modes.len() {
-        let mode = mode_place(modes[i]);
+    let Some(letters) = modes.strip_prefix(b"+") else {
+        return Err(Refusal::UnknownMode.at(0));
+    };
+    let mut seen = 0;
+    for (i, letter) in letters.iter().enumerate() {
+        let mode = mode_place(*letter);
         if MODES <= mode {
-            return Verdict {
-                number: UNKNOWN_MODE,
-                place: i,
-            };
+            return Err(Refusal::UnknownMode.at(i + 1));
         }
         if has_mode(seen, mode) {
-            return Verdict {
-                number: MODE_TWICE,
-                place: i,
-            };
+            return Err(Refusal::ModeTwice.at(i + 1));
         }
         seen = with_mode(seen, mode);
-        i += 1;
     }
-    Verdict {
-        number: ACCEPTED,
-        place: 0,
-    }
+    Ok(())
+}
+
+// The letters: what follows '+'.
+pub(crate) fn letters_of(modes: &[u8]) -> &[u8]
+    ensures { result.now ≡ letters_of modes.now }
+{
+    modes.get(1..).unwrap_or(&[])
+}
+
+// The byte with the mode of a letter, if it is one of the eight.
+fn with_letter(byte: u8, letter: u8) -> u8
+    ensures { result ≡ with_mode byte (mode_place letter) }
+{
+    with_mode(byte, mode_place(letter))
 }
 
 // The bits of all letters.
 pub(crate) fn modes_byte(modes: &[u8]) -> u8
     ensures { result ≡ modes_byte modes.now }
 {
-    let mut byte = 0u8;
-    let mut i = 1;
-    while i < modes.len() {
-        byte = with_mode(byte, mode_place(modes[i]));
-        i += 1;
-    }
-    byte
+    letters_of(modes)
+        .iter()
+        .fold(0, |byte, letter| with_letter(byte, *letter))
 }
 
 // Whether the letter has a parameter: k and l do.
 pub(crate) fn has_parameter(letter: u8) -> bool
     ensures { result ≡ has_parameter letter }
 {
-    if letter == b'k' {
-        return true;
-    }
-    letter == b'l'
+    letter == b'k' || letter == b'l'
 }
 
-// The limit that the bytes are: 1 to 65,535, or 0 where they are none.
-pub(crate) fn limit_in(s: &[u8]) -> u16
+// The limit that the bytes are, if they are one: 1 to 65,535.
+#[tactic(auto, unfolding(crate::specs::Private::Parts::limit_in, crate::specs::Modes::is_limit, octets::specs::Decimals::decimal_up_to))]
+pub(crate) fn limit_in(s: &[u8]) -> Option<u16>
     ensures { result ≡ limit_in s.now }
 {
-    decimal(s, Record::LIMIT).map_or(0, |n| n as u16)
+    decimal(s, Record::LIMIT)
+        .filter(|n| *n != 0)
+        .map(|n| n as u16)
 }
 
-// Whether the parameter is good for its letter: a key for k, a limit for l.
-pub(crate) fn good_argument(letter: u8, s: &[u8]) -> bool
-    ensures { result ≡ good_argument letter s.now }
+// Whether a parameter is good for its letter: a key for k, a limit for l.
+#[tactic(auto, unfolding(crate::specs::Modes::good_argument, crate::specs::Private::Parts::limit_in))]
+pub(crate) fn check_argument(letter: u8, s: &[u8]) -> Result<(), Refusal>
+    ensures { answered result ≡ cond (good_argument letter s.now) accepted (argument_number letter) }
 {
-    if letter == b'k' {
-        return is_key(s);
+    match letter {
+        b'k' if is_key(s) => Ok(()),
+        b'k' => Err(Refusal::BadKey),
+        _ if limit_in(s).is_some() => Ok(()),
+        _ => Err(Refusal::BadLimit),
     }
-    limit_in(s) != 0
-}
-
-// The number of a parameter that is bad for its letter.
-pub(crate) fn argument_number(letter: u8) -> u8
-    ensures { result ≡ argument_number letter }
-{
-    if letter == b'k' {
-        return BAD_KEY;
-    }
-    BAD_LIMIT
 }

@@ -13,7 +13,8 @@ use Rattle.refusal.specs.Numbers.{no_free_slot}
 use Rattle.refusal.specs.Rules.{◌when◌, first_of}
 use Rattle.refusal.proofs.Rules.{skip, stop, first-nil}
 use Rattle.laws.proofs.Lists.{get_or_any}
-use Rattle.names.specs.Fold.{same_name}
+use Rattle.names.specs.Fold.{fold, same_name}
+use Rattle.names.proofs.Folds.{name-past, name-stop, name-go}
 use Rattle.channel.specs.declared.Record.{Record}
 use Rattle.channel.specs.Record.{decode, empty_record}
 use Rattle.table.specs.declared.Found as code
@@ -37,6 +38,20 @@ module _ (name : List ℕ) (r : Record) where
   pub used-holds : (r.count ≡ 0 → ⊥) → (held : List ℕ) → held ≡ (decode r).name → holds name r ≡ same_name held name
   unfolding holds
   used-holds ne held e = rw (ne_eqb r.count 0 ne, e)
+
+-- ---- two names, byte by byte
+module _ (x y : ℕ) (a b : List ℕ) where
+  -- bytes that differ decide
+  pub heads-stop : (fold x ≡ fold y → ⊥) → same_name (x ∷ a) (y ∷ b) ≡ false
+  heads-stop ne = name-stop (x ∷ a) (y ∷ b) 0 (omega arith) (omega arith) ne
+
+  -- behind equal bytes the others decide
+  pub heads-go : fold x ≡ fold y → same_name (x ∷ a) (y ∷ b) ≡ same_name a b
+  heads-go e = name-go (x ∷ a) (y ∷ b) 0 (omega arith) (omega arith) e
+
+-- where no bytes are left they are equal
+pub none-left : (a b : List ℕ) → (a ≡ []) × (b ≡ []) → same_name a b ≡ true
+none-left a b e = rw (e.0, e.1) (name-past [] [] 0 (omega arith) (omega arith))
 
 -- ---- what the search answers
 module _ (slots : List Record) where

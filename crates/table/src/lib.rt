@@ -140,17 +140,16 @@ pub fn find<'a>(t: &'a Head, name: &[u8]) -> Found<'a>
     ensures found { as_found result ≡ found_for t.now.slots name.now }
     ensures number { slot_number (as_found result).slot ≡ first_of (slot_rules t.now.slots name.now) }
 {
-    'slots: for k in 0..Record::SLOTS {
-        let held = t.slots[k].name();
-        if t.slots[k].count == 0 || held.len() != name.len() {
+    'slots: for (k, r) in t.slots.iter().enumerate() {
+        if r.count == 0 || r.name().len() != name.len() {
             continue 'slots;
         }
-        for i in 0..name.len() {
-            if fold(held[i]) != fold(name[i]) {
+        for (held, sought) in r.name().iter().zip(name) {
+            if fold(*held) != fold(*sought) {
                 continue 'slots;
             }
         }
-        return Found::Held(k, &t.slots[k]);
+        return Found::Held(k, r);
     }
     match t.slots.iter().position(|r| r.count == 0) {
         Some(k) => Found::Free(k),

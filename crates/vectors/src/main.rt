@@ -9,14 +9,15 @@ mod showing;
 mod steps;
 mod text;
 
-use bans::BanList;
+use arrayvec::ArrayVec;
 use message::LINE_LIMIT;
 use octets::part;
 use printing::{print, print_answer, print_bytes, print_number, print_refusal, print_unknown};
 use refusal::ACCEPTED;
 use std::io;
 use std::io::Read;
-use table::Head;
+use steps::{LENT, TOO_FEW, Trial};
+use table::{register, unregister};
 use text::{after_space, before_space, body, without_end};
 use writer::Written;
 
@@ -26,15 +27,8 @@ const WORD: usize = 5;
 // The most bytes of a record that are kept. A line that is cut there is still over the reader's limit, and so refused as it would be whole.
 const ROOM: usize = 1024;
 
-// What stands between two reads, the ban lists apart, which are lent: the bytes so far of the record that is under way, the table's head after the last one, and
-// whether more input may come.
-#[derive(Clone, Copy)]
-struct Input {
-    record: [u8; ROOM],
-    len: usize,
-    head: Head,
-    more: bool,
-}
+// The most bytes that are read at once.
+const PIECE: usize = 4096;
 
 // What the writer put at the front of the output; or its number, though it refuses no line that was read.
 fn print_written(rt: &HostRuntime, label: &[u8], w: Written, out: &[u8]) -> io::Result<()> {
@@ -107,161 +101,69 @@ fn show_mask(rt: &HostRuntime, pair: &[u8]) -> io::Result<()> {
     print_answer(rt, b"match ", m.yes)
 }
 
-// What is tried on a record's bytes, which end with LF, by its word, where no table is needed.
-fn show_by(rt: &HostRuntime, word: &[u8], rest: &[u8]) -> io::Result<()> {
-    if check::same(word, b"line ") {
-        return show_line(rt, rest);
-    }
-    let text = without_end(rest);
-    if check::same(word, b"name ") {
-        return show_name(rt, text);
-    }
-    if check::same(word, b"same ") {
-        return show_same(rt, text);
-    }
-    if check::same(word, b"mask ") {
-        return show_mask(rt, text);
-    }
-    print_unknown(rt)
-}
-
-// What is asked of the table by a record's word, or tried without one.
-fn ask_by(
+// What is tried on a record's bytes, which end with LF, by its word.
+fn try_record(
     rt: &HostRuntime,
-    t: Head,
-    bans: &[u8; BanList::BANS],
-    word: &[u8],
+    trial: &mut Trial,
+    word: &[u8; WORD],
     rest: &[u8],
 ) -> io::Result<()> {
-    if check::same(word, b"bans ") {
-        return steps::ask(rt, t, bans, without_end(rest));
+    let text = without_end(rest);
+    match word {
+        b"line " => show_line(rt, rest),
+        b"name " => show_name(rt, text),
+        b"same " => show_same(rt, text),
+        b"mask " => show_mask(rt, text),
+        b"take " => trial.take::<LENT>(rt, rest),
+        b"thin " => trial.take::<TOO_FEW>(rt, rest),
+        b"link " => trial.change(rt, text, register),
+        b"drop " => trial.change(rt, text, unregister),
+        b"over " => trial.start_over(rt),
+        b"harm " => trial.harm(rt),
+        b"blot " => trial.blot(rt),
+        b"bans " => trial.ask(rt, text),
+        b"meld " => trial.meld(rt),
+        _ => print_unknown(rt),
     }
-    if check::same(word, b"meld ") {
-        return steps::meld(rt, t, bans);
-    }
-    show_by(rt, word, rest)
 }
 
-// What is tried on a record's bytes, which end with LF, by its word, and the table's head after it.
-fn step_by(
-    rt: &HostRuntime,
-    t: Head,
-    bans: &mut [u8; BanList::BANS],
-    word: &[u8],
-    rest: &[u8],
-) -> io::Result<Head> {
-    if check::same(word, b"take ") {
-        return steps::take(rt, t, bans, rest);
+// A whole record.
+fn show_record(rt: &HostRuntime, trial: &mut Trial, record: &[u8]) -> io::Result<()> {
+    match record.split_first_chunk() {
+        Some((word, rest)) => try_record(rt, trial, word, rest)?,
+        None => print_unknown(rt)?,
     }
-    if check::same(word, b"thin ") {
-        return steps::take_thin(rt, t, bans, rest);
-    }
-    if check::same(word, b"link ") {
-        return steps::link(rt, t, bans, without_end(rest));
-    }
-    if check::same(word, b"drop ") {
-        return steps::drop(rt, t, bans, without_end(rest));
-    }
-    if check::same(word, b"over ") {
-        return steps::start_over(rt, bans);
-    }
-    if check::same(word, b"harm ") {
-        return steps::harm(rt, t, bans);
-    }
-    if check::same(word, b"blot ") {
-        return steps::blot(rt, t, bans);
-    }
-    ask_by(rt, t, bans, word, rest)?;
-    Ok(t)
+    print(rt, b"\n")
 }
 
-// A whole record, and the table's head after it.
-fn show_record(
-    rt: &HostRuntime,
-    t: Head,
-    bans: &mut [u8; BanList::BANS],
-    record: &[u8],
-) -> io::Result<Head> {
-    let next = step_by(
-        rt,
-        t,
-        bans,
-        part(record, 0, WORD),
-        part(record, WORD, record.len()),
-    )?;
-    print(rt, b"\n")?;
-    Ok(next)
-}
-
-// The record with one byte more. What it has past ROOM bytes is left off.
-fn with_byte(mut input: Input, b: u8) -> Input {
-    let n = input.len;
-    if n < ROOM {
-        input.record[n] = b;
-        input.len = n + 1;
-    }
-    input
-}
-
-// The record is whole: it is shown, and the next one begins.
-fn finish(rt: &HostRuntime, mut input: Input, bans: &mut [u8; BanList::BANS]) -> io::Result<Input> {
-    let head = show_record(rt, input.head, bans, part(&input.record, 0, input.len))?;
-    input.head = head;
-    input.len = 0;
-    Ok(input)
-}
-
-fn take_byte(
-    rt: &HostRuntime,
-    input: Input,
-    bans: &mut [u8; BanList::BANS],
-    b: u8,
-) -> io::Result<Input> {
-    let next = with_byte(input, b);
-    if b == b'\n' {
-        return finish(rt, next, bans);
-    }
-    Ok(next)
-}
-
-// A piece of the input, which may begin and end anywhere in a record.
+// A piece of the input, which may begin and end anywhere in a record. What a record has past ROOM bytes is left off.
 fn take_piece(
     rt: &HostRuntime,
-    start: Input,
-    bans: &mut [u8; BanList::BANS],
+    trial: &mut Trial,
+    record: &mut ArrayVec<u8, ROOM>,
     piece: &[u8],
-) -> io::Result<Input> {
-    let mut input = start;
-    for i in 0..piece.len() {
-        input = take_byte(rt, input, bans, piece[i])?;
+) -> io::Result<()> {
+    for b in piece {
+        let _ = record.try_push(*b);
+        if *b == b'\n' {
+            show_record(rt, trial, record.as_slice())?;
+            record.clear();
+        }
     }
-    Ok(input)
-}
-
-// One read. If the input is at its end, no more may come.
-fn step(rt: &HostRuntime, mut input: Input, bans: &mut [u8; BanList::BANS]) -> io::Result<Input> {
-    let mut piece = [0u8; 4096];
-    let n = rt.stdin().read(&mut piece)?;
-    if n == 0 {
-        input.more = false;
-        return Ok(input);
-    }
-    take_piece(rt, input, bans, &piece[..n])
+    Ok(())
 }
 
 // The turns are counted since nothing else says that the loop ends: the input could go on forever. A read or a write that fails ends the program.
 fn main(rt: HostRuntime) -> io::Result<()> {
-    let mut bans = [0u8; BanList::BANS];
-    let mut input = Input {
-        record: [0; ROOM],
-        len: 0,
-        head: Head::empty(&mut bans),
-        more: true,
-    };
-    let mut turns = u64::MAX;
-    while turns > 0 && input.more {
-        input = step(&rt, input, &mut bans)?;
-        turns -= 1;
+    let mut trial = Trial::new();
+    let mut record = ArrayVec::new();
+    let mut piece = [0u8; PIECE];
+    for _ in 0..u64::MAX {
+        let n = rt.stdin().read(&mut piece)?;
+        if n == 0 {
+            break;
+        }
+        take_piece(&rt, &mut trial, &mut record, &piece[..n])?;
     }
     Ok(())
 }

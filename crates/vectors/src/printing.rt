@@ -33,14 +33,11 @@ pub(crate) fn print_number(rt: &HostRuntime, label: &[u8], n: usize) -> io::Resu
 
 // One line of output: a label, and yes or no.
 pub(crate) fn print_answer(rt: &HostRuntime, label: &[u8], yes: bool) -> io::Result<()> {
-    if yes {
-        return print_bytes(rt, label, b"yes");
-    }
-    print_bytes(rt, label, b"no")
+    print_bytes(rt, label, if yes { b"yes" } else { b"no" })
 }
 
 pub(crate) fn print_refusal(rt: &HostRuntime, k: u8) -> io::Result<()> {
-    print_number(rt, b"refused ", k as usize)
+    print_number(rt, b"refused ", usize::from(k))
 }
 
 // Whether what was asked for is done, or the number of its refusal.

@@ -19,57 +19,38 @@ pub(crate) fn show_links(rt: &HostRuntime, label: &[u8], set: u32) -> io::Result
 }
 
 fn show_member(rt: &HostRuntime, m: Member) -> io::Result<()> {
-    let id = m.id;
-    add_bytes(rt, b"member ", &id)?;
-    print_number(rt, b" ", m.status as usize)
-}
-
-fn show_members(
-    rt: &HostRuntime,
-    members: [Member; Record::MEMBERS],
-    count: usize,
-) -> io::Result<()> {
-    for i in 0..Record::MEMBERS {
-        if count <= i {
-            return Ok(());
-        }
-        let m = members[i];
-        show_member(rt, m)?;
-    }
-    Ok(())
+    add_bytes(rt, b"member ", &m.id)?;
+    print_number(rt, b" ", usize::from(m.status))
 }
 
 // One line of output for each mask of a list.
 fn show_masks(rt: &HostRuntime, list: &[u8]) -> io::Result<()> {
-    let n = bans::count(list);
-    for i in 0..n {
+    for i in 0..bans::count(list) {
         print_bytes(rt, b"mask ", mask_at(list, i))?;
     }
     Ok(())
 }
 
 // What every channel has.
-fn add_channel(rt: &HostRuntime, r: Record) -> io::Result<()> {
-    let name = r.name;
+fn add_channel(rt: &HostRuntime, r: &Record) -> io::Result<()> {
     add_number(rt, b" time ", r.time as usize)?;
-    add_bytes(rt, b" name ", part(&name, 0, r.name_len))?;
-    add_number(rt, b" modes ", r.modes as usize)
+    add_bytes(rt, b" name ", part(&r.name, 0, r.name_len))?;
+    add_number(rt, b" modes ", usize::from(r.modes))
 }
 
 // The key and the limit, where there is one. Each is looked for in its own place and not among the modes, so that it is seen whether they agree.
-fn add_key_and_limit(rt: &HostRuntime, r: Record) -> io::Result<()> {
-    let key = r.key;
+fn add_key_and_limit(rt: &HostRuntime, r: &Record) -> io::Result<()> {
     if r.key_len != 0 {
-        add_bytes(rt, b" key ", part(&key, 0, r.key_len))?;
+        add_bytes(rt, b" key ", part(&r.key, 0, r.key_len))?;
     }
     if r.limit != 0 {
-        add_number(rt, b" limit ", r.limit as usize)?;
+        add_number(rt, b" limit ", usize::from(r.limit))?;
     }
     Ok(())
 }
 
 // A used slot: one line of output for its channel, and one for each member and each mask.
-pub(crate) fn show_slot(rt: &HostRuntime, k: usize, r: Record, list: &[u8]) -> io::Result<()> {
+pub(crate) fn show_slot(rt: &HostRuntime, k: usize, r: &Record, list: &[u8]) -> io::Result<()> {
     if r.count == 0 {
         return Ok(());
     }
@@ -77,16 +58,15 @@ pub(crate) fn show_slot(rt: &HostRuntime, k: usize, r: Record, list: &[u8]) -> i
     add_channel(rt, r)?;
     add_key_and_limit(rt, r)?;
     print(rt, b"\n")?;
-    let members = r.members;
-    show_members(rt, members, r.count)?;
+    for m in r.members.iter().take(r.count) {
+        show_member(rt, *m)?;
+    }
     show_masks(rt, list)
 }
 
-pub(crate) fn show_table(rt: &HostRuntime, t: Head, bans: &[u8; BanList::BANS]) -> io::Result<()> {
-    let links = t.links;
-    show_links(rt, b"links", links.set)?;
-    for k in 0..Record::SLOTS {
-        let r = t.slots[k];
+pub(crate) fn show_table(rt: &HostRuntime, t: &Head, bans: &[u8; BanList::BANS]) -> io::Result<()> {
+    show_links(rt, b"links", t.links.set)?;
+    for (k, r) in t.slots.iter().enumerate() {
         show_slot(rt, k, r, list_at(bans, k))?;
     }
     Ok(())

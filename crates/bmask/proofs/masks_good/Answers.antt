@@ -1,60 +1,17 @@
--- `masks_good` meets its contract. The invariant: there is a word, and those before the one at hand are masks. Assumes nothing.
-use mathlib.Core.Path.{◌≡◌, sym, ap, ◌∙◌}
-use mathlib.Core.List.{List}
-use Prim.Native.Nat.{ℕ}
-use lib.ListN.{length}
-use Rattle.octets.specs.Room.{part}
+-- `masks_good` meets its contract: there is a word, and each is a mask. Assumes nothing.
+use Rattle.std.proofs.Common.{rules, tests, ◌∙◌}
+use Rattle.std.proofs.lemmas.Iterator.Consumers.{YieldsList-from_first}
+use Rattle.std.proofs.lemmas.Iterator.Search.{all_from_yields_List}
 use Rattle.bans.specs.Masks.{is_mask}
-use Rattle.message.specs.declared.Span.{Span}
-use Rattle.bmask.proofs.Listed.{left-fewer, good_none, before-first, before-good, before-odd, before-next}
+use Rattle.message.specs.Listed.{words_left}
+use Rattle.bmask.specs.Masks.{listed}
+use Rattle.bmask.proofs.Listed.{wordless, worded}
 use Rattle.bmask.proofs.masks_good.Goals as goal
 
-pub returns-then-word-list : goal.returns-then-word-list
-returns-then-word-list c =
-    let first = c in
-    sym (good_none first.args.list.now first.next_word-word.result first.next_word-word.ensures c.if-word-list.true)
+pub returns-else-is_some : goal.returns-else-is_some
+returns-else-is_some c = wordless words_left c.words.result c.next.new.self c.next.result c.next.ensures.steps c.args.list.now c.words.ensures c.is_some.result c.is_some.ensures c.if-is_some.false
 
-pub loop-word-init : goal.loop-word-init
-loop-word-init c =
-    let first = c in
-    before-first first.args.list.now first.next_word-word.result first.next_word-word.ensures c.if-word-list.false
-
-pub returns-then-not-is_mask : goal.returns-then-not-is_mask
-returns-then-not-is_mask c =
-    let list : List ℕ =
-    c.args.list.now in
-    let word : Span =
-    c.loop-word.word in
-    let some : (word).start ≡ length (list) → ⊥ =
-    c.loop-word-test.true in
-    let mask : c.is_mask.result ≡ is_mask (part (list) (word).start (word).end) =
-    c.is_mask.ensures ∙ ap is_mask c.part.ensures.bytes in
-    let p = c in before-odd (list) (word) p.loop-word.invariant (some) (sym (mask) ∙ c.if-not-is_mask.true)
-
-pub loop-word-smaller : goal.loop-word-smaller
-loop-word-smaller c =
-    let list : List ℕ =
-    c.args.list.now in
-    let word : Span =
-    c.loop-word.word in
-    let some : (word).start ≡ length (list) → ⊥ =
-    c.loop-word-test.true in
-    let p = c in left-fewer (list) (word) p.loop-word.invariant.inside (some) c.next_word-word-in-loop-word.result c.next_word-word-in-loop-word.ensures
-
-pub loop-word-preserved : goal.loop-word-preserved
-loop-word-preserved c =
-    let list : List ℕ =
-    c.args.list.now in
-    let word : Span =
-    c.loop-word.word in
-    let some : (word).start ≡ length (list) → ⊥ =
-    c.loop-word-test.true in
-    let mask : c.is_mask.result ≡ is_mask (part (list) (word).start (word).end) =
-    c.is_mask.ensures ∙ ap is_mask c.part.ensures.bytes in
-    let p = c in
-    before-next (list) (word) p.loop-word.invariant (some) (sym (mask) ∙ c.if-not-is_mask.false) c.next_word-word-in-loop-word.result c.next_word-word-in-loop-word.ensures
-
-pub returns : goal.returns
-returns c =
-    let at = c in
-    before-good at.args.list.now at.loop-word.word at.loop-word.invariant c.loop-word-test.false
+pub returns-then-is_some : goal.returns-then-is_some
+returns-then-is_some c =
+    let e = all_from_yields_List is_mask c.all.new.self _ c.all.result c.all.ensures.ran (YieldsList-from_first (λ x. x.now) words_left {s = c.words-then-is_some.result} (listed c.args.list.now) c.words-then-is_some.ensures) (λ x b q k. search (rules, tests)) in
+    e ∙ worded words_left c.words.result c.next.new.self c.next.result c.next.ensures.steps c.args.list.now c.words.ensures c.is_some.result c.is_some.ensures c.if-is_some.true

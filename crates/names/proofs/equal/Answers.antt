@@ -1,30 +1,21 @@
--- `equal` meets its contract. The invariant: what follows the first i bytes of each is equal exactly if the whole names are.
--- Assumes nothing.
-use mathlib.Core.Path.{refl, sym, ◌∙◌}
-use native.Mathlib.Omega.{arith}
-use borrow.Author.Rules.{rules}
-use borrow.Author.Tests.{eqb-true, eqb-false}
-use Rattle.names.proofs.Folds.{lengths_differ, name-past, name-stop, name-go}
+-- `equal` meets its contract: names of one length are equal exactly if their bytes are alike in pairs. Assumes nothing.
+use Rattle.std.proofs.Common.{◌≡◌, sym, ◌∙◌, rules, tests}
+use borrow.Author.Tests.{ne_eqb}
+use Rattle.std.specs.List.{list_all, zip}
+use Rattle.std.proofs.lemmas.Iterator.{YieldsList-from_slice, YieldsList-from_zip}
+use Rattle.std.proofs.lemmas.Iterator.Search.{all_from_yields_List}
+use Rattle.names.specs.Fold.{alike}
+use Rattle.names.proofs.Folds.{lengths_differ, name-zipped}
 use Rattle.names.proofs.equal.Goals as goal
 
 pub returns-then-a-b : goal.returns-then-a-b
 returns-then-a-b c =
-    sym (lengths_differ _ _ c.if-a-b.true)
+    let a = c.args.a.now in
+    let b = c.args.b.now in
+    let pairs : c.all.result ≡ list_all (λ p. alike p.0 p.1) (zip a b) =
+    all_from_yields_List (λ p. alike p.0 p.1) c.all.new.self _ c.all.result c.all.ensures.ran (YieldsList-from_zip (YieldsList-from_slice a cc) (YieldsList-from_slice b cc)) (λ x b q k. search (rules, tests)) in
+    pairs ∙ name-zipped a b c.if-a-b.true
 
-pub loop-i-init : goal.loop-i-init
-loop-i-init c =
-    (search rules, c.if-a-b.false, refl)
-
-pub returns-then-not-is_alike : goal.returns-then-not-is_alike
-returns-then-not-is_alike c =
-    let l = c.loop-i in
-    sym (name-stop _ _ l.i (omega arith) (omega arith) (eqb-false _ _ (sym c.is_alike.ensures ∙ c.if-not-is_alike.true))) ∙ l.invariant.2
-
-pub loop-i-preserved : goal.loop-i-preserved
-loop-i-preserved c =
-    let l = c.loop-i in
-    (search rules, l.invariant.1, sym (name-go _ _ l.i (omega arith) (omega arith) (eqb-true _ _ (sym c.is_alike.ensures ∙ c.if-not-is_alike.false))) ∙ l.invariant.2)
-
-pub returns : goal.returns
-returns c =
-    let l = c.loop-i in sym (name-past _ _ l.i c.loop-i-test.false (omega arith)) ∙ l.invariant.2
+pub returns-else-a-b : goal.returns-else-a-b
+returns-else-a-b c =
+    ne_eqb _ _ c.if-a-b.false ∙ sym (lengths_differ _ _ c.if-a-b.false)

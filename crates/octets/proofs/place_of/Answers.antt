@@ -1,22 +1,15 @@
--- `place_of` meets its contract. The invariant: what stands before the first b from here on comes to what was there at the start. Assumes nothing.
+-- `place_of` meets its contract. The invariant: b stands first as far behind the blocks passed over as it does in the rest. Assumes nothing.
+use mathlib.Core.Path.{sym, ◌∙◌}
 use native.Mathlib.Omega.{arith}
-use Rattle.octets.proofs.Search.{before-past, before-stop, before-go, before-clear}
+use Rattle.octets.proofs.Search.{before-passed, before-within}
 use Rattle.octets.proofs.place_of.Goals as goal
 
-pub loop-i-init : goal.loop-i-init
-loop-i-init c =
-    let e = c.clear_end-i.ensures in (e.inside, before-clear _ _ _ e)
+pub loop-block-preserved : goal.loop-block-preserved
+loop-block-preserved c =
+    let read = c.in-Some.ensures.cases in
+    let passed = before-passed c.args.b 32 c.loop-block.rest.now c.in-Some.block.now c.in-Some.more.now read.0 read.1 read.2 (sym c.is_clear.ensures ∙ c.if-not-is_clear.false) in
+    (omega arith, omega arith)
 
-pub returns-then-s-i : goal.returns-then-s-i
-returns-then-s-i c =
-    let a = c.args in
-    omega (arith, before-stop a.b a.s.now c.loop-i.i c.loop-i-test.true c.if-s-i.true)
-
-pub loop-i-preserved : goal.loop-i-preserved
-loop-i-preserved c =
-    let a = c.args in
-    omega (arith, before-go a.b a.s.now c.loop-i.i c.loop-i-test.true c.if-s-i.false)
-
-pub returns : goal.returns
-returns c =
-    let a = c.args in omega (arith, before-past a.b a.s.now c.loop-i.i c.loop-i-test.false)
+pub overflow_add-result : goal.overflow_add-result
+overflow_add-result c =
+    omega (arith, before-within c.args.b c.args.s.now)

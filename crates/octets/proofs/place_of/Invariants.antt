@@ -1,14 +1,14 @@
--- `place_of` meets its contract. The invariant: what stands before the first b from here on comes to what was there at the start. Assumes nothing.
+-- `place_of` meets its contract. The invariant: b stands first as far behind the blocks passed over as it does in the rest. Assumes nothing.
 use Prim.Native.Nat.{◌+◌, ◌-◌, ◌≤◌}
 use mathlib.Core.Path.{◌≡◌}
-use lib.ListN.{length, drop}
+use lib.ListN.{length}
 use Rattle.octets.specs.Search.{before}
 use Rattle.octets.proofs.place_of.Given as goal
 
-abbrev pub invariant-loop-i : goal.invariant-loop-i
-invariant-loop-i l =
-    (l.i ≤ length l.s) × (l.i + length (before l.b (drop l.i l.s)) ≡ length (before l.b l.s))
+abbrev pub invariant-loop-block : goal.invariant-loop-block
+invariant-loop-block l =
+    (length l.rest ≤ length l.s) × (length l.s - length l.rest + length (before l.b l.rest) ≡ length (before l.b l.s))
 
-abbrev pub decreases-loop-i : goal.decreases-loop-i
-decreases-loop-i l =
-    length l.s - l.i
+abbrev pub decreases-loop-block : goal.decreases-loop-block
+decreases-loop-block l =
+    length l.rest

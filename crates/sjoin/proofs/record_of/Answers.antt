@@ -1,73 +1,30 @@
 -- `record_of` meets its contract: name, time, modes, key, limit and members are each what the line tells. Assumes nothing.
-use mathlib.Core.Path.{◌≡◌, refl, ap, ◌∙◌}
-use mathlib.Core.Bool.{true}
-use mathlib.Core.List.{List}
-use Prim.Native.Nat.{ℕ}
-use native.Mathlib.Omega.{arith}
-use lib.ListN.{length}
+use Rattle.std.proofs.Common.{ℕ, List, refl, ap, ◌∙◌, unwrap_or}
 use Rattle.message.specs.Content.{Content}
 use Rattle.message.specs.Parts.{content_by}
-use Rattle.names.proofs.Channels.{channel-length}
-use Rattle.sjoin.specs.Modes.{key_letter, limit_letter, letters_of, has_parameter, modes_byte, argument_of}
-use Rattle.sjoin.specs.Join.{time_in, list_in, name_in, modes_in, arguments_in}
-use Rattle.sjoin.specs.Private.Scanning.{limit_in}
-use Rattle.sjoin.proofs.Judged.{time-said}
-use Rattle.sjoin.proofs.Joined.{Passes, passes, Suits, argument-suits, key-short, limit-read}
+use Rattle.sjoin.specs.Modes.{limit_letter, letters_of, modes_byte, argument_of}
+use Rattle.sjoin.specs.Join.{list_in, modes_in, arguments_in}
+use Rattle.sjoin.specs.Private.Scanning.{Tells, Matched}
+use Rattle.sjoin.specs.Private.Parts.{limit_in}
+use Rattle.sjoin.proofs.Joined.{passes, argument-suits, arguments-exact, limit-read}
 use Rattle.sjoin.proofs.Answers.{ordered-is, made}
 use Rattle.sjoin.proofs.record_of.Goals as goal
 
-pub name_room-name_held-requires : goal.name_room-name_held-requires
-name_room-name_held-requires c =
-    let content : Content =
-    content_by c.args.text.now c.args.m in
-    let good : Passes (content) =
-    passes (content) c.requires.passes in
-    let s = c in omega (arith, channel-length (name_in (content)) (good).name, ap (λ (l : List ℕ). length l) c.param_in-name.ensures.bytes)
+matched : (c : Content) (last time : ℕ) (entries : _) → Tells c last time entries → Matched c (modes_in c) last
+matched c last time entries t = record { parted = t.parted; exact = arguments-exact (modes_in c) (arguments_in c) (passes c t.passes).modes }
 
 pub argument-key-requires : goal.argument-key-requires
-argument-key-requires c =
-    c.requires.parted
-
-pub key_room-key_held-requires : goal.key_room-key_held-requires
-key_room-key_held-requires c =
-    let content : Content =
-    content_by c.args.text.now c.args.m in
-    let good : Passes (content) =
-    passes (content) c.requires.passes in
-    let argument : ℕ → List ℕ =
-    λ letter. argument_of letter (modes_in (content)) (arguments_in (content)) in
-    let suits : (letter : ℕ) → has_parameter letter ≡ true → Suits letter (letters_of (modes_in (content))) (argument letter) =
-    λ letter has. argument-suits (modes_in (content)) (arguments_in (content)) letter has (good).modes in
-    let s = c in
-    omega (arith, key-short (letters_of (modes_in (content))) (argument key_letter) (suits key_letter refl), ap (λ (l : List ℕ). length l) {y = argument key_letter} c.argument-key.ensures)
+argument-key-requires c = matched (content_by c.args.text.now c.args.m) _ _ _ c.requires
 
 pub argument-requires : goal.argument-requires
-argument-requires c =
-    c.requires.parted
+argument-requires c = matched (content_by c.args.text.now c.args.m) _ _ _ c.requires
 
 pub returns : goal.returns
 returns c =
-    let content : Content =
-    content_by c.args.text.now c.args.m in
-    let good : Passes (content) =
-    passes (content) c.requires.passes in
-    let argument : ℕ → List ℕ =
-    λ letter. argument_of letter (modes_in (content)) (arguments_in (content)) in
-    let suits : (letter : ℕ) → has_parameter letter ≡ true → Suits letter (letters_of (modes_in (content))) (argument letter) =
-    λ letter has. argument-suits (modes_in (content)) (arguments_in (content)) letter has (good).modes in
-    let members = c in
-    let limited = c in
-    let found = c in
-    let keyed = c in
-    let looked = c in
-    let lettered = c in
-    let read = c in
-    let timed = c in
-    let named = c in
-    let first = c in
-    let s = c in
-    made (content) _ _ _ _ _ _ _ members.ordered-all.result first.param_in-name.ensures.bytes named.name_room-name_held.ensures (timed.time_of-time.ensures ∙ time-said (time_in (content)) (good).time)
-    (lettered.modes_byte-modes.ensures ∙ ap modes_byte read.param_in.ensures.bytes)
-    looked.argument-key.ensures keyed.key_room-key_held.ensures
-    (limited.limit_in-limit.ensures ∙ ap limit_in {y = argument limit_letter} found.argument.ensures ∙ limit-read (letters_of (modes_in (content))) (argument limit_letter) (suits limit_letter refl))
-    (ordered-is s.args.entries members.ordered-all.result (list_in (content)) s.requires.named s.requires.few members.ordered-all.ensures)
+    let content : Content = content_by c.args.text.now c.args.m in
+    let limit : List ℕ = argument_of limit_letter (modes_in content) (arguments_in content) in
+    let suits = argument-suits (modes_in content) (arguments_in content) limit_letter refl (passes content c.requires.passes).modes in
+    made content _ _ _ _ _ _ _ c.ordered-all.result c.param_in-name.ensures.bytes c.padded-name_room.ensures c.requires.time (c.modes_byte.ensures ∙ ap modes_byte c.param_in.ensures.bytes)
+    c.argument-key.ensures c.padded-key_room.ensures
+    (c.unwrap_or.ensures ∙ ap (λ o. unwrap_or o 0) (c.limit_in.ensures ∙ ap limit_in {y = limit} c.argument.ensures) ∙ limit-read (letters_of (modes_in content)) limit suits)
+    (ordered-is c.args.entries c.ordered-all.result (list_in content) c.requires.named c.requires.few c.ordered-all.ensures)

@@ -1,25 +1,21 @@
 -- What private functions ask and promise. No public contract cites this file: nobody needs to believe it.
-use Rattle.std.specs.Prelude.{ℕ, ◌+◌, ◌-◌, ◌≤◌, ◌<◌, ◌≡◌, not, cond, ◌&&◌, List, [], ◌∷◌, length, take, drop}
+use Rattle.std.specs.Prelude.{ℕ, ◌+◌, ◌-◌, ◌≤◌, ◌<◌, ◌≡◌, not, ◌&&◌, List, [], ◌∷◌, length, take, drop}
 use Rattle.std.proofs.Math.Option.{Option, some, none}
 use Rattle.refusal.specs.Numbers.{accepted, unknown_mode, mode_twice}
 use Rattle.refusal.specs.Rules.{first_of}
-use Rattle.refusal.specs.Faults.{Fault, fault, Check, ◌if◌, number_of}
+use Rattle.refusal.specs.Faults.{Fault, fault, Check, ◌if◌}
 use Rattle.octets.specs.Decimals.{value_of}
 use Rattle.channel.specs.declared.Roster.{Roster}
 use Rattle.channel.specs.Limits.{member_limit}
 use Rattle.channel.specs.Modes.{has_mode, with_mode, mode_place}
-use Rattle.channel.specs.Record.{empty_record}
 use Rattle.channel.specs.Members.{roster}
-use Rattle.message.specs.declared.Message.{Message}
 use Rattle.message.specs.Content.{Content}
 use Rattle.message.specs.Grammar.{param_limit}
 use Rattle.message.specs.Words.{words_of}
-use Rattle.sjoin.specs.declared.Told.{Told}
-use Rattle.sjoin.specs.declared.Verdict.{Verdict}
-use Rattle.sjoin.specs.Modes.{letters_of, is_mode, parametered, is_limit}
+use Rattle.sjoin.specs.Modes.{letters_of, is_mode, parametered}
 use Rattle.sjoin.specs.Entries.{named as named_in}
-use Rattle.sjoin.specs.Faults.{Site, Letter, Param, End, fault_at}
-use Rattle.sjoin.specs.Join.{list_in, arguments_in, join_rules, span_place}
+use Rattle.sjoin.specs.Faults.{Site, Letter, Param, End}
+use Rattle.sjoin.specs.Join.{time_in, list_in, arguments_in, join_rules}
 
 -- the checks of letters, where those before them are told by a byte that has their modes
 unfoldable pub seen_checks : ℕ → ℕ → List ℕ → List (Check Site)
@@ -35,22 +31,10 @@ letter_place (Letter i) = i
 letter_place (Param k) = 0
 letter_place End = 0
 
--- the verdict on letters, by that place
-abbrev pub letter_verdict : Option (Fault Site) → Verdict
-letter_verdict none = record { number = accepted; place = 0 }
-letter_verdict (some f) = record { number = f.number; place = letter_place f.place }
-
--- the verdict on a line of n bytes, by the place in it
-abbrev pub fault_verdict : ℕ → Message → Option (Fault Site) → Verdict
-fault_verdict n m f = record { number = number_of f; place = fault_at n m f }
-
--- the verdict by a number
-abbrev pub number_verdict : ℕ → List ℕ → Message → Verdict
-number_verdict number text m = record { number = number; place = span_place number text m }
-
--- the limit, or 0 where the bytes are none
-unfoldable pub limit_in : List ℕ → ℕ
-limit_in s = cond (is_limit s) (value_of s) 0
+-- a fault by its place
+unfoldable pub placed : (Site → ℕ) → Option (Fault Site) → Option (Fault ℕ)
+placed at none = none
+placed at (some f) = some (fault f.number (at f.place))
 
 -- the parameters from a place up to, not including, the last one
 unfoldable pub up_to : ℕ → ℕ → List (List ℕ) → List (List ℕ)
@@ -67,13 +51,10 @@ pub record Matched (c : Content) (modes : List ℕ) (last : ℕ) : Type 0 where
   pub parted : Parted c last
   pub exact : length (parametered (letters_of modes)) ≡ length (arguments_in c)
 
--- No rule refuses what is told; the list is at `last`, and there is room for the members that it names, which are these.
-pub record Tells (c : Content) (last : ℕ) (entries : Roster) : Type 0 where
+-- No rule refuses what is told; the list is at `last`, this is the time, and there is room for the members that it names, which are these.
+pub record Tells (c : Content) (last says : ℕ) (entries : Roster) : Type 0 where
   pub parted : Parted c last
   pub passes : first_of (join_rules c) ≡ accepted
+  pub time : says ≡ value_of (time_in c)
   pub few : length (words_of (list_in c)) ≤ member_limit
   pub named : entries ≡ roster (named_in (list_in c))
-
--- the answer of a refusal
-abbrev pub refused_by : ℕ → ℕ → Told
-refused_by number place = record { number = number; place = place; «record» = empty_record }

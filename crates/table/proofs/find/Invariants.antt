@@ -1,16 +1,21 @@
--- `find` meets its contract. The invariants: no slot below k holds the name; and what follows the first i bytes of the name that slot k holds
--- and of the name sought is equal exactly if the two are. Assumes nothing.
+-- `find` meets its contract. The invariants: no slot below k holds the name; and the bytes that are left of the name that slot k holds and of the name sought
+-- are as many, and equal exactly if the two names are. Assumes nothing.
 use mathlib.Core.Path.{◌≡◌}
 use Prim.Native.Nat.{◌+◌}
 use lib.ListN.{length, drop}
+use Rattle.std.specs.Slice.Iter.{iter_rest}
+use Rattle.std.specs.Iterator.Adapters.{zip_first, zip_second}
 use Rattle.names.specs.Fold.{same_name}
+use Rattle.channel.specs.Record.{decode}
 use Rattle.table.specs.Table.{holds}
 use Rattle.table.specs.Slots.{first_at}
 use Rattle.table.proofs.find.Given as goal
 
-abbrev pub invariant-loop-i : goal.invariant-loop-i
-invariant-loop-i l =
-    (length l.held ≡ length l.name) × (same_name (drop l.i l.held) (drop l.i l.name) ≡ same_name l.held l.name)
+abbrev pub invariant-loop-held : goal.invariant-loop-held
+invariant-loop-held l =
+    let a = iter_rest (zip_first l.held-iterator) in
+    let b = iter_rest (zip_second l.held-iterator) in
+    (length a ≡ length b) × (same_name a b ≡ same_name (decode l.r).name l.name)
 
 abbrev pub invariant-slots : goal.invariant-slots
 invariant-slots l =

@@ -4,9 +4,7 @@ use Rattle.console.proofs.Asking.{question-asked, line-asked}
 use Rattle.console.proofs.requests.worded.Goals as goal
 
 pub returns-then-starts_with : goal.returns-then-starts_with
-returns-then-starts_with c =
-    c.asking.ensures ∙ question-asked c.args.input.now _ c.starts_with.ensures.value c.if-starts_with.true
+returns-then-starts_with c = c.asking.ensures ∙ question-asked c.args.input.now _ c.starts_with.ensures.value c.if-starts_with.true
 
-pub returns : goal.returns
-returns c =
-    c.taking.ensures ∙ line-asked c.args.input.now _ c.starts_with.ensures.value c.if-starts_with.false
+pub returns-else-starts_with : goal.returns-else-starts_with
+returns-else-starts_with c = c.taking.ensures ∙ line-asked c.args.input.now _ c.starts_with.ensures.value c.if-starts_with.false

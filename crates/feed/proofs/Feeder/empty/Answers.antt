@@ -1,5 +1,5 @@
 -- `Feeder::empty` meets its contract: nothing padded is all padding. Assumes nothing.
-use Prim.Native.Nat.{ℕ}
+use Rattle.std.proofs.Common.{ℕ}
 use Rattle.laws.proofs.Lists.{padded-none}
 use Rattle.message.specs.Grammar.{line_limit}
 use Rattle.feed.specs.Feeder.{state_of}

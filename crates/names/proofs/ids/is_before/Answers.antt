@@ -13,23 +13,14 @@ use Rattle.names.proofs.ids.is_before.Goals as goal
 
 pub loop-i-init : goal.loop-i-init
 loop-i-init c =
-    (search rules, sym (less-past c.args.a c.args.b user_id_length (search rules) (search rules)))
+    sym (less-past c.args.a c.args.b user_id_length (search rules) (search rules))
 
 pub loop-i-preserved : goal.loop-i-preserved
 loop-i-preserved c =
     let l = c.loop-i in
     let a = c.args in
     let j : ℕ = l.i - 1 in
-    let e : j + 1 ≡ l.i = omega arith in (
-      omega arith,
-      c.under-less.ensures
-          ∙ ap (λ (t : Bool). cond (eqb (get_or a.a j 0) (get_or a.b j 0)) t (ltb (get_or a.a j 0) (get_or a.b j 0))) (l.invariant.1 ∙ ap (λ (n : ℕ). is_less (compare (drop n a.a) (drop n a.b))) (sym e))
-          ∙ sym (less-at a.a a.b j (search rules) (search rules)),
-    )
-
-pub returns : goal.returns
-returns c =
-    let l = c.loop-i in
-    let a = c.args in
-    let e : l.i ≡ 0 = omega arith in
-    l.invariant.1 ∙ ap (λ (n : ℕ). is_less (compare (drop n a.a) (drop n a.b))) e
+    let e : j + 1 ≡ l.i = omega arith in
+    c.under-less.ensures
+    ∙ ap (λ (t : Bool). cond (eqb (get_or a.a j 0) (get_or a.b j 0)) t (ltb (get_or a.a j 0) (get_or a.b j 0))) (l.invariant ∙ ap (λ (n : ℕ). is_less (compare (drop n a.a) (drop n a.b))) (sym e))
+    ∙ sym (less-at a.a a.b j (search rules) (search rules))

@@ -1,15 +1,10 @@
--- `value_up_to` meets its contract. The invariant: the value so far is within the limit, and what the bytes from i on make of it is the value of all.
--- A value that passes the limit stays above it, whatever digits come. Assumes nothing.
+-- `value_up_to` meets its contract. The invariant: what was read so far is within the limit, and the digits from here on make of it what all of them come to. Assumes nothing.
+use Prim.Native.Nat.{◌≤◌}
 use mathlib.Core.Path.{◌≡◌}
-use Prim.Native.Nat.{◌-◌, ◌≤◌}
-use lib.ListN.{length, drop}
+use lib.ListN.{drop}
 use Rattle.octets.specs.Decimals.{value_from, value_of}
 use Rattle.octets.proofs.decimals.value_up_to.Given as goal
 
-abbrev pub invariant-loop-i : goal.invariant-loop-i
-invariant-loop-i l =
-    (l.i ≤ length l.s) × (l.value ≤ l.limit) × (value_from l.value (drop l.i l.s) ≡ value_of l.s)
-
-abbrev pub decreases-loop-i : goal.decreases-loop-i
-decreases-loop-i l =
-    length l.s - l.i
+abbrev pub invariant-loop-b : goal.invariant-loop-b
+invariant-loop-b l =
+    (l.value ≤ l.fn.limit) × (value_from l.value (drop l.b-index l.s) ≡ value_of l.s)

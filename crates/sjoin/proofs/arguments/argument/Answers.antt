@@ -1,21 +1,20 @@
 -- `argument` meets its contract: the parameter stands behind the modes, in its letter's place, or there is none. Assumes nothing.
-use mathlib.Core.Path.{◌∙◌}
-use Rattle.octets.specs.Room.{part}
+use Rattle.std.proofs.Common.{arith, sym, ◌∙◌}
 use Rattle.message.specs.Parts.{content_by}
-use Rattle.sjoin.proofs.Parameters.{argument-there, argument-none}
+use Rattle.sjoin.proofs.Parameters.{argument_before, argument_there, argument_none}
 use Rattle.sjoin.proofs.arguments.argument.Goals as goal
 
-pub returns-then-last-place : goal.returns-then-last-place
-unfolding part
-returns-then-last-place c =
-    let e = c in
-    let a = e.args in
-    c.part.ensures.bytes
-    ∙ argument-none (content_by a.text.now a.m) a.last a.letter c.argument_place-place.result _ e.requires.count c.param_in.ensures.bytes c.argument_place-place.ensures c.if-last-place.true
+pub overflow_add-place : goal.overflow_add-place
+overflow_add-place c =
+    let a = c.args in
+    omega (arith, argument_before (content_by a.text.now a.m) a.last a.letter c.param_in.result.now c.requires c.param_in.ensures.bytes c.in-Some.place (sym c.argument_place.ensures ∙ c.in-Some.is))
 
-pub returns : goal.returns
-returns c =
-    let e = c in
-    let a = e.args in
-    c.param_in-2.ensures.bytes
-    ∙ argument-there (content_by a.text.now a.m) a.last a.letter c.argument_place-place.result _ e.requires.count c.param_in.ensures.bytes c.argument_place-place.ensures c.if-last-place.false
+pub returns-in-Some : goal.returns-in-Some
+returns-in-Some c =
+    let a = c.args in
+    c.param_in-in-Some.ensures.bytes ∙ argument_there (content_by a.text.now a.m) a.last a.letter c.param_in.result.now c.requires c.param_in.ensures.bytes c.in-Some.place (sym c.argument_place.ensures ∙ c.in-Some.is)
+
+pub returns-in-None : goal.returns-in-None
+returns-in-None c =
+    let a = c.args in
+    argument_none (content_by a.text.now a.m) a.last a.letter c.param_in.result.now c.requires c.param_in.ensures.bytes (sym c.argument_place.ensures ∙ c.in-None.is)

@@ -5,5 +5,4 @@ use Rattle.logfile.proofs.Pieces.{begins}
 use Rattle.logfile.proofs.progress.Progress.begin.Goals as goal
 
 pub returns : goal.returns
-returns c =
-    begins _ _ refl refl refl refl (ap₂ table_with c.start-head.ensures.answer c.start-head.ensures.lists)
+returns c = begins _ _ refl c.new.ensures (ap₂ table_with c.start.ensures.answer c.start.ensures.lists)
