@@ -125,7 +125,7 @@ impl Session {
             }
             Request::Banned { end, start } => {
                 let answer = is_banned(
-                    self.head,
+                    &self.head,
                     &self.bans,
                     name_in(input, end),
                     text_in(input, start),

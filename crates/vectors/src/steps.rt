@@ -1,5 +1,7 @@
 // Steps of the relay, each from the table that the one before left: links registered and dropped, and lines taken. What comes of each is printed, and
 // then the table. Then what is asked of a table.
+ghost use Rattle.std.specs.Prelude.{◌≤◌};
+
 use crate::printing::{
     add_bytes, print, print_answer, print_number, print_outcome, print_refusal, print_unknown,
 };
@@ -96,7 +98,9 @@ impl Trial {
         &mut self,
         rt: &HostRuntime,
         received: &[u8],
-    ) -> io::Result<()> {
+    ) -> io::Result<()>
+        requires { N ≤ 600 }
+    {
         let Some(link) = decimal(before_space(received), u32::MAX) else {
             return print_unknown(rt);
         };
@@ -120,7 +124,7 @@ impl Trial {
     // Whether a text is banned from a channel: its name, a SPACE and the text.
     pub(crate) fn ask(&self, rt: &HostRuntime, question: &[u8]) -> io::Result<()> {
         let answer = is_banned(
-            self.head,
+            &self.head,
             &self.bans,
             before_space(question),
             after_space(question),
@@ -134,8 +138,9 @@ impl Trial {
     // The records of the first two slots with their lists, the second under the first one's name, merged.
     pub(crate) fn meld(&self, rt: &HostRuntime) -> io::Result<()> {
         let first = self.head.slots[0];
+        let name = first.name;
         let second = Record {
-            name: first.name,
+            name,
             name_len: first.name_len,
             ..self.head.slots[1]
         };

@@ -1,4 +1,5 @@
 // Parts of a record's bytes.
+ghost use Rattle.std.specs.Prelude.{◌<◌, length, IfSome};
 
 // The bytes before the last.
 pub(crate) fn without_end(s: &[u8]) -> &[u8] {
@@ -17,7 +18,9 @@ pub(crate) fn body(line: &[u8]) -> &[u8] {
 }
 
 // The place of the first SPACE.
-fn first_space(s: &[u8]) -> Option<usize> {
+fn first_space(s: &[u8]) -> Option<usize>
+    ensures { IfSome result (λ at. at < length s.now) }
+{
     s.iter().position(|b| *b == b' ')
 }
 
