@@ -24,8 +24,7 @@ use Rattle.channel.specs.declared.Record.{Record}
 use Rattle.channel.specs.Record.{encode}
 use Rattle.table.specs.Network.{Network}
 use Rattle.table.specs.Slots.{found_for}
-use Rattle.sjoin.specs.declared.Told.{Told}
-use Rattle.sjoin.specs.Join.{join_rules, channel_in, span_place, line_place, told_in}
+use Rattle.sjoin.specs.Join.{Told, join_rules, channel_in, span_place, line_place, told_in}
 use Rattle.sjoin.proofs.Judged.{span-rules}
 use Rattle.sjoin.proofs.Answers.{place_none}
 use Rattle.relay.specs.declared.Request.{Request}

@@ -6,4 +6,3 @@ pub mod Quit
 pub mod Bmask
 pub mod Commands
 pub mod Acting
-pub mod Stubs

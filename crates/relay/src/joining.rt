@@ -10,10 +10,10 @@ ghost use Rattle.relay.specs.Private.Sjoin.{told_of, joins as joins_of, joins_he
 
 use crate::{Change, Deed, Request, Sending};
 use channel::{Member, Record};
-use crate::stubs::read_join as read_message;
 use merging::combine;
 use message::Message;
 use refusal::{Fault, Refusal};
+use sjoin::read_message;
 use table::Found;
 
 // SJOIN: the name, and the record that the line tells of.

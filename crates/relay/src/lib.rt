@@ -9,7 +9,6 @@ mod masking;
 mod parting;
 mod quitting;
 mod requests;
-mod stubs;
 
 ghost use Rattle.std.specs.Prelude.{◌≡◌, length};
 ghost use Rattle.octets.specs.Room.{front};

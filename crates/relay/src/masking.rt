@@ -7,8 +7,7 @@ ghost use Rattle.relay.specs.Private.Bmask.{masks_found, work};
 
 use crate::{Change, Deed, Request, Sending};
 use bans::{BanList, load};
-use crate::stubs::read_masks as read_message;
-use bmask::add_listed;
+use bmask::{add_listed, read_message};
 use message::Message;
 use refusal::Refusal;
 use table::Found;

@@ -1,6 +1,6 @@
 -- Laws of one turn of a replay, by what stands first in the bytes that are left: a record that is taken, one that is refused, the end or a fault. Assumes nothing.
 use Prim.Native.Nat.{ℕ, ◌+◌}
-use mathlib.Core.Path.{◌≡◌, refl, sym, ap, ◌∙◌}
+use mathlib.Core.Path.{◌≡◌, refl, sym, ap, ap₂, ◌∙◌}
 use mathlib.Core.Bool.{Bool, true, false, not, ◌&&◌, false≢true}
 use mathlib.Core.List.{List}
 use mathlib.Core.Option.{some, none}
@@ -10,10 +10,12 @@ use lib.Seq.{drop-drop}
 use lib.Dec.{eqb}
 use borrow.Author.Tests.{ne_eqb, eqb-true, eqb-false}
 use Rattle.refusal.specs.Numbers.{accepted, log_cut}
+use Rattle.octets.specs.Room.{part}
+use Rattle.message.specs.declared.Span.{Span}
 use Rattle.message.specs.Grammar.{line_limit}
 use Rattle.table.specs.Network.{Table}
 use Rattle.relay.specs.Arrival.{arrival}
-use Rattle.relay.specs.Relay.{Outcome}
+use Rattle.relay.specs.Relay.{Outcome, process_answer}
 use Rattle.relay.proofs.Taking.{answer-number}
 use Rattle.relay.proofs.Answering.{answer-refused}
 use Rattle.journal.specs.declared.RecordRead.{RecordRead}
@@ -21,7 +23,7 @@ use Rattle.journal.specs.Reading.{Entry, size_of, Fault, Found, End, Whole, Faul
 use Rattle.journal.specs.Pieces.{fault_if}
 use Rattle.journal.proofs.Logs.{log-end, log-faulty, log-whole}
 use Rattle.journal.proofs.Pieces.{none-counts, end-counts, cut-passes, other-counts}
-use Rattle.journal.proofs.Told.{ReadsWhole}
+use Rattle.journal.proofs.Told.{ReadsWhole, reads-record}
 use Rattle.replay.specs.Replay.{Replay, taking, ended, stopped, replay_of, replay_from}
 use Rattle.replay.specs.Private.Stopping.{read_on}
 use Rattle.replay.proofs.Records.{replay-first, replay-stops}
@@ -120,3 +122,28 @@ module _ (t : Table) (at : ℕ) where
           let q = by-number (answer_at at (Whole w)) (λ z. omega (arith, z)) (ap (answer_at at) is) in
           absurd (false≢true (ap (λ (x : RecordRead). x.found) q))
       go (Faulty f) is = step-fault last t at (drop at log) f is ∙ fault (fault_at at f) (e ∙ ap (λ (x : Found). read_on last (answer_at at x)) is)
+
+-- ---- a turn
+-- A record is told of at a place.
+pub stands : (log : List ℕ) (last : Bool) (at : ℕ) (line : Span) (link : ℕ)
+    → record { line = line; place = 0; link = link; number = accepted; found = true } ≡ read_on last (read_answer log at)
+    → ReadsWhole log at (record { line = line; place = 0; link = link; number = accepted; found = true })
+stands log last at line link e =
+    let r : RecordRead = record { line = line; place = 0; link = link; number = accepted; found = true } in
+    reads-record log at r (read-found last (read_answer log at) r refl e) refl
+
+module _ (log : List ℕ) (last : Bool) (t : Table) (at : ℕ) (r : RecordRead) (w : ReadsWhole log at r) where
+  -- what taking its line comes to
+  pub line-taken : (line : List ℕ) → line ≡ part log r.line.start r.line.end → process_answer t (arrival r.link line) line_limit ≡ taking t w.entry
+  line-taken line e = ap₂ (λ (link : ℕ) (s : List ℕ). process_answer t (arrival link s) line_limit) w.link (e ∙ w.line)
+
+  module _ (next : Table) (e : next ≡ (taking t w.entry).table) where
+    -- it is taken: behind it the replay comes to the same
+    pub turn-taken : accepted ≡ (taking t w.entry).number → replay_from last next r.line.end (drop r.line.end log) ≡ replay_from last t at (drop at log)
+    turn-taken n = rw e (goes_on log last t at r w (sym n))
+
+    -- it is refused: the replay stops
+    pub turn-refused : (number : ℕ) → number ≡ (taking t w.entry).number → (number ≡ accepted → ⊥) → record { table = next; used = at; number = number; place = at } ≡ replay_from last t at (drop at log)
+    turn-refused number n ne =
+        let some : (taking t w.entry).number ≡ accepted → ⊥ = λ z. ne (n ∙ z) in
+        rw (e, refused-stays t w.entry some, n) (sym (step-refused last t at (drop at log) w.entry w.is some))

@@ -60,10 +60,9 @@ fn take_all(
 ) -> Result<(), Fault>
     ensures { come_to head.new bans.new at.new result ≡ replay_from last (table_with head.old bans.old) at.old (drop at.old log.now) }
 {
-    let mut out = [0u8; LINE_LIMIT];
     while let Some(record) = next(log, *at, last)? {
         let line = part(log, record.line.start, record.line.end);
-        if let Err(fault) = take(head, bans, record.link, line, &mut out) {
+        if let Err(fault) = take(head, bans, record.link, line, &mut [0; LINE_LIMIT]) {
             return Err(fault.refusal.at(*at));
         }
         *at = record.line.end;

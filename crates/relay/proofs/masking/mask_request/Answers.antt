@@ -10,8 +10,7 @@ use Rattle.octets.specs.Decimals.{value_of}
 use Rattle.message.specs.Content.{Content}
 use Rattle.message.specs.Parts.{content_by}
 use Rattle.sjoin.specs.Join.{time_in}
-use Rattle.bmask.specs.declared.Listing.{Listing}
-use Rattle.bmask.specs.Masks.{bmask_rules, listing_in}
+use Rattle.bmask.specs.Masks.{Listing, bmask_rules, listing_in}
 use Rattle.refusal.proofs.Refusals.{number-given}
 use Rattle.relay.proofs.masking.mask_request.Goals as goal
 
