@@ -11,5 +11,6 @@ pub mod Texts
 mod Places
 mod Chains
 mod Placing
+mod Comparing
 mod Listing
 mod Examples

@@ -1,4 +1,3 @@
 -- What private functions promise. No public contract cites these files: nobody needs to believe them.
 pub mod Placing
-pub mod Comparing
 pub mod Rooms

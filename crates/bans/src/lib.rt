@@ -17,7 +17,7 @@ ghost use Rattle.bans.specs.Records.{well_formed_whole};
 ghost use Rattle.bans.specs.Matching.{some_matches};
 
 use channel::Record;
-use octets::{Class, all_in, part, zero_from};
+use octets::{Class, all_in, padded, part, zero_from};
 use order::{ascending, place_for};
 use rooms::{good_rooms, inserted, mask_count, mask_in, room_at, used_rooms};
 
@@ -160,11 +160,11 @@ pub fn list_at(bans: &[u8], k: usize) -> &[u8]
 }
 
 // List k, held whole.
+#[tactic(auto, unfolding(crate::specs::Slots::list_of))]
 pub fn load(bans: &[u8], k: usize) -> BanList
     ensures { result ≡ list_of (list_at bans.now k) }
 {
-    let mut room = [0u8; BanList::LIST];
-    octets::put(&mut room, 0, list_at(bans, k));
+    let room = padded(list_at(bans, k));
     BanList { room }
 }
 

@@ -1,11 +1,10 @@
 // The order of masks: by the bytes of their folds. Where a mask stands, or is to stand, in a list.
-ghost use Rattle.std.specs.Prelude.{◌≡◌, map, ◌+◌, ◌≤◌, length, drop};
+ghost use Rattle.std.specs.Prelude.{◌≡◌, map, ◌≤◌, length};
 ghost use Rattle.octets.specs.Order.{compare, is_less};
 ghost use Rattle.ascending.specs.Ascending.{ascends};
 ghost use Rattle.names.specs.Fold.{fold as fold_of};
 ghost use Rattle.channel.specs.Limits.{mask_limit};
 ghost use Rattle.bans.specs.Masks.{room_of, by_fold, used_rooms};
-ghost use Rattle.bans.specs.Private.Comparing.{block_size, SameFolds, PassedOver};
 ghost use Rattle.bans.specs.Private.Placing.{PlacedIn};
 
 use crate::rooms::{mask_count, mask_in, room_at, used_rooms};
@@ -15,60 +14,49 @@ use std::cmp::Ordering;
 // The bytes that are compared at once.
 const BLOCK: usize = 16;
 
-// 0 only if the blocks of a and b at a place have the same fold.
-fn differing(a: &[u8], b: &[u8], at: usize) -> u8
-    requires { (at + block_size ≤ length a.now) × (at + block_size ≤ length b.now) }
-    ensures { result ≡ 0 → SameFolds block_size (drop at a.now) (drop at b.now) }
+// 0 only if two blocks have the same fold: an or over their bytes.
+fn differing(a: &[u8; BLOCK], b: &[u8; BLOCK]) -> u8
+    ensures { result ≡ 0 → map fold_of a.now ≡ map fold_of b.now }
 {
     let mut bits = 0;
     for j in 0..BLOCK {
-        bits |= unlike(a[at + j], b[at + j]);
+        bits |= unlike(a[j], b[j]);
     }
     bits
 }
 
-// How many bytes may be passed over, block by block, since their folds are the same.
-fn passed(a: &[u8], b: &[u8]) -> usize
-    ensures { PassedOver result a.now b.now }
+// How a's fold stands to b's, byte by byte. Bytes that are the same need not be folded.
+fn compare_bytes(a: &[u8], b: &[u8]) -> Ordering
+    ensures { result ≡ compare (map fold_of a.now) (map fold_of b.now) }
 {
-    let n = a.len().min(b.len());
-    let mut i = 0;
-    while BLOCK <= n - i {
-        if differing(a, b, i) != 0 {
-            return i;
+    for (x, y) in a.iter().zip(b) {
+        if x == y {
+            continue;
         }
-        i += BLOCK;
+        let order = fold(*x).cmp(&fold(*y));
+        if order.is_ne() {
+            return order;
+        }
     }
-    i
+    a.len().cmp(&b.len())
 }
 
-// How a's fold stands to b's. Bytes that are the same need not be folded.
+// How a's fold stands to b's. Blocks that have the same fold are passed over first.
 fn compare_folds(a: &[u8], b: &[u8]) -> Ordering
     ensures { result ≡ compare (map fold_of a.now) (map fold_of b.now) }
 {
-    let mut i = passed(a, b);
-    while i < a.len() {
-        if i == b.len() {
-            return Ordering::Greater;
+    let (mut a, mut b) = (a, b);
+    while let (Some((x, rest)), Some((y, others))) = (
+        a.split_first_chunk(),
+        b.split_first_chunk(),
+    ) {
+        if differing(x, y) != 0 {
+            break;
         }
-        if a[i] == b[i] {
-            i += 1;
-            continue;
-        }
-        let x = fold(a[i]);
-        let y = fold(b[i]);
-        if x < y {
-            return Ordering::Less;
-        }
-        if y < x {
-            return Ordering::Greater;
-        }
-        i += 1;
+        a = rest;
+        b = others;
     }
-    if i < b.len() {
-        return Ordering::Less;
-    }
-    Ordering::Equal
+    compare_bytes(a, b)
 }
 
 // Whether the first room's mask comes before the second's.

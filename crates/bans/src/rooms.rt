@@ -112,7 +112,7 @@ fn room_of(m: &[u8]) -> [u8; BanList::ROOM]
     requires { length m.now ≤ mask_limit }
     ensures { result ≡ room_of m.now }
 {
-    let mut room = [0u8; BanList::ROOM];
+    let mut room = [0; BanList::ROOM];
     room[0] = m.len() as u8;
     put(&mut room, 1, m);
     room

@@ -9,12 +9,12 @@ use lib.Bits.{bit_or}
 use lib.ListN.{length, take}
 use lib.Dec.{eqb, ltb}
 use borrow.Author.Tests.{ne_eqb, lt-ltb, le-ltb}
-use Rattle.laws.proofs.Lists.{take_within}
+use Rattle.laws.specs.Lists.{padded}
 use Rattle.refusal.specs.Numbers.{accepted, not_well_formed, bad_name, too_many_members, too_many_masks}
 use Rattle.refusal.specs.Rules.{Rule, ◌when◌, first_of}
 use Rattle.std.specs.Prelude.{Option, Some, None, Ok, Err}
 use Rattle.refusal.specs.declared.Refusal.{Refusal}
-use Rattle.refusal.specs.declared.Refusal.TheVariants.{TooManyMasks}
+use Rattle.refusal.specs.declared.Refusal.TheVariants.{TooManyMembers, TooManyMasks}
 use Rattle.refusal.specs.Refusals.{number_of}
 use Rattle.refusal.proofs.Refusals.{number-given}
 use Rattle.refusal.proofs.Rules.{skip, stop, first-nil, append-some, append-none}
@@ -25,8 +25,9 @@ use Rattle.names.specs.Fold.{same_name}
 use Rattle.channel.specs.declared.Member.{Member}
 use Rattle.channel.specs.declared.Record.{Record}
 use Rattle.channel.specs.declared.Roster.{Roster}
-use Rattle.channel.specs.Limits.{member_limit, ban_limit}
-use Rattle.channel.specs.Settings.{Settings, no_settings}
+use Rattle.names.specs.Names.{name_limit}
+use Rattle.channel.specs.Limits.{member_limit, key_limit, ban_limit}
+use Rattle.channel.specs.Settings.{Settings}
 use Rattle.channel.specs.Channel.{Channel, member, by_id}
 use Rattle.channel.specs.Record.{encode, decode}
 use Rattle.channel.specs.WellFormed.{well_formed}
@@ -45,14 +46,10 @@ use Rattle.bans.specs.Records.{whole, well_formed_whole}
 use Rattle.bans.proofs.Records.{whole-well, whole_says}
 use Rattle.bans.proofs.Slots.{empty-masks, empty-well}
 use Rattle.merging.specs.declared.sides.Given.{Given}
-use Rattle.merging.specs.declared.sides.Key.{Key}
-use Rattle.merging.specs.declared.sides.Name.{Name}
 use Rattle.merging.specs.Settings.{greater, join_settings}
 use Rattle.merging.specs.Merging.{Combined, combined_as, merge_by, merge, answer_of, answered, room_rules, combined, merged_masks, merged_whole, merge_rules, merge_answer}
 use Rattle.merging.specs.Private.Answers.{merged_as, refused_by, merged_lists}
-use Rattle.merging.specs.Private.Sides.{given_if, key_of, name_of}
-use Rattle.merging.specs.Private.Uniting.{as_given}
-use Rattle.merging.proofs.OnePass.{side}
+use Rattle.merging.specs.Private.Sides.{settings_of, as_given}
 use Rattle.merging.proofs.Masks.{Lists, lists-merged, masks-none, list-none}
 
 -- ---- only the room for members is left to judge
@@ -187,69 +184,55 @@ unfolding as_given
 as-counted [] = refl
 as-counted (m ∷ l) = ap (◌∷◌ m) (as-counted l)
 
-side-standing : (time : ℕ) (r : Record) → standing time (decode r) ≡ side (eqb r.time time) r.members r.count
+-- the members that stand at a time, each as its side gives it
+pub given-standing : (time : ℕ) (r : Record) (l : List Member) (t : Bool) → l ≡ (decode r).members → t ≡ eqb r.time time → map (as_given t) l ≡ standing time (decode r)
 unfolding standing counts decode bare as_given
-side-standing time r = go (eqb r.time time)
+given-standing time r l t e f = rw (e, f) (go (eqb r.time time))
   where
-    go : (t : Bool) → cond t (take r.count r.members) (map (λ m. member m.id 0) (take r.count r.members)) ≡ map (as_given t) (take r.count r.members)
-    go true = sym (as-counted (take r.count r.members))
+    go : (t : Bool) → map (as_given t) (take r.count r.members) ≡ cond t (take r.count r.members) (map (λ m. member m.id 0) (take r.count r.members))
+    go true = as-counted (take r.count r.members)
     go false = refl
-
--- what is given, as settings: of a key so many bytes as are given
-abbrev settings_of : Given → List ℕ → Settings
-settings_of g key = record { modes = g.modes; key = take g.key_len key; limit = g.limit }
-
--- what a record gives at a time
-abbrev pub given_at : Record → ℕ → Given
-given_at r time = given_if (eqb r.time time) r.modes r.key_len r.limit
-
-side-settings : (time : ℕ) (r : Record) → settings_at time (decode r) ≡ settings_of (given_at r time) r.key
-unfolding settings_at counts decode given_if
-side-settings time r = elim (eqb r.time time) as (λ t. cond t (decode r).settings no_settings ≡ settings_of (given_if t r.modes r.key_len r.limit) r.key) [ true ↦ refl | false ↦ refl ]
 
 -- ---- the record that is made of what the sides give
 -- its fields, one by one
-abbrev pub made : ℕ → Name → Given → Given → Key → ℕ → Roster → Record
+abbrev pub made : ℕ → List ℕ → Given → Given → List ℕ → ℕ → Roster → Record
 made time name x y key limit all = record {
-  name = name.bytes;
-  name_len = name.len;
+  name = padded name_limit 0 name;
+  name_len = length name;
   time = time;
   modes = bit_or x.modes y.modes;
-  key = key.bytes;
-  key_len = key.len;
+  key = padded key_limit 0 key;
+  key_len = length key;
   limit = limit;
   members = all.list;
   count = all.count;
 }
 
--- the members of both, of which so many are looked at
-abbrev pub members : Record → ℕ → Record → ℕ → ℕ → List Member
-members a m b n time = one_pass by_id (side (eqb a.time time) a.members m) (side (eqb b.time time) b.members n)
+-- the members of both
+abbrev pub members : Record → Record → ℕ → List Member
+members a b time = one_pass by_id (standing time (decode a)) (standing time (decode b))
 
-module _ (a b : Record) (time : ℕ) (et : time ≡ min a.time b.time) (m n : ℕ) (em : m ≡ min a.count (length a.members)) (en : n ≡ min b.count (length b.members)) where
+module _ (a b : Record) (time : ℕ) (et : time ≡ min a.time b.time) where
   abbrev both : Channel
   both = merge_by (one_pass by_id) (decode a) (decode b)
 
-  both-members : both.members ≡ members a m b n time
+  both-members : both.members ≡ members a b time
   unfolding decode
-  both-members =
-      rw (et, take_within a.members a.count m em, take_within b.members b.count n en)
-      (ap₂ (one_pass by_id) (side-standing (min a.time b.time) a) (side-standing (min a.time b.time) b))
-
-  both-settings : both.settings ≡ join_settings (settings_of (given_at a time) a.key) (settings_of (given_at b time) b.key)
-  unfolding decode
-  both-settings = rw et (ap₂ join_settings (side-settings (min a.time b.time) a) (side-settings (min a.time b.time) b))
+  both-members = rw et
 
   -- more members than there is room for are refused
-  pub combined-over : member_limit < length (members a m b n time) → combined a b ≡ answer_of too_many_members a
+  pub combined-over : member_limit < length (members a b time) → combined_as a (Err TooManyMembers) ≡ combined a b
   unfolding combined
-  combined-over h = room-over both a (rw both-members h)
+  combined-over h = sym (room-over both a (rw both-members h))
 
   -- else the record is made of what the sides give
-  pub combined-fits : (name : Name) (x y : Given) (k : Key) (limit : ℕ) (all : Roster) → name ≡ name_of (take a.name_len a.name) → x ≡ given_at a time → y ≡ given_at b time
-      → k ≡ key_of (greater (take x.key_len a.key) (take y.key_len b.key)) → limit ≡ max x.limit y.limit
-      → all ≡ roster (members a m b n time) → length (members a m b n time) ≤ member_limit → combined a b ≡ answer_of accepted (made time name x y k limit all)
-  unfolding combined encode decode join_settings name_of key_of roster
-  combined-fits name x y k limit all es ex ey ek el ea h =
-      rw (es, ek, el, ea, ex, ey)
-      (room_fits both a (room-none both (rw both-members h)) ∙ ap (λ (c : Channel). answer_of accepted (encode c)) (channel-path refl (sym et) both-settings both-members))
+  pub combined-fits : (name : List ℕ) (x y : Given) (key : List ℕ) (limit : ℕ) (all : Roster) → name ≡ (decode a).name → settings_of x ≡ settings_at time (decode a) → settings_of y ≡ settings_at time (decode b)
+      → key ≡ greater x.key.now y.key.now → limit ≡ max x.limit y.limit → all ≡ roster (members a b time) → length (members a b time) ≤ member_limit
+      → combined_as a (Ok (made time name x y key limit all)) ≡ combined a b
+  unfolding combined encode decode join_settings roster
+  combined-fits name x y key limit all es ex ey ek el ea h =
+      let settings : ◌≡◌ {A = Settings} (record { modes = bit_or x.modes y.modes; key = key; limit = limit }) (join_settings (settings_at time (decode a)) (settings_at time (decode b))) =
+      rw (ek, el) (ap₂ join_settings ex ey) in
+      let same : ◌≡◌ {A = Channel} (record { name = (decode a).name; time = time; settings = record { modes = bit_or x.modes y.modes; key = key; limit = limit }; members = members a b time }) both =
+      channel-path refl et (settings ∙ ap (λ (t : ℕ). join_settings (settings_at t (decode a)) (settings_at t (decode b))) et) (sym both-members) in
+      rw (es, ea) (ap (λ (c : Channel). answer_of accepted (encode c)) same ∙ sym (room_fits both a (room-none both (rw both-members h))))

@@ -6,7 +6,6 @@ pub mod Merges
 pub mod Answers
 mod Settings
 mod Masks
-mod Rooms
 mod OnePass
 mod Examples
 mod Witnesses

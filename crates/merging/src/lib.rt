@@ -14,12 +14,11 @@ ghost use Rattle.merging.specs.Private.Answers.{merged_as};
 
 use bans::{WholeRecord, is_whole};
 use channel::Record;
-use channel::members::within;
 use lists::merged_list;
 use names::equal;
-use octets::{compare, part};
+use octets::{compare, padded};
 use refusal::{ACCEPTED, Refusal};
-use sides::{front, given_if, greatest};
+use sides::{Given, Side};
 use uniting::united;
 
 // The number of a refusal, or ACCEPTED, and the merged record with its list, or the first one as given.
@@ -54,10 +53,7 @@ fn try_merge(a: WholeRecord, b: WholeRecord) -> Result<WholeRecord, Refusal>
     if !(is_whole(a) && is_whole(b)) {
         return Err(Refusal::NotWellFormed);
     }
-    if !equal(
-        part(&a.record.name, 0, a.record.name_len),
-        part(&b.record.name, 0, b.record.name_len),
-    ) {
+    if !equal(a.record.name(), b.record.name()) {
         return Err(Refusal::BadName);
     }
     let record = combine(a.record, b.record)?;
@@ -73,40 +69,21 @@ pub fn combine(a: Record, b: Record) -> Result<Record, Refusal>
     ensures { combined_as a result ≡ combined a b }
 {
     let time = a.time.min(b.time);
-    let first = a.time == time;
-    let second = b.time == time;
-    let members = a.members;
-    let others = b.members;
-    let all = united(
-        members,
-        within(a.count),
-        first,
-        others,
-        within(b.count),
-        second,
-    );
-    if Record::MEMBERS < all.count {
-        return Err(Refusal::TooManyMembers);
-    }
-    let x = given_if(first, a.modes, a.key_len, a.limit);
-    let y = given_if(second, b.modes, b.key_len, b.limit);
-    let own = a.key;
-    let other = b.key;
-    let key = greatest(own, x.key_len, other, y.key_len);
-    let held = a.name;
-    let name = front(held, a.name_len);
-    let spelling = name.bytes;
-    let bytes = key.bytes;
-    let list = all.list;
+    let all = united(Side::at(time, &a), Side::at(time, &b)).ok_or(Refusal::TooManyMembers)?;
+    let x = Given::at(time, &a);
+    let y = Given::at(time, &b);
+    let key = greater_key(x.key, y.key);
+    let name = a.name();
+    let members = all.list;
     Ok(Record {
-        name: spelling,
-        name_len: name.len,
+        name: padded(name),
+        name_len: name.len(),
         time,
         modes: x.modes | y.modes,
-        key: bytes,
-        key_len: key.len,
+        key: padded(key),
+        key_len: key.len(),
         limit: x.limit.max(y.limit),
-        members: list,
+        members,
         count: all.count,
     })
 }

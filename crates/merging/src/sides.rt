@@ -1,66 +1,67 @@
-// What each of two records gives at the earlier of their times, and what of it the merged record has: time, modes, key, limit and name.
-ghost use Rattle.std.specs.Prelude.{◌≡◌, take};
-ghost use Rattle.merging.specs.Settings.{greater};
-ghost use Rattle.merging.specs.Private.Sides.{given_if, key_of, name_of};
+// What each of two records gives at the earlier of their times: its settings, and its members.
+ghost use Rattle.std.specs.Prelude.{◌≡◌, map};
+ghost use Rattle.channel.specs.Record.{decode};
+ghost use Rattle.channel.specs.Standing.{settings_at, standing};
+ghost use Rattle.merging.specs.Private.Sides.{settings_of, members_of, SplitFirst};
 
-use crate::greater_key;
-use channel::Record;
-use octets::{part, put};
+use channel::{Member, Record};
 
-// The modes, the key's length and the limit that a side gives.
+// The settings that a record gives.
 #[derive(Clone, Copy)]
-pub(crate) struct Given {
+pub(crate) struct Given<'a> {
     pub(crate) modes: u8,
-    pub(crate) key_len: usize,
+    pub(crate) key: &'a [u8],
     pub(crate) limit: u16,
 }
 
-// A key in its room.
-#[derive(Clone, Copy)]
-pub(crate) struct Key {
-    pub(crate) bytes: [u8; Record::KEY],
-    pub(crate) len: usize,
-}
-
-// A name in its room.
-#[derive(Clone, Copy)]
-pub(crate) struct Name {
-    pub(crate) bytes: [u8; Record::NAME],
-    pub(crate) len: usize,
-}
-
-// What a side gives if it counts, and nothing otherwise.
-pub(crate) fn given_if(counts: bool, modes: u8, key_len: usize, limit: u16) -> Given
-    ensures { result ≡ given_if counts modes key_len limit }
-{
-    if counts {
-        return Given {
-            modes,
-            key_len,
-            limit,
-        };
-    }
-    Given {
-        modes: 0,
-        key_len: 0,
-        limit: 0,
+impl<'a> Given<'a> {
+    // Those of a record if the time is its own, and none otherwise.
+    #[tactic(auto, unfolding(channel::specs::Standing::settings_at, channel::specs::Standing::counts, channel::specs::Record::decode))]
+    pub(crate) fn at(time: u32, r: &'a Record) -> Given<'a>
+        ensures { settings_of result ≡ settings_at time (decode r.now) }
+    {
+        if r.time == time {
+            Given {
+                modes: r.modes,
+                key: r.key(),
+                limit: r.limit,
+            }
+        } else {
+            Given {
+                modes: 0,
+                key: &[],
+                limit: 0,
+            }
+        }
     }
 }
 
-// The greater of two keys, the first m bytes of a and the first n of b.
-pub(crate) fn greatest(a: [u8; Record::KEY], m: usize, b: [u8; Record::KEY], n: usize) -> Key
-    ensures { result ≡ key_of (greater (take m a) (take n b)) }
-{
-    let mut bytes = [0u8; Record::KEY];
-    let len = put(&mut bytes, 0, greater_key(part(&a, 0, m), part(&b, 0, n)));
-    Key { bytes, len }
+// The members that a record gives, and whether with their status.
+#[derive(Clone, Copy)]
+pub(crate) struct Side<'a> {
+    members: &'a [Member],
+    counts: bool,
 }
 
-// The first n bytes of a name, in room that is zero behind them. A well-formed record's name stands so already.
-pub(crate) fn front(name: [u8; Record::NAME], n: usize) -> Name
-    ensures { result ≡ name_of (take n name) }
-{
-    let mut bytes = [0u8; Record::NAME];
-    let len = put(&mut bytes, 0, part(&name, 0, n));
-    Name { bytes, len }
+impl<'a> Side<'a> {
+    // Those of a record, with their status if the time is its own.
+    pub(crate) fn at(time: u32, r: &'a Record) -> Side<'a>
+        ensures { members_of result ≡ standing time (decode r.now) }
+    {
+        Side {
+            members: r.members(),
+            counts: r.time == time,
+        }
+    }
+
+    // The first member, as it is given, and the side behind it.
+    #[tactic(auto, unfolding(crate::specs::Private::Sides::as_given))]
+    pub(crate) fn split_first(self) -> Option<(Member, Side<'a>)>
+        ensures { SplitFirst self.entry result }
+    {
+        let (first, members) = self.members.split_first()?;
+        let id = first.id;
+        let status = if self.counts { first.status } else { 0 };
+        Some((Member { id, status }, Side { members, ..self }))
+    }
 }

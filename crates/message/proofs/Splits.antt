@@ -1,13 +1,13 @@
 -- Laws of words parted by SPACEs: the first word at a place, and what follows it. Assumes nothing.
-use mathlib.Core.Path.{◌≡◌, refl, sym, ap, ap₂, ◌∙◌}
-use mathlib.Core.Bool.{Bool, true, false, cond}
+use mathlib.Core.Path.{◌≡◌, refl, sym, ap, ◌∙◌}
+use mathlib.Core.Bool.{Bool, true, false}
 use mathlib.Core.List.{List, [], ◌∷◌, map}
-use Prim.Native.Nat.{ℕ, suc, ◌+◌, ◌-◌, ◌≤◌, ◌<◌}
+use Prim.Native.Nat.{ℕ, ◌+◌, ◌-◌, ◌≤◌, ◌<◌}
 use native.Mathlib.Omega.{arith}
 use lib.ListN.{length, take, drop, get_or, drop_of_length-le, length-drop}
 use lib.Seq.{drop-drop, take_all}
 use lib.Dec.{eqb}
-use borrow.Author.Tests.{eq-eqb, ne_eqb, eqb-true, eqb-false}
+use borrow.Author.Tests.{ne_eqb, eqb-true, eqb-false}
 use Rattle.octets.specs.Bytes.{space}
 use Rattle.octets.specs.Room.{part}
 use Rattle.laws.proofs.Lists.{drop-step}
@@ -128,25 +128,6 @@ module _ (s : List ℕ) (at : ℕ) (w : Span) (within : at ≤ length s) (is : w
     pub next-in : w.end ≤ length s
     next-in = omega (arith, ends_at, before-end, word_in (drop start s), length-drop start s)
 
--- ---- the words from a span on, which is that of the next one or stands at the end
-abbrev pub left : List ℕ → Span → List (List ℕ)
-left s w = cond (eqb w.start (length s)) [] (part s w.start w.end ∷ words_from s w.end)
-
-module _ (s : List ℕ) (w : Span) where
-  pub left-none : w.start ≡ length s → left s w ≡ []
-  left-none none = rw (eq-eqb w.start (length s) none)
-
-  pub left-some : (w.start ≡ length s → ⊥) → left s w ≡ part s w.start w.end ∷ words_from s w.end
-  left-some some = rw (ne_eqb w.start (length s) some)
-
-  -- from the span that is found at a place on they are those from the place on
-  pub left-next : (at : ℕ) → at ≤ length s → w ≡ next_word s at → left s w ≡ words_from s at
-  left-next at h is = go (eqb w.start (length s)) refl
-    where
-      go : (t : Bool) → eqb w.start (length s) ≡ t → left s w ≡ words_from s at
-      go true e = rw e (sym (next-none s at w h is (eqb-true w.start (length s) e)))
-      go false e = rw e (sym (next_one s at w h is (eqb-false w.start (length s) e)))
-
 -- ---- the words of a text, taken one after the other from its front: their places don't matter
 mutual
   unfolding words_at
@@ -169,67 +150,21 @@ mutual
       go true e w a = rw e w
       go false e w a = rw e a
 
--- those of a text that doesn't begin with SPACE
-abbrev first_word : List ℕ → List (List ℕ)
-first_word [] = []
-first_word (b ∷ s) = word (b ∷ s) ∷ words_of (drop (length (word (b ∷ s))) (b ∷ s))
+-- the first word, by its span, and those behind it
+module _ (s : List ℕ) (w : Span) (is : w ≡ next_word s 0) where
+  pub taken-none : w.start ≡ length s → words_of s ≡ []
+  taken-none e = next-none s 0 w (omega arith) is e
 
-words-first : (s : List ℕ) (i : ℕ) → bytes_of (words_at i s) ≡ first_word (drop (spaces s) s)
-unfolding words_at spaces word
-words-first [] i = refl
-words-first (b ∷ s) i = go (eqb b space) refl (words-first s (i + 1))
-  where
-    go : (t : Bool) → eqb b space ≡ t → bytes_of (words_at (i + 1) s) ≡ first_word (drop (spaces s) s) → bytes_of (words_at i (b ∷ s)) ≡ first_word (drop (spaces (b ∷ s)) (b ∷ s))
-    go true e ih = rw e ih
-    go false e ih = rw (e, e) (ap (λ (l : List (List ℕ)). (b ∷ word s) ∷ l) (ap bytes_of (after-skip s (i + 1)) ∙ words-shift (drop (length (word s)) s) (i + 1 + length (word s)) 0))
+  module _ (some : w.start ≡ length s → ⊥) where
+    taken-in : (w.start ≤ w.end) × (w.end ≤ length s)
+    taken-in = (omega (arith, starts-at s 0 w (omega arith) is, ends_at s 0 w (omega arith) is), next-in s 0 w (omega arith) is some)
 
-bare : (s : List ℕ) → spaces (drop (spaces s) s) ≡ 0
-unfolding spaces
-bare [] = refl
-bare (b ∷ s) = go (eqb b space) refl (bare s)
-  where
-    go : (t : Bool) → eqb b space ≡ t → spaces (drop (spaces s) s) ≡ 0 → spaces (drop (spaces (b ∷ s)) (b ∷ s)) ≡ 0
-    go true e ih = rw e ih
-    go false e ih = rw (e, e)
+    pub taken-one : words_of s ≡ take (w.end - w.start) (drop w.start s) ∷ words_of (take (length s - w.end) (drop w.end s))
+    unfolding part
+    taken-one =
+        let rest : take (length s - w.end) (drop w.end s) ≡ drop w.end s = take_all (length s - w.end) (drop w.end s) (omega (arith, length-drop w.end s)) in
+        next_one s 0 w (omega arith) is some
+        ∙ ap (λ (l : List (List ℕ)). part s w.start w.end ∷ l) (words-shift (drop w.end s) w.end 0 ∙ ap (λ (l : List ℕ). words_of l) (sym rest))
 
-first-none : (t : List ℕ) → spaces t ≡ 0 → length (word t) ≡ 0 → (first_word t ≡ []) × (words_of (drop (length (word t)) t) ≡ [])
-unfolding words_at spaces word
-first-none [] n e = (refl, refl)
-first-none (b ∷ t) n e = go (eqb b space) refl
-  where
-    go : (u : Bool) → eqb b space ≡ u → (first_word (b ∷ t) ≡ []) × (words_of (drop (length (word (b ∷ t))) (b ∷ t)) ≡ [])
-    go true h = let z : suc (spaces t) ≡ 0 = rw h at n in absurd (omega arith)
-    go false h = let z : suc (length (word t)) ≡ 0 = rw h at e in absurd (omega arith)
-
-first-one : (t : List ℕ) → (length (word t) ≡ 0 → ⊥) → first_word t ≡ word t ∷ words_of (drop (length (word t)) t)
-unfolding word
-first-one [] ne = absurd (ne refl)
-first-one (b ∷ t) ne = refl
-
--- what is taken from the front of a text, and what is left of it: a word of m bytes behind k SPACEs
-module _ (s w rest : List ℕ) (k m : ℕ) (spaced : k ≡ spaces s) (sized : m ≡ length (word (take (length s - k) (drop k s)))) (front : w ≡ take m (take (length s - k) (drop k s))) (back : rest ≡ drop m (take (length s - k) (drop k s))) where
-  abbrev text : List ℕ
-  text = drop (spaces s) s
-
-  text-is : take (length s - k) (drop k s) ≡ text
-  text-is = take_all (length s - k) (drop k s) (omega (arith, length-drop k s)) ∙ ap (λ (n : ℕ). drop n s) spaced
-
-  taken-size : m ≡ length (word text)
-  taken-size = sized ∙ ap (λ (l : List ℕ). length (word l)) text-is
-
-  taken-is : w ≡ word text
-  taken-is = front ∙ ap (take m) text-is ∙ ap (λ (n : ℕ). take n text) taken-size ∙ word-front text
-
-  kept-is : rest ≡ drop (length (word text)) text
-  kept-is = back ∙ ap (drop m) text-is ∙ ap (λ (n : ℕ). drop n text) taken-size
-
-  pub taken-none : length w ≡ 0 → (words_of s ≡ []) × (words_of rest ≡ [])
-  taken-none e =
-      let none = first-none text (bare s) (ap (λ (l : List ℕ). length l) (sym taken-is) ∙ e) in
-      (words-first s 0 ∙ none.0, ap (λ (l : List ℕ). words_of l) kept-is ∙ none.1)
-
-  pub taken-one : (length w ≡ 0 → ⊥) → words_of s ≡ w ∷ words_of rest
-  taken-one ne =
-      words-first s 0
-      ∙ first-one text (λ e. ne (ap (λ (l : List ℕ). length l) taken-is ∙ e))
-      ∙ ap₂ (λ (x l : List ℕ). x ∷ words_of l) (sym taken-is) (sym kept-is)
+pub word_within : (s : List ℕ) (w : Span) → w ≡ next_word s 0 → (w.start ≡ length s → ⊥) → (w.start ≤ w.end) × (w.end ≤ length s)
+word_within s w is some = taken-in s w is some

@@ -2,7 +2,7 @@
 ghost use Rattle.std.specs.Iterator.{YieldsFirstRef, item_count};
 ghost use Rattle.message.specs.Listed.{words_left};
 
-use crate::scan::{spaces_len, word_len};
+use crate::next_word;
 
 // The words that are left of a text: what stands behind those that were taken.
 #[derive(Clone, Copy)]
@@ -18,11 +18,15 @@ impl<'a> Iterator for Words<'a> {
     ghost remaining = { item_count words_left };
 
     // The first word that is left.
-    #[tactic(auto, using(crate::proofs::Runs::spaces_in, crate::proofs::Runs::word_in))]
+    #[tactic(auto, using(crate::proofs::Splits::word_within))]
     fn next(&mut self) -> Option<&'a [u8]> {
-        let text = &self.rest[spaces_len(self.rest)..];
-        let (word, rest) = text.split_at(word_len(text));
-        self.rest = rest;
-        if word.is_empty() { None } else { Some(word) }
+        let text = self.rest;
+        let word = next_word(text, 0);
+        if word.start == text.len() {
+            return None;
+        }
+        let behind = &text[word.end..];
+        self.rest = behind;
+        Some(&text[word.start..word.end])
     }
 }

@@ -7,14 +7,14 @@ ghost use Rattle.message.specs.Private.Scan.{with_param, with_params, from_comma
 use crate::{MIDDLE_LIMIT, Message, Span};
 
 // How many bytes stand before the first SPACE, or how many there are.
-pub(crate) fn word_len(s: &[u8]) -> usize
+fn word_len(s: &[u8]) -> usize
     ensures { result ≡ length (word s.now) }
 {
     s.iter().position(|b| *b == b' ').unwrap_or(s.len())
 }
 
 // How many SPACEs come first.
-pub(crate) fn spaces_len(s: &[u8]) -> usize
+fn spaces_len(s: &[u8]) -> usize
     ensures { result ≡ spaces s.now }
 {
     s.iter().position(|b| *b != b' ').unwrap_or(s.len())

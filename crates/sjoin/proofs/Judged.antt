@@ -8,16 +8,15 @@ use native.Mathlib.Omega.{arith}
 use lib.ListN.{length}
 use lib.Dec.{eqb, leb}
 use borrow.Author.Tests.{eq-eqb, ne_eqb, eqb-true, eqb-false, lt-ltb, le-ltb, le-leb, lt-leb, leb-true, not-false}
-use Rattle.refusal.specs.Numbers.{accepted, line_too_long, wrong_param_count, bad_source, bad_time, zero_time, bad_name, bad_members, is_mode_number}
+use Rattle.refusal.specs.Numbers.{accepted, line_too_long, wrong_param_count, bad_source, bad_members, is_mode_number}
 use Rattle.refusal.specs.Rules.{◌when◌, first_of, ascend, ascend_from, place_in}
 use Rattle.refusal.specs.Faults.{Fault, number_of}
 use Rattle.refusal.proofs.Rules.{skip, stop, first-nil, first-none, first_plain, numbered, append-some, append-none}
 use Rattle.laws.specs.Lists.{same}
 use Rattle.laws.proofs.Bools.{and_left, and_right, both_ways}
-use Rattle.std.specs.Prelude.{Some, None}
-use Rattle.octets.specs.Decimals.{zero_digit, is_decimal, value_from, value_of, digits_of, decimal_up_to}
+use Rattle.octets.specs.Decimals.{zero_digit, is_decimal, value_from, value_of, digits_of}
 use Rattle.octets.proofs.Bytes.{same_refl, same_true}
-use Rattle.octets.proofs.Digits.{digits-one, value-digits, decimal-digits, digits_value, decimal-read, value_in}
+use Rattle.octets.proofs.Digits.{digits-one, digits_value}
 use Rattle.names.specs.Names.{is_channel, is_server_id}
 use Rattle.channel.specs.Limits.{time_limit}
 use Rattle.message.specs.declared.Message.{Message}
@@ -28,7 +27,7 @@ use Rattle.message.specs.Reading.{body_rules, line_rules}
 use Rattle.sjoin.specs.Modes.{is_modes}
 use Rattle.sjoin.specs.Entries.{good_entries}
 use Rattle.sjoin.specs.Faults.{Site}
-use Rattle.sjoin.specs.Join.{time_in, name_in, modes_in, list_in, arguments_in, fewest, most, good_count, is_time, time_of, source_rules, head_rules, fault_in, mode_rules, lead_rules, telling_rules, join_rules, span_rules, line_join_rules}
+use Rattle.sjoin.specs.Join.{time_in, name_in, modes_in, list_in, arguments_in, fewest, most, good_count, is_time, source_rules, head_rules, fault_in, mode_rules, lead_rules, telling_rules, join_rules, span_rules, line_join_rules}
 use Rattle.sjoin.proofs.Faults.{modes-good, fault-numbered, mode-some, mode-number}
 
 -- The rules stand in the order of their numbers: the first in it that applies is given.

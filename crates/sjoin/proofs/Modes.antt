@@ -8,7 +8,8 @@ use native.Mathlib.Omega.{arith}
 use lib.Bits.{bit_or, or_zero_l, or_zero_r}
 use lib.ListN.{length, take, drop, get_or, drop_of_length-le}
 use lib.Dec.{eqb}
-use borrow.Author.Tests.{eq-eqb, eqb-true, lt-ltb, le-ltb, ltb-true}
+use borrow.Author.Tests.{eq-eqb, eqb-true, ltb-true}
+use Rattle.std.specs.Prelude.{Some, None}
 use Rattle.std.specs.List.{fold}
 use Rattle.std.specs.Cmp.Lexicographic.{pointwise}
 use Rattle.refusal.specs.Numbers.{unknown_mode, mode_twice}
@@ -18,7 +19,7 @@ use Rattle.laws.specs.Joins.{total}
 use Rattle.laws.proofs.Bools.{both_ways, or-not, eqb_swap}
 use Rattle.laws.proofs.Lists.{drop-step}
 use Rattle.laws.proofs.Joins.{joining-bits}
-use Rattle.channel.specs.Modes.{letters, mode_count, has_mode, with_mode, mode_place, plus}
+use Rattle.channel.specs.Modes.{letters, mode_count, has_mode, with_mode, mode_place, place_of, plus}
 use Rattle.channel.proofs.Letters.{has-no-mode, has-with, with-union, place_found}
 use Rattle.sjoin.specs.Modes.{letters_of, is_mode, lacks, modes_byte}
 use Rattle.sjoin.specs.Faults.{Site, Letter, letter_checks, own_checks}
@@ -34,6 +35,21 @@ same_place x y m =
     let h : mode_place x < 8 = ltb-true (mode_place x) mode_count m in
     eq-eqb y x (sym (place_found letters y (omega arith)) ∙ ap (λ (k : ℕ). get_or letters k 0) p ∙ place_found letters x h))
     (λ e. eq-eqb (mode_place y) (mode_place x) (ap mode_place (eqb-true y x e)))
+
+-- what is said of a letter's place
+place-some : (x mode : ℕ) → Some mode ≡ place_of x → (is_mode x ≡ true) × (mode ≡ mode_place x)
+place-some x mode e = go (is_mode x) refl
+  where
+    go : (t : Bool) → is_mode x ≡ t → (is_mode x ≡ true) × (mode ≡ mode_place x)
+    go true h = let f : Some mode ≡ Some (mode_place x) = e ∙ rw h in (h, cc)
+    go false h = let f : Some mode ≡ None = e ∙ rw h in let z : ◌≡◌ {A = ℕ} 0 1 = cc in absurd (omega arith)
+
+place-none : (x : ℕ) → None ≡ place_of x → is_mode x ≡ false
+place-none x e = go (is_mode x) refl
+  where
+    go : (t : Bool) → is_mode x ≡ t → is_mode x ≡ false
+    go true h = let f : None ≡ Some (mode_place x) = e ∙ rw h in let z : ◌≡◌ {A = ℕ} 0 1 = cc in absurd (omega arith)
+    go false h = h
 
 -- ---- letters that a byte has
 -- of the modes the byte has those of some letters, and no other
@@ -99,21 +115,22 @@ module _ (letters : List ℕ) (i seen : ℕ) (given : Option (Fault Site)) (is :
   unfolding seen_checks first_fault placed
   over h = rw (← is, drop_of_length-le letters h)
 
-  module _ (mode : ℕ) (h : i < length letters) (stands : mode ≡ mode_place (get_or letters i 0)) where
+  module _ (h : i < length letters) where
     -- a byte that is no mode is unknown
-    pub unknown : mode_count ≤ mode → some (fault unknown_mode (i + 1)) ≡ placed letter_place given
+    pub unknown : None ≡ place_of (get_or letters i 0) → some (fault unknown_mode (i + 1)) ≡ placed letter_place given
     unfolding seen_checks first_fault placed
-    unknown k = rw (← is, drop-step letters i 0 h, ← stands, le-ltb mode mode_count k)
+    unknown k = rw (← is, drop-step letters i 0 h, place-none (get_or letters i 0) k)
 
-    -- a mode that was seen stands there twice
-    pub twice : mode < mode_count → has_mode seen mode ≡ true → some (fault mode_twice (i + 1)) ≡ placed letter_place given
-    unfolding seen_checks first_fault placed
-    twice k e = rw (← is, drop-step letters i 0 h, ← stands, lt-ltb mode mode_count k, e)
+    module _ (mode : ℕ) (stands : Some mode ≡ place_of (get_or letters i 0)) where
+      -- a mode that was seen stands there twice
+      pub twice : has_mode seen mode ≡ true → some (fault mode_twice (i + 1)) ≡ placed letter_place given
+      unfolding seen_checks first_fault placed
+      twice e = let p = place-some (get_or letters i 0) mode stands in rw (← is, drop-step letters i 0 h, p.0, ← p.1, e)
 
-    -- behind a mode that wasn't seen the others decide, with that one seen
-    pub goes : mode < mode_count → has_mode seen mode ≡ false → left letters (i + 1) (with_mode seen mode) ≡ given
-    unfolding seen_checks first_fault
-    goes k e = sym (sym is ∙ rw (drop-step letters i 0 h, ← stands, lt-ltb mode mode_count k, e))
+      -- behind a mode that wasn't seen the others decide, with that one seen
+      pub goes : has_mode seen mode ≡ false → left letters (i + 1) (with_mode seen mode) ≡ given
+      unfolding seen_checks first_fault
+      goes e = let p = place-some (get_or letters i 0) mode stands in sym (sym is ∙ rw (drop-step letters i 0 h, p.0, ← p.1, e))
 
 -- all that a reader of the letters needs
 pub ruleset judging = (unsigned, begun, over, unknown, twice, goes)

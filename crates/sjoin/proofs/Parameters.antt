@@ -32,7 +32,7 @@ use Rattle.sjoin.specs.Modes.{key_letter, letters_of, has_parameter, parametered
 use Rattle.sjoin.specs.Faults.{Site, Param, arguments_at, argument_number, argument_checks, count_checks, site_at}
 use Rattle.sjoin.specs.Join.{modes_in, arguments_in}
 use Rattle.sjoin.specs.Private.Scanning.{placed, Parted, Matched, up_to}
-use Rattle.sjoin.specs.Private.Parts.{place_of}
+use Rattle.sjoin.specs.Private.Parts.{found_among}
 
 -- ---- letters that have a parameter, at a place
 -- they are those that pass the test
@@ -225,11 +225,11 @@ module _ (c : Content) (last letter : ℕ) (modes : List ℕ) (h : Matched c (mo
   unfolding argument_of among
   argument-at place e = rw (arguments-are c last h.parted.count, e)
 
-  cases : (p : ℕ) → place_among among letter ≡ p → place_of letter among ≡ cond (ltb p (length among)) (Some p) None
-  unfolding place_of
+  cases : (p : ℕ) → place_among among letter ≡ p → found_among letter among ≡ cond (ltb p (length among)) (Some p) None
+  unfolding found_among
   cases p e = let q = sym (place-is letter among) ∙ e in rw q
 
-  found : (place : ℕ) → place_of letter (parametered (letters_of modes)) ≡ Some place → (place_among among letter ≡ place) × (place < length among)
+  found : (place : ℕ) → found_among letter (parametered (letters_of modes)) ≡ Some place → (place_among among letter ≡ place) × (place < length among)
   unfolding among
   found place e = go (ltb (place_among among letter) (length among)) refl
     where
@@ -240,15 +240,15 @@ module _ (c : Content) (last letter : ℕ) (modes : List ℕ) (h : Matched c (mo
       go false f = let q : ◌≡◌ {A = Option ℕ} None (Some place) = sym (cases _ refl ∙ rw f) ∙ rw reads at e in let z : ◌≡◌ {A = ℕ} 0 1 = cc in absurd (omega arith)
 
   -- where a letter has one, it is the parameter in the letter's place, before the list
-  pub argument_before : (place : ℕ) → place_of letter (parametered (letters_of modes)) ≡ Some place → 3 + place < last
+  pub argument_before : (place : ℕ) → found_among letter (parametered (letters_of modes)) ≡ Some place → 3 + place < last
   unfolding among
   argument_before place e = omega (arith, (found place e).1, h.exact, arguments-count c last h.parted.count)
 
-  pub argument_there : (place : ℕ) → place_of letter (parametered (letters_of modes)) ≡ Some place → get_or c.params (3 + place) [] ≡ argument_of letter (modes_in c) (arguments_in c)
+  pub argument_there : (place : ℕ) → found_among letter (parametered (letters_of modes)) ≡ Some place → get_or c.params (3 + place) [] ≡ argument_of letter (modes_in c) (arguments_in c)
   argument_there place e = sym (argument-at place (found place e).0 ∙ up_at c.params last 3 place (omega (arith, argument_before place e)))
 
   -- where it has none, there is none
-  pub argument_none : place_of letter (parametered (letters_of modes)) ≡ None → [] ≡ argument_of letter (modes_in c) (arguments_in c)
+  pub argument_none : found_among letter (parametered (letters_of modes)) ≡ None → [] ≡ argument_of letter (modes_in c) (arguments_in c)
   unfolding among up_to
   argument_none e = go (ltb (place_among among letter) (length among)) refl
     where

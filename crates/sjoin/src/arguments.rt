@@ -7,7 +7,7 @@ ghost use Rattle.sjoin.specs.Modes.{letters_of, parametered, argument_of};
 ghost use Rattle.sjoin.specs.Faults.{arguments_at, argument_checks, count_checks, site_at};
 ghost use Rattle.sjoin.specs.Join.{modes_in, arguments_in};
 ghost use Rattle.sjoin.specs.Private.Scanning.{placed, Parted, Matched};
-ghost use Rattle.sjoin.specs.Private.Parts.{place_of};
+ghost use Rattle.sjoin.specs.Private.Parts.{found_among};
 
 use crate::letters::{check_argument, has_parameter, letters_of};
 use message::Message;
@@ -70,7 +70,7 @@ pub(crate) fn check_arguments(
 
 // The letter's place among those that have a parameter, if it is one of them.
 fn argument_place(modes: &[u8], letter: u8) -> Option<usize>
-    ensures { result ≡ place_of letter (parametered (letters_of modes.now)) }
+    ensures { result ≡ found_among letter (parametered (letters_of modes.now)) }
 {
     letters_of(modes)
         .iter()

@@ -11,7 +11,7 @@ ghost use Rattle.sjoin.specs.Private.Parts.{limit_in};
 
 use channel::Record;
 use channel::key::is_key;
-use channel::modes::{MODES, has_mode, mode_place, with_mode};
+use channel::modes::{has_mode, mode_place, with_mode};
 use octets::decimals::decimal;
 use refusal::{Fault, Refusal};
 
@@ -25,10 +25,9 @@ pub(crate) fn check_letters(modes: &[u8]) -> Result<(), Fault>
     };
     let mut seen = 0;
     for (i, letter) in letters.iter().enumerate() {
-        let mode = mode_place(*letter);
-        if MODES <= mode {
+        let Some(mode) = mode_place(*letter) else {
             return Err(Refusal::UnknownMode.at(i + 1));
-        }
+        };
         if has_mode(seen, mode) {
             return Err(Refusal::ModeTwice.at(i + 1));
         }
@@ -45,10 +44,11 @@ pub(crate) fn letters_of(modes: &[u8]) -> &[u8]
 }
 
 // The byte with the mode of a letter, if it is one of the eight.
+#[tactic(auto, unfolding(channel::specs::Modes::with_mode))]
 fn with_letter(byte: u8, letter: u8) -> u8
     ensures { result ≡ with_mode byte (mode_place letter) }
 {
-    with_mode(byte, mode_place(letter))
+    mode_place(letter).map_or(byte, |mode| with_mode(byte, mode))
 }
 
 // The bits of all letters.

@@ -82,16 +82,15 @@ fn check_modes(text: &[u8], m: Message, last: usize) -> Result<(), Fault>
 }
 
 // The record of the channel that is told of where no rule refuses it. The list is at `last`, and these are the time and the members that it names.
-fn record_of(text: &[u8], m: Message, last: usize, time: u32, entries: Roster) -> Record
-    requires { Tells (content_by text.now m) last time entries }
+fn record_of(text: &[u8], m: Message, last: usize, time: u32, entries: &Roster) -> Record
+    requires { Tells (content_by text.now m) last time entries.now }
     ensures { result ≡ encode (channel_in (content_by text.now m)) }
 {
     let name = param_in(text, m, NAME_AT);
     let name_room = padded(name);
     let key = argument(text, m, b'k', last);
     let key_room = padded(key);
-    let list = entries.list;
-    let all = ordered(list, entries.count);
+    let all = ordered(entries);
     let members = all.list;
     Record {
         name: name_room,
@@ -119,7 +118,7 @@ pub fn read_message(text: &[u8], m: Message) -> Result<Record, Fault>
     let time = read_head(text, m)?;
     check_modes(text, m, last)?;
     let entries = entries_of(param_in(text, m, last)).ok_or(Refusal::BadMembers)?;
-    Ok(record_of(text, m, last, time, entries))
+    Ok(record_of(text, m, last, time, &entries))
 }
 
 // What the line says: the reader's own number, or the first of the numbers 12 to 16, 32 to 36 and 18 that applies, with its place in the line, or the record of the
@@ -127,5 +126,9 @@ pub fn read_message(text: &[u8], m: Message) -> Result<Record, Fault>
 pub fn read_join(line: &[u8]) -> Result<Record, Fault>
     ensures { as_told result ≡ told_by line.now }
 {
-    read_message(line, parse(line)?)
+    let answer = parse(line);
+    let Ok(m) = answer else {
+        return Err(answer.unwrap_err().into());
+    };
+    read_message(line, m)
 }

@@ -93,6 +93,9 @@ fn forward_line(line: &[u8], out: &mut [u8]) -> Result<usize, Refusal>
     if out.len() < LINE_LIMIT {
         return Err(Refusal::OutputTooShort);
     }
-    let m = message::parse(line)?;
+    let answer = message::parse(line);
+    let Ok(m) = answer else {
+        return Err(answer.unwrap_err());
+    };
     write_cased(line, m, true, out)
 }

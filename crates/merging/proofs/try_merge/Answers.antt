@@ -48,7 +48,7 @@ returns-then-not-equal c =
       | then-is_whole w ↦ then-second _ _ _ (sym c.is_whole.ensures ∙ w.if-is_whole.true) (w.value-is ∙ w.is_whole-then-is_whole.ensures)
       | else-is_whole w ↦ first-only _ _ _ (sym c.is_whole.ensures ∙ w.if-is_whole.false) (w.value-is ∙ w.if-is_whole.false)
     ] in
-    sym (answer-name c.args.a c.args.b (sym tested ∙ c.if-not-is_whole.false) (sym (names c.args.a c.args.b _ _ _ c.part.ensures.bytes c.part-2.ensures.bytes c.equal.ensures) ∙ c.if-not-equal.true))
+    sym (answer-name c.args.a c.args.b (sym tested ∙ c.if-not-is_whole.false) (sym (c.equal.ensures ∙ ap₂ same_name c.name.ensures c.name-2.ensures) ∙ c.if-not-equal.true))
 
 pub returns-in_err-record : goal.returns-in_err-record
 returns-in_err-record c =
@@ -57,7 +57,7 @@ returns-in_err-record c =
       | then-is_whole w ↦ then-second _ _ _ (sym c.is_whole.ensures ∙ w.if-is_whole.true) (w.value-is ∙ w.is_whole-then-is_whole.ensures)
       | else-is_whole w ↦ first-only _ _ _ (sym c.is_whole.ensures ∙ w.if-is_whole.false) (w.value-is ∙ w.if-is_whole.false)
     ] in
-    let same = sym (names c.args.a c.args.b _ _ _ c.part.ensures.bytes c.part-2.ensures.bytes c.equal.ensures) ∙ c.if-not-equal.false in
+    let same = sym (c.equal.ensures ∙ ap₂ same_name c.name.ensures c.name-2.ensures) ∙ c.if-not-equal.false in
     let p = err_from_is_err_and c.from_residual.result c.from_residual.ensures.1 in
     rw (p.1, p.2) (merge-over c.args.a c.args.b (sym tested ∙ c.if-not-is_whole.false) same _ c.in_err-record.ensures)
 
@@ -68,7 +68,7 @@ returns-in_err-bans c =
       | then-is_whole w ↦ then-second _ _ _ (sym c.is_whole.ensures ∙ w.if-is_whole.true) (w.value-is ∙ w.is_whole-then-is_whole.ensures)
       | else-is_whole w ↦ first-only _ _ _ (sym c.is_whole.ensures ∙ w.if-is_whole.false) (w.value-is ∙ w.if-is_whole.false)
     ] in
-    let same = sym (names c.args.a c.args.b _ _ _ c.part.ensures.bytes c.part-2.ensures.bytes c.equal.ensures) ∙ c.if-not-equal.false in
+    let same = sym (c.equal.ensures ∙ ap₂ same_name c.name.ensures c.name-2.ensures) ∙ c.if-not-equal.false in
     let p = err_from_is_err_and c.from_residual-in_err-bans.result c.from_residual-in_err-bans.ensures.1 in
     let none : c.merged_list.result ≡ None = grind arith in
     let full : c.in_err-bans.field-0.0 ≡ TooManyMasks = grind arith in
@@ -82,7 +82,7 @@ returns c =
       | then-is_whole w ↦ then-second _ _ _ (sym c.is_whole.ensures ∙ w.if-is_whole.true) (w.value-is ∙ w.is_whole-then-is_whole.ensures)
       | else-is_whole w ↦ first-only _ _ _ (sym c.is_whole.ensures ∙ w.if-is_whole.false) (w.value-is ∙ w.if-is_whole.false)
     ] in
-    let same = sym (names c.args.a c.args.b _ _ _ c.part.ensures.bytes c.part-2.ensures.bytes c.equal.ensures) ∙ c.if-not-equal.false in
+    let same = sym (c.equal.ensures ∙ ap₂ same_name c.name.ensures c.name-2.ensures) ∙ c.if-not-equal.false in
     let some : c.merged_list.result ≡ Some c.in_ok-bans.bans = grind arith in
     let lists = ap (added c.args.a.bans) (sym some) ∙ c.merged_list.ensures in
     merge-both c.args.a c.args.b (sym tested ∙ c.if-not-is_whole.false) same _ c.in_ok-record.ensures _ lists

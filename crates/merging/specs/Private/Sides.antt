@@ -1,20 +1,24 @@
--- What a side of a merge gives, and a key and a name in their room.
-use Rattle.std.specs.Prelude.{ℕ, Bool, cond, List, length}
-use Rattle.laws.specs.Lists.{padded}
-use Rattle.names.specs.Names.{name_limit}
-use Rattle.channel.specs.Limits.{key_limit}
+-- What a side of a merge gives.
+use Rattle.std.specs.Prelude.{◌≡◌, Bool, cond, Option, Some, None, List, [], ◌∷◌, map}
+use Rattle.channel.specs.declared.Member.{Member}
+use Rattle.channel.specs.Settings.{Settings}
+use Rattle.channel.specs.Channel.{member}
 use Rattle.merging.specs.declared.sides.Given.{Given}
-use Rattle.merging.specs.declared.sides.Key.{Key}
-use Rattle.merging.specs.declared.sides.Name.{Name}
+use Rattle.merging.specs.declared.sides.Side.{Side}
 
--- the modes, the key's length and the limit, or nothing
-unfoldable pub given_if : Bool → ℕ → ℕ → ℕ → Given
-given_if counts modes len limit = record { modes = cond counts modes 0; key_len = cond counts len 0; limit = cond counts limit 0 }
+-- the settings that are given
+abbrev pub settings_of : Given → Settings
+settings_of g = record { modes = g.modes; key = g.key.now; limit = g.limit }
 
--- a key in its room
-unfoldable pub key_of : List ℕ → Key
-key_of k = record { bytes = padded key_limit 0 k; len = length k }
+-- a member as its side gives it: with its status if the side counts
+unfoldable pub as_given : Bool → Member → Member
+as_given counts m = member m.id (cond counts m.status 0)
 
--- a name in its room
-unfoldable pub name_of : List ℕ → Name
-name_of s = record { bytes = padded name_limit 0 s; len = length s }
+-- the members that a side gives
+abbrev pub members_of : Side → List Member
+members_of s = map (as_given s.counts) s.members.now
+
+-- The first of them and the side behind it; or there is none.
+abbrev pub SplitFirst : Side → Option (Member × Side) → Type 0
+SplitFirst s None = members_of s ≡ []
+SplitFirst s (Some p) = members_of s ≡ p.0 ∷ members_of p.1

@@ -27,4 +27,4 @@ returns c =
     made content _ _ _ _ _ _ _ c.ordered-all.result c.param_in-name.ensures.bytes c.padded-name_room.ensures c.requires.time (c.modes_byte.ensures ∙ ap modes_byte c.param_in.ensures.bytes)
     c.argument-key.ensures c.padded-key_room.ensures
     (c.unwrap_or.ensures ∙ ap (λ o. unwrap_or o 0) (c.limit_in.ensures ∙ ap limit_in {y = limit} c.argument.ensures) ∙ limit-read (letters_of (modes_in content)) limit suits)
-    (ordered-is c.args.entries c.ordered-all.result (list_in content) c.requires.named c.requires.few c.ordered-all.ensures)
+    (ordered-is c.args.entries.now c.ordered-all.result (list_in content) c.requires.named c.requires.few c.ordered-all.ensures)

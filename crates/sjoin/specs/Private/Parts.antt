@@ -8,8 +8,8 @@ use Rattle.sjoin.specs.Modes.{is_limit}
 use Rattle.sjoin.specs.Entries.{is_entry, member_of, good_entries, named}
 
 -- the place of a letter among some, if it is one of them
-unfoldable pub place_of : ℕ → List ℕ → Option ℕ
-place_of letter s = position (λ x. eqb x letter) s
+unfoldable pub found_among : ℕ → List ℕ → Option ℕ
+found_among letter s = position (λ x. eqb x letter) s
 
 -- the limit that some bytes are, if they are one
 unfoldable pub limit_in : List ℕ → Option ℕ

@@ -5,12 +5,10 @@ use Prim.Native.Nat.{ℕ, ◌≤◌}
 use native.Mathlib.Omega.{arith}
 use lib.ListN.{length}
 use Rattle.refusal.specs.Numbers.{output_too_short}
-use Rattle.refusal.specs.Refusals.{number_of}
 use Rattle.message.specs.Grammar.{line_limit}
 use Rattle.message.specs.Reading.{number_for}
 use Rattle.message.proofs.Readings.{parsed-read, parsed-refused, number-none, refused-number}
-use Rattle.writer.specs.Writing.{forward_rules, forwarded, written_of}
-use Rattle.std.proofs.lemmas.Result.{err_from_is_err_and}
+use Rattle.writer.specs.Writing.{forward_rules, forwarded}
 use Rattle.writer.proofs.Rules.{forward-number, forward-short}
 use Rattle.writer.proofs.Rounds.{read-forwards}
 use Rattle.writer.proofs.Answers.{answers-refused, answers-same}
@@ -20,14 +18,13 @@ pub returns-then-out-lt-LINE_LIMIT : goal.returns-then-out-lt-LINE_LIMIT
 returns-then-out-lt-LINE_LIMIT c =
     let a = c.args in let both = answers-refused (forward_rules a.line.now a.out.now) _ _ output_too_short (forward-short a.line.now a.out.now c.if-out-lt-LINE_LIMIT.true) (λ q. omega arith) (record { number = output_too_short; len = 0 }) refl in record { answer = both.0; output = both.1 }
 
-pub returns-in_err-m : goal.returns-in_err-m
-returns-in_err-m c =
+pub returns-in_default : goal.returns-in_default
+returns-in_default c =
     let line : List ℕ = c.args.line.now in
     let out : List ℕ = c.args.out.now in
-    let p = err_from_is_err_and c.from_residual.result c.from_residual.ensures.1 in
-    let is = parsed-refused line _ c.in_err-m.ensures.parsed in
+    let is = parsed-refused line c.unwrap_err.result (rw c.unwrap_err.ensures at c.parse-answer.ensures.parsed) in
     let both = answers-refused (forward_rules line out) (forwarded line) out (number_for line) (forward-number line out c.if-out-lt-LINE_LIMIT.false) (refused-number line is.0)
-    (written_of c.from_residual.result) (ap written_of p.1 ∙ ap (λ (k : ℕ). record { number = k; len = 0 }) (ap number_of p.2 ∙ is.1)) in
+    _ (ap (λ (k : ℕ). record { number = k; len = 0 }) is.1) in
     record { answer = both.0; output = both.1 }
 
 pub returns : goal.returns
@@ -35,8 +32,8 @@ returns c =
     let line : List ℕ = c.args.line.now in
     let out : List ℕ = c.args.out.now in
     let room : line_limit ≤ length out = c.if-out-lt-LINE_LIMIT.false in
-    let is = parsed-read line c.in_ok-m.m c.in_ok-m.ensures.parsed in
-    let made = read-forwards line out c.in_ok-m.m is.1 is.0 room in
+    let is = parsed-read line _ c.in-Ok.ensures.parsed in
+    let made = read-forwards line out c.in-Ok.m is.1 is.0 room in
     let both = answers-same _ (forward_rules line out) made.0 (forward-number line out room ∙ number-none line is.0) _ (forwarded line) out made.1 _ _
     (c.write_cased.ensures.answer, c.write_cased.ensures.output) in
     record { answer = both.0; output = both.1 }

@@ -1,14 +1,10 @@
--- `differing` meets its contract. The invariant: no bits so far, and the first j bytes have the same fold. Assumes nothing.
+-- `differing` meets its contract. The invariant: where there are no bits so far, the first j bytes have the same fold. Assumes nothing.
 use mathlib.Core.Path.{◌≡◌}
-use Prim.Native.Nat.{◌-◌, ◌≤◌}
-use lib.ListN.{drop}
-use Rattle.bans.specs.Private.Comparing.{block_size, SameFolds}
+use mathlib.Core.List.{map}
+use lib.ListN.{take}
+use Rattle.names.specs.Fold.{fold}
 use Rattle.bans.proofs.order.differing.Given as goal
 
 abbrev pub invariant-loop-j : goal.invariant-loop-j
 invariant-loop-j l =
-    (l.j ≤ block_size) × (l.bits ≡ 0 → SameFolds l.j (drop l.at l.a) (drop l.at l.b))
-
-abbrev pub decreases-loop-j : goal.decreases-loop-j
-decreases-loop-j l =
-    block_size - l.j
+    l.bits ≡ 0 → map fold (take l.j l.a) ≡ map fold (take l.j l.b)

@@ -23,7 +23,7 @@ returns-in_err-time c =
     let number : first_of (bmask_rules content) ≡ number_of e = sym (ap (λ (l : Listing). l.number) c.in_err-time.ensures) in
     rw (p.1, p.2, number, ne_eqb _ accepted (number-given e))
 
-pub returns : goal.returns
+pub returns-in-Ok : goal.returns-in-Ok
 unfolding listing_in
 returns c =
     let content : Content = content_by c.args.line.now c.args.m in
