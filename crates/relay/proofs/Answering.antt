@@ -12,7 +12,7 @@ use Rattle.refusal.specs.Rules.{first_of}
 use Rattle.refusal.proofs.Rules.{skip, first-none, emitted-none, emitted-all}
 use Rattle.laws.specs.Bits.{has_bit}
 use Rattle.laws.proofs.Bools.{and_left}
-use Rattle.links.specs.Links.{is_link, has_link, links_in}
+use Rattle.links.specs.Links.{is_link, has_link}
 use Rattle.message.specs.Grammar.{line_limit}
 use Rattle.message.specs.Reading.{message_of}
 use Rattle.message.proofs.Readings.{read_small}

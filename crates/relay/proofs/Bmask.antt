@@ -15,7 +15,7 @@ use Rattle.refusal.proofs.Rules.{plain_rules, first_plain, skip, stop, first-nil
 use Rattle.laws.specs.Lists.{all}
 use Rattle.octets.specs.Decimals.{value_of}
 use Rattle.channel.specs.declared.Record.{Record}
-use Rattle.channel.specs.Limits.{slot_count, ban_limit}
+use Rattle.channel.specs.Limits.{ban_limit}
 use Rattle.channel.specs.Record.{empty_record}
 use Rattle.bans.specs.Masks.{is_mask}
 use Rattle.bans.specs.WellFormed.{well_formed_list}

@@ -1,11 +1,10 @@
 -- How a line's answer follows from what its steps answer: each refusal is that of the first rule that applies, and where there is none the change is made. Assumes
 -- nothing.
 use mathlib.Core.Path.{◌≡◌, refl, sym, ap, ◌∙◌}
-use mathlib.Core.Bool.{Bool, true, false}
+use mathlib.Core.Bool.{true, false}
 use mathlib.Core.List.{List}
 use Prim.Native.Nat.{ℕ, ◌<◌}
 use lib.ListN.{length}
-use lib.Dec.{eqb}
 use borrow.Author.Tests.{eq-eqb, ne_eqb}
 use Rattle.std.specs.Prelude.{Result, Ok, Err}
 use Rattle.refusal.specs.Numbers.{accepted, is_mode_number}
@@ -18,25 +17,22 @@ use Rattle.refusal.proofs.Refusals.{number-given}
 use Rattle.refusal.proofs.Rules.{first_plain}
 use Rattle.octets.specs.Room.{front}
 use Rattle.message.specs.declared.Message.{Message}
-use Rattle.message.specs.Content.{Content}
 use Rattle.message.specs.Parts.{content_by}
 use Rattle.message.specs.Reading.{Parsed, number_for, is_read, message_of, parsed_of, parsed_as}
 use Rattle.message.proofs.SpanContents.{message-holds}
 use Rattle.channel.specs.Limits.{slot_count}
 use Rattle.table.specs.declared.Head.{Head}
-use Rattle.table.specs.Network.{Table, Network, head_of, network_of}
+use Rattle.table.specs.Network.{Table, head_of, network_of}
 use Rattle.table.specs.Table.{good_table}
 use Rattle.sjoin.specs.Join.{line_place}
 use Rattle.sjoin.proofs.Answers.{place_none, reader-plain}
 use Rattle.relay.specs.declared.Change.{Change}
 use Rattle.relay.specs.declared.Relayed.{Relayed}
 use Rattle.relay.specs.declared.Request.{Request}
-use Rattle.relay.specs.declared.Taken.{Taken}
 use Rattle.relay.specs.Arrival.{Arrival, said}
 use Rattle.relay.specs.Commands.{command_of, command_in}
-use Rattle.relay.specs.Relay.{meaning_in, entry_rules, entering_rules, process_rules, refused, Outcome, process_answer, taken_of, taken_by, sent}
-use Rattle.relay.specs.Private.Work.{by_place}
-use Rattle.relay.specs.Private.Commands.{work_of, asked_by, settled_in}
+use Rattle.relay.specs.Relay.{meaning_in, entering_rules, process_rules, Outcome, process_answer, taken_of, taken_by, sent}
+use Rattle.relay.specs.Private.Commands.{asked_by, settled_in}
 use Rattle.relay.specs.Private.Acting.{head_with, slot_set, done_by, written_by, sent_to}
 use Rattle.relay.proofs.Judgements.{Does, Judged}
 use Rattle.relay.proofs.Lawful.{Lawful}

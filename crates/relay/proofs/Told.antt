@@ -1,7 +1,7 @@
 -- What an answer tells of the test that decides it. Assumes nothing.
 use mathlib.Core.Path.{◌≡◌, refl}
 use mathlib.Core.Bool.{Bool, true, false, cond}
-use Rattle.std.specs.Prelude.{Result, Ok, Err}
+use Rattle.std.specs.Prelude.{Ok, Err}
 
 module _ {A N : Type 0} (x : A) (n : N) where
   -- something is answered where it passes

@@ -65,7 +65,12 @@ pub(crate) fn settled(
             sending: Sending::AsRead,
         }),
         Request::Bmask { name, time } => {
-            masks(slot_of(t, line, *name), *time, param_in(line, m, MASKS_AT), bans)
+            masks(
+                slot_of(t, line, *name),
+                *time,
+                param_in(line, m, MASKS_AT),
+                bans,
+            )
         }
     }
 }

@@ -1,24 +1,20 @@
 -- `take` meets its contract: a refusal is that of the first rule that applies, or the change that the line is judged to be is made. Assumes nothing.
-use mathlib.Core.Path.{◌≡◌, refl, sym, ap, ◌∙◌}
-use mathlib.Core.Bool.{Bool, true}
+use mathlib.Core.Path.{sym, ap, ◌∙◌}
+use mathlib.Core.Bool.{Bool}
 use mathlib.Core.List.{List}
 use Prim.Native.Nat.{ℕ}
 use lib.ListN.{length}
-use Rattle.std.specs.Prelude.{Ok, Err}
 use Rattle.std.proofs.lemmas.Result.{err_from_is_err_and}
-use Rattle.refusal.specs.Numbers.{accepted}
 use Rattle.refusal.specs.Rules.{first_of}
-use Rattle.refusal.specs.Refusals.{number_of}
 use Rattle.octets.specs.Room.{front}
 use Rattle.message.specs.declared.Message.{Message}
 use Rattle.message.specs.Content.{Content}
 use Rattle.message.specs.Parts.{content_by}
-use Rattle.message.specs.Reading.{is_read, message_of}
 use Rattle.message.proofs.Readings.{read_small}
 use Rattle.message.proofs.SpanContents.{message-holds}
 use Rattle.table.specs.Network.{Table, network_of, table_with}
-use Rattle.relay.specs.Arrival.{Arrival, arrival, said}
-use Rattle.relay.specs.Relay.{entry_rules, entering_rules}
+use Rattle.relay.specs.Arrival.{arrival}
+use Rattle.relay.specs.Relay.{entry_rules}
 use Rattle.relay.specs.Private.Acting.{head_with, done_by, written_by}
 use Rattle.relay.specs.Private.Commands.{settled_in}
 use Rattle.relay.proofs.Deciding.{read-line, message-is, parts-ask, entry-refused, reader-refused, request-refused, change-refused, change-inside, change-made}
@@ -86,8 +82,8 @@ returns c =
     let is = c.in_ok-change.ensures ∙ ap (settled_in (network_of t) a.line.now c.in_ok-request.request) says in
     let writes = ap (λ (m : Message). written_by j.sending a.line.now m a.out.now) (message-is c.args.line.now c.in_ok-m.m c.in_ok-m.ensures.parsed) in
     let r = change-made t (arrival a.link a.line.now) a.out.now passes read _ asks j is _ _ _ _ _
-        c.receivers-set.ensures
-        (c.send-len.ensures.answer ∙ ap (λ (l : List ℕ). length l) writes)
-        (c.send-len.ensures.output ∙ ap (λ (l : List ℕ). front l a.out.now) writes)
-        (c.act.ensures.head ∙ ap (λ (x : Content). head_with a.t.now (done_by j.deed x (network_of t)).slots) says)
-        (c.act.ensures.lists ∙ ap (λ (x : Content). (done_by j.deed x (network_of t)).bans) says) in record { answer = r.answer; lists = r.lists; output = r.output }
+    c.receivers-set.ensures
+    (c.send-len.ensures.answer ∙ ap (λ (l : List ℕ). length l) writes)
+    (c.send-len.ensures.output ∙ ap (λ (l : List ℕ). front l a.out.now) writes)
+    (c.act.ensures.head ∙ ap (λ (x : Content). head_with a.t.now (done_by j.deed x (network_of t)).slots) says)
+    (c.act.ensures.lists ∙ ap (λ (x : Content). (done_by j.deed x (network_of t)).bans) says) in record { answer = r.answer; lists = r.lists; output = r.output }

@@ -1,6 +1,5 @@
 -- `mask_request` meets its contract: a BMASK is refused by its own rules, or asks for its masks, with their time. Assumes nothing.
 use mathlib.Core.Path.{◌≡◌, sym, ap, ◌∙◌}
-use Prim.Native.Nat.{ℕ}
 use borrow.Author.Tests.{ne_eqb}
 use Rattle.std.proofs.lemmas.Result.{err_from_is_err_and}
 use Rattle.refusal.specs.Numbers.{accepted}
@@ -23,7 +22,7 @@ returns-in_err-time c =
     let number : first_of (bmask_rules content) ≡ number_of e = sym (ap (λ (l : Listing). l.number) c.in_err-time.ensures) in
     rw (p.1, p.2, number, ne_eqb _ accepted (number-given e))
 
-pub returns-in-Ok : goal.returns-in-Ok
+pub returns : goal.returns
 unfolding listing_in
 returns c =
     let content : Content = content_by c.args.line.now c.args.m in

@@ -1,22 +1,15 @@
 -- `requested` meets its contract: each command asks by its own function. Assumes nothing.
-use mathlib.Core.Path.{◌≡◌, refl, sym, ap, ◌∙◌}
+use mathlib.Core.Path.{◌≡◌, refl, sym, ◌∙◌}
 use mathlib.Core.Bool.{Bool, true, false, false≢true}
-use mathlib.Core.List.{List}
-use Prim.Native.Nat.{ℕ}
-use native.Mathlib.Omega.{arith}
-use Rattle.std.specs.Prelude.{Result, Ok, Err}
 use Rattle.std.proofs.lemmas.Result.{err_from_is_err_and}
-use Rattle.refusal.specs.Faults.{Fault, fault}
 use Rattle.refusal.proofs.Rules.{first_plain}
 use Rattle.message.specs.Content.{Content}
 use Rattle.message.specs.Parts.{content_by}
 use Rattle.bmask.specs.Masks.{bmask_rules}
 use Rattle.bmask.proofs.Rules.{rules-plain}
-use Rattle.relay.specs.declared.Request.{Request}
-use Rattle.relay.specs.Commands.{Command, Sjoin, Part, Quit, Bmask, Unknown, command_of}
+use Rattle.relay.specs.Commands.{Part, Quit, Bmask}
 use Rattle.relay.specs.Part.{part_rules}
 use Rattle.relay.specs.Quit.{quit_rules}
-use Rattle.relay.specs.Private.Commands.{asked_by}
 use Rattle.relay.proofs.Words.{word-join, word-part, word-quit, word-mask, word-unknown}
 use Rattle.relay.proofs.Asking.{asked-ok, asked-err, asked-unknown}
 use Rattle.relay.proofs.requests.requested.Goals as goal
@@ -73,7 +66,11 @@ pub returns-else-eq_ignore_ascii_case-4 : goal.returns-else-eq_ignore_ascii_case
 returns-else-eq_ignore_ascii_case-4 c =
     let word = c.command_in-word.ensures.bytes in
     let other : (x : Bool) (P : Type 0) → x ≡ false → (P → x ≡ true) → P → ⊥ = λ x P e f z. false≢true (sym e ∙ f z) in
-    rw (c.into.ensures, ← word, word-unknown c.command_in-word.result.now (other _ _ c.if-eq_ignore_ascii_case.false c.eq_ignore_ascii_case.ensures.test.1)
-    (other _ _ c.if-eq_ignore_ascii_case-2.false c.eq_ignore_ascii_case-else-eq_ignore_ascii_case.ensures.test.1)
-    (other _ _ c.if-eq_ignore_ascii_case-3.false c.eq_ignore_ascii_case-else-eq_ignore_ascii_case-2.ensures.test.1)
-    (other _ _ c.if-eq_ignore_ascii_case-4.false c.eq_ignore_ascii_case-else-eq_ignore_ascii_case-3.ensures.test.1)) (asked-unknown c.args.line.now c.args.m)
+    rw (
+      c.into.ensures,
+      ← word,
+      word-unknown c.command_in-word.result.now (other _ _ c.if-eq_ignore_ascii_case.false c.eq_ignore_ascii_case.ensures.test.1)
+          (other _ _ c.if-eq_ignore_ascii_case-2.false c.eq_ignore_ascii_case-else-eq_ignore_ascii_case.ensures.test.1)
+          (other _ _ c.if-eq_ignore_ascii_case-3.false c.eq_ignore_ascii_case-else-eq_ignore_ascii_case-2.ensures.test.1)
+          (other _ _ c.if-eq_ignore_ascii_case-4.false c.eq_ignore_ascii_case-else-eq_ignore_ascii_case-3.ensures.test.1),
+    ) (asked-unknown c.args.line.now c.args.m)

@@ -15,7 +15,7 @@ placed-requires c =
 
 pub returns-then-is_err : goal.returns-then-is_err
 returns-then-is_err c =
-    rw c.placed.ensures (piece-ends c.args.self.now c.args.bans.now _ _ _ _ (c.as_slice-bytes.ensures.value ∙ c.joined-joined.ensures) c.replay-r.ensures.answer c.replay-r.ensures.lists (some-number c.replay-r.result.stopped _ c.is_err.ensures c.if-is_err.true))
+    rw c.placed.ensures (piece-ends c.args.self.now c.args.bans.now _ _ _ _ (c.as_slice-bytes.ensures.value ∙ c.joined-joined.ensures) c.replay-r.ensures.answer c.replay-r.ensures.lists (some-number c.replay-r.result.stopped _ c.is_err.ensures.value c.if-is_err.true))
 
 pub overflow_add-self : goal.overflow_add-self
 overflow_add-self c =
@@ -32,6 +32,6 @@ slice_bounds-left-start c =
 
 pub returns : goal.returns
 returns c =
-    let few = left-few _ _ _ c.replay-r.ensures.answer (no-number c.replay-r.result.stopped _ c.is_err.ensures c.if-is_err.false) in
-    piece-left c.args.self.now c.args.bans.now _ _ _ _ (c.as_slice-bytes.ensures.value ∙ c.joined-joined.ensures) c.replay-r.ensures.answer c.replay-r.ensures.lists (no-number c.replay-r.result.stopped _ c.is_err.ensures c.if-is_err.false)
+    let few = left-few _ _ _ c.replay-r.ensures.answer (no-number c.replay-r.result.stopped _ c.is_err.ensures.value c.if-is_err.false) in
+    piece-left c.args.self.now c.args.bans.now _ _ _ _ (c.as_slice-bytes.ensures.value ∙ c.joined-joined.ensures) c.replay-r.ensures.answer c.replay-r.ensures.lists (no-number c.replay-r.result.stopped _ c.is_err.ensures.value c.if-is_err.false)
     (omega (arith, c.as_slice-bytes.ensures.fits)) _ refl refl (grind (arith, common_steps))
