@@ -44,7 +44,7 @@ use Rattle.bans.proofs.Encoding.{masks-encode}
 use Rattle.bans.proofs.Slots.{empty-masks, empty-whole, list-stored, lists-empty}
 use Rattle.merging.specs.Settings.{greater, join_settings}
 use Rattle.merging.specs.Merging.{merge}
-use Rattle.table.specs.declared.Slot.TheVariants.{Held}
+use Rattle.table.specs.Slots.{Held}
 use Rattle.table.specs.Network.{Table, Network, network_of, with_network, list_in, with_list, emptied_if}
 use Rattle.table.specs.Table.{holds, good_table}
 use Rattle.table.specs.Slots.{slot_in, first_at, free_slot, slot_for}

@@ -29,7 +29,7 @@ use Rattle.merging.specs.Plain.{everyone}
 use Rattle.merging.proofs.Proper.{proper-merge}
 use Rattle.merging.proofs.Plains.{length-everyone}
 use Rattle.merging.proofs.Merges.{folded, folded-name, folded-snoc, length-folded}
-use Rattle.table.specs.declared.Slot.TheVariants.{Held, Free}
+use Rattle.table.specs.Slots.{Held, Free}
 use Rattle.table.specs.Network.{Table, Network, network_of, with_network, with_slots}
 use Rattle.table.specs.Table.{good_table}
 use Rattle.table.specs.Slots.{slot_for}

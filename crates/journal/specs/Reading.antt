@@ -1,13 +1,18 @@
 -- A log read back (document 02, §5): what stands first in some bytes of it, and so the records of a whole log, up to its end or its first fault.
 use Rattle.std.specs.Prelude.{ℕ, zero, suc, ◌+◌, Bool, true, false, not, ◌&&◌, List, [], ◌∷◌, map, length, drop, get_or, eqb, ltb}
+use Rattle.std.specs.Prelude as prelude
+use Rattle.std.specs.Prelude.{Result, Ok, Err}
 use Rattle.std.proofs.Math.Option.{Option, some, none}
 use Rattle.refusal.specs.Numbers.{accepted, no_mark, bad_log_link, bad_log_length, log_cut}
 use Rattle.refusal.specs.Faults as faults
 use Rattle.refusal.specs.Faults.{fault, Check, ◌if◌, first_fault}
+use Rattle.refusal.specs.Refusals as refusals
+use Rattle.refusal.specs.declared.Fault as refusal
 use Rattle.laws.specs.Joins.{concatenated}
 use Rattle.links.specs.Links.{is_link}
 use Rattle.message.specs.Grammar.{line_limit}
 use Rattle.message.specs.Parts.{span}
+use Rattle.journal.specs.declared.LoggedLine.{LoggedLine}
 use Rattle.journal.specs.declared.RecordRead.{RecordRead}
 use Rattle.journal.specs.Journal.{head_length, first_mark, second_mark, record_of, link_in, length_in, line_in}
 
@@ -126,6 +131,12 @@ abbrev pub answer_at : ℕ → Found → RecordRead
 answer_at at End = missing_for accepted 0
 answer_at at (Whole e) = record { line = span (at + head_length) (at + size_of e); place = 0; link = e.link; number = accepted; found = true }
 answer_at at (Faulty f) = missing_for f.number (at + f.place)
+
+-- the same of what the code answers
+abbrev pub read_by : Result (prelude.Option LoggedLine) refusal.Fault → RecordRead
+read_by (Ok prelude.None) = missing_for accepted 0
+read_by (Ok (prelude.Some r)) = record { line = r.line; place = 0; link = r.link; number = accepted; found = true }
+read_by (Err f) = missing_for (refusals.number_of f.refusal) f.place
 
 -- a place past the log's end is the end
 unfoldable pub read_answer : List ℕ → ℕ → RecordRead

@@ -8,14 +8,14 @@ ghost use Rattle.std.specs.Prelude.{◌≡◌};
 ghost use Rattle.refusal.specs.Rules.{emitted};
 ghost use Rattle.octets.specs.Room.{front};
 ghost use Rattle.journal.specs.Journal.{log_rules, record_of, logged_answer};
-ghost use Rattle.journal.specs.Reading.{record_limit, missing_for, read_answer};
+ghost use Rattle.journal.specs.Reading.{record_limit, read_answer, read_by};
 ghost use Rattle.journal.specs.Private.Logged.{logged_by};
 
 use faults::{byte_at, check_record, length_in};
 use links::Links;
 use message::{LINE_LIMIT, Span};
 use octets::part;
-use refusal::{ACCEPTED, Refusal, number};
+use refusal::{ACCEPTED, Fault, Refusal, number};
 
 // The bytes of a record before its line: mark, link and length.
 pub const HEAD: usize = 5;
@@ -79,6 +79,13 @@ fn put_record(link: u32, line: &[u8], log: &mut [u8]) -> Result<usize, Refusal>
     Ok(size)
 }
 
+// A line that was logged, as a part of the log, and the link that it came by. The next record begins behind it.
+#[derive(Clone, Copy)]
+pub struct LoggedLine {
+    pub line: Span,
+    pub link: u32,
+}
+
 // What stands at a place of a log. A record: the link, and the part of the log that is the line, behind which the next record begins. Else, by the number, the
 // log's end or a fault, with the place of the first byte at fault. What isn't told of is zero.
 // Kept (1): it is what C's relay_read_record answers.
@@ -92,42 +99,63 @@ pub struct RecordRead {
     pub found: bool,
 }
 
-// There is no record: the end of the log, or a fault and its place.
-fn missing(number: u8, place: usize) -> RecordRead
-    ensures { result ≡ missing_for number place }
-{
-    RecordRead {
-        line: Span { start: 0, end: 0 },
-        place,
-        link: 0,
-        number,
-        found: false,
+// An answer as C gets it.
+impl From<Result<Option<LoggedLine>, Fault>> for RecordRead {
+    ghost from_gives = { λ answer read. read ≡ read_by answer };
+
+    fn from(answer: Result<Option<LoggedLine>, Fault>) -> RecordRead {
+        match answer {
+            Ok(Some(LoggedLine { line, link })) => RecordRead {
+                line,
+                place: 0,
+                link,
+                number: ACCEPTED,
+                found: true,
+            },
+            Ok(None) => RecordRead {
+                line: Span { start: 0, end: 0 },
+                place: 0,
+                link: 0,
+                number: ACCEPTED,
+                found: false,
+            },
+            Err(fault) => RecordRead {
+                line: Span { start: 0, end: 0 },
+                place: fault.place,
+                link: 0,
+                number: fault.refusal.number(),
+                found: false,
+            },
+        }
     }
 }
 
 // Reads what stands at a place of the log; a place past the end is the end. No more than RECORD_LIMIT bytes from there are looked at, so a log can be read in
-// pieces: but for the end and LOG_CUT, which come where a piece ends, more bytes behind it change no answer.
-#[tactic(auto, using(crate::proofs::Answers::reading))]
+// pieces: but for the end and LogCut, which come where a piece ends, more bytes behind it change no answer.
 pub fn read_record(log: &[u8], at: usize) -> RecordRead
     ensures answer { result ≡ read_answer log.now at }
     ensures limit { RECORD_LIMIT ≡ record_limit }
 {
+    record_at(log, at).into()
+}
+
+// The same: a record, the log's end, or a fault with the place of the first byte at fault.
+#[tactic(auto, using(crate::proofs::Answers::reading))]
+pub fn record_at(log: &[u8], at: usize) -> Result<Option<LoggedLine>, Fault>
+    ensures { read_by result ≡ read_answer log.now at }
+{
     let s = part(log, at, log.len());
     if s.is_empty() {
-        return missing(ACCEPTED, 0);
+        return Ok(None);
     }
     if let Err(fault) = check_record(s) {
-        return missing(fault.refusal.number(), at + fault.place);
+        return Err(fault.refusal.at(at + fault.place));
     }
     let start = at + HEAD;
-    RecordRead {
-        line: Span {
-            start,
-            end: start + length_in(s),
-        },
-        place: 0,
-        link: u32::from(byte_at(s, 2)),
-        number: ACCEPTED,
-        found: true,
-    }
+    let line = Span {
+        start,
+        end: start + length_in(s),
+    };
+    let link = u32::from(byte_at(s, 2));
+    Ok(Some(LoggedLine { line, link }))
 }

@@ -9,8 +9,7 @@ use lib.ListN.{length, drop, length-drop}
 use Rattle.refusal.specs.Numbers.{accepted}
 use Rattle.journal.specs.Reading.{record_limit}
 use Rattle.table.specs.Network.{Table, table_with}
-use Rattle.replay.specs.declared.Replayed.{Replayed}
-use Rattle.replay.specs.Replay.{Replay, ready_table, replay_answer, replayed_of}
+use Rattle.replay.specs.Replay.{Replay, Replayed, ready_table, replay_answer, replayed_of}
 use Rattle.replay.specs.Pieces.{placed_at, replay_over}
 use Rattle.replay.proofs.Pieces.{answer-within, answer-left, over-goes-on, over-stops, over-ends, replay-over}
 use Rattle.logfile.specs.declared.progress.Progress.{Progress}

@@ -1,5 +1,7 @@
 // A log replayed piece by piece: how far it has got, and what is left of the last piece.
 ghost use Rattle.std.specs.Prelude.{◌≡◌, [], ◌++◌, ◌≤◌, length};
+ghost use Rattle.refusal.specs.Refusals.{fault_place};
+ghost use Rattle.replay.specs.Replay.{replayed_by};
 ghost use Rattle.logfile.specs.Files.{replay_in};
 ghost use Rattle.logfile.specs.Private.Progress.{piece_limit, room, place_limit, left_in, placed, comes_to, Begins, Moves};
 
@@ -27,18 +29,25 @@ pub(crate) struct Progress {
 }
 
 // What a replay of the bytes from a place on has come to.
+#[tactic(auto, using(crate::proofs::Stopping::stopped))]
 fn placed(r: Replayed, at: u64) -> FileReplay
-    requires { (at ≤ place_limit) × (r.used ≤ room) × (r.place ≤ room) }
-    ensures { result ≡ placed r at }
+    requires { (at ≤ place_limit) × (r.used ≤ room) × (fault_place r.stopped ≤ room) }
+    ensures { result ≡ placed (replayed_by r) at }
 {
-    FileReplay {
-        head: r.head,
-        used: at + r.used as u64,
-        number: r.number,
-        place: if r.number == ACCEPTED {
-            0
-        } else {
-            at + r.place as u64
+    let head = r.head;
+    let used = at + r.used as u64;
+    match r.stopped {
+        Ok(()) => FileReplay {
+            head,
+            used,
+            number: ACCEPTED,
+            place: 0,
+        },
+        Err(fault) => FileReplay {
+            head,
+            used,
+            number: fault.refusal.number(),
+            place: at + fault.place as u64,
         },
     }
 }
@@ -78,7 +87,7 @@ impl Progress {
         let joined = self.joined(piece);
         let bytes = joined.as_slice();
         let r = replay(self.head, bans, bytes, false);
-        if r.number != ACCEPTED {
+        if r.stopped.is_err() {
             return ControlFlow::Break(placed(r, self.at));
         }
         self.head = r.head;

@@ -19,7 +19,6 @@ use Rattle.writer.proofs.Rounds.{read-forwards}
 use Rattle.channel.specs.declared.Record.{Record}
 use Rattle.channel.specs.Record.{decode}
 use Rattle.telling.specs.Telling.{join_message, tell_rules}
-use Rattle.relay.specs.declared.Change.{Change}
 use Rattle.relay.specs.declared.Sending.{Sending}
 use Rattle.relay.specs.declared.Sending.TheVariants.{Silent, AsRead, Anew}
 use Rattle.relay.specs.Private.Acting.{passed_on, told_anew, written_by, sent_to}
@@ -36,15 +35,14 @@ module _ (line : List ℕ) (read : is_read line ≡ true) (out : List ℕ) (room
   passes-it = let f = read-forwards line out (message_of line) refl read room in emitted-all _ _ f.0 ∙ f.1
 
   -- A message that is sent, and is no longer than a line can be, is written; where none goes out, nothing is.
-  pub sends-it : (s : Sending) (j : Change) (goes : Bool) (d : Content) → Sends s j (content_of line) goes d → length (written d) ≤ line_limit
-      → written_by s j line (message_of line) out ≡ cond goes (written d) []
+  pub sends-it : (s : Sending) (goes : Bool) (d : Content) → Sends s (content_of line) goes d → length (written d) ≤ line_limit → written_by s line (message_of line) out ≡ cond goes (written d) []
   unfolding forwarded
-  sends-it Silent j goes d e short = rw e
-  sends-it AsRead j goes d e short = rw e.0 (passes-it ∙ ap written e.1)
-  sends-it Anew j goes d e short = rw e.0 (tells-it j.told (rw e.1 short) ∙ ap written e.1)
+  sends-it Silent goes d e short = rw e
+  sends-it AsRead goes d e short = rw e.0 (passes-it ∙ ap written e.1)
+  sends-it (Anew told) goes d e short = rw e.0 (tells-it told (rw e.1 short) ∙ ap written e.1)
 
 -- It goes to every registered link but its own, or to none.
-pub goes_to : (s : Sending) (j : Change) (c : Content) (goes : Bool) (d : Content) → Sends s j c goes d → (links : Links) (link : ℕ) → sent_to s links link ≡ cond goes (relay_set links link) 0
-goes_to Silent j c goes d e links link = rw e
-goes_to AsRead j c goes d e links link = rw e.0
-goes_to Anew j c goes d e links link = rw e.0
+pub goes_to : (s : Sending) (c : Content) (goes : Bool) (d : Content) → Sends s c goes d → (links : Links) (link : ℕ) → sent_to s links link ≡ cond goes (relay_set links link) 0
+goes_to Silent c goes d e links link = rw e
+goes_to AsRead c goes d e links link = rw e.0
+goes_to (Anew told) c goes d e links link = rw e.0

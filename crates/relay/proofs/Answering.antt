@@ -6,12 +6,13 @@ use mathlib.Core.List.{List, []}
 use native.Mathlib.Omega.{arith}
 use lib.ListN.{length}
 use borrow.Author.Tests.{ne_eqb, le-ltb, not-false, ltb-false}
+use Rattle.std.specs.Prelude.{Ok}
 use Rattle.refusal.specs.Numbers.{accepted}
 use Rattle.refusal.specs.Rules.{first_of}
 use Rattle.refusal.proofs.Rules.{skip, first-none, emitted-none, emitted-all}
 use Rattle.laws.specs.Bits.{has_bit}
 use Rattle.laws.proofs.Bools.{and_left}
-use Rattle.links.specs.Links.{is_link, has_link, links_in}
+use Rattle.links.specs.Links.{is_link, has_link}
 use Rattle.message.specs.Grammar.{line_limit}
 use Rattle.message.specs.Reading.{message_of}
 use Rattle.message.proofs.Readings.{read_small}
@@ -20,9 +21,8 @@ use Rattle.table.specs.Network.{Table, Network, head_of, network_of}
 use Rattle.table.specs.Table.{good_network, good_table}
 use Rattle.sjoin.specs.Join.{line_place}
 use Rattle.relay.specs.declared.Change.{Change}
-use Rattle.relay.specs.declared.Taken.{Taken}
 use Rattle.relay.specs.Arrival.{Arrival, said}
-use Rattle.relay.specs.Relay.{meaning_in, taken_rules, network_by, goes_by, message_by, relayed, process_rules, refused, taken, process_answer, taken_of, sent}
+use Rattle.relay.specs.Relay.{meaning_in, taken_rules, network_by, goes_by, message_by, relayed, process_rules, refused, taken, process_answer, taken_of, taken_by, sent}
 use Rattle.relay.specs.Private.Acting.{head_with, done_by, written_by, sent_to}
 use Rattle.relay.proofs.Judgements.{Does}
 use Rattle.relay.proofs.Taking.{rules-none, relayed-reads}
@@ -78,23 +78,22 @@ module _ (t : Table) (a : Arrival) (n : ℕ) where
     -- ---- the change is made
     module _ (j : Change) (d : Does (meaning_in a) (network_of t) a j) where
       -- the answer with the change made is the one to give
-      pub answer-taken : (number set count len : ℕ) (head : Head) → number ≡ accepted → head ≡ head_with (head_of t) (done_by j.deed j (said a) (network_of t)).slots
-          → set ≡ sent_to j.sending t.links a.link → count ≡ length (links_in set) → len ≡ length (relayed (network_of t) a)
-          → ◌≡◌ {A = Taken} (record { number = number; place = 0; head = head; set = set; count = count; len = len }) (taken_of (process_answer t a n))
+      pub answer-taken : (set len : ℕ) (head : Head) → head ≡ head_with (head_of t) (done_by j.deed (said a) (network_of t)).slots → set ≡ sent_to j.sending t.links a.link
+          → len ≡ length (relayed (network_of t) a) → taken_by head (Ok (record { set = set; len = len })) ≡ taken_of (process_answer t a n)
       unfolding process_answer network_by goes_by
-      answer-taken number set count len head e f g h i =
-          let to = g ∙ goes_to j.sending j (said a) _ _ d.sends t.links a.link in
-          rw (none, e, f ∙ ap (λ (x : Network). head_with (head_of t) x.slots) d.network, h, to, i)
+      answer-taken set len head f g i =
+          let to = g ∙ goes_to j.sending (said a) _ _ d.sends t.links a.link in
+          rw (none, f ∙ ap (λ (x : Network). head_with (head_of t) x.slots) d.network, to, i)
 
       -- so are the ban lists
-      pub bans-taken : (done_by j.deed j (said a) (network_of t)).bans ≡ (process_answer t a n).table.bans
+      pub bans-taken : (done_by j.deed (said a) (network_of t)).bans ≡ (process_answer t a n).table.bans
       unfolding process_answer network_by
       bans-taken = rw none (ap (λ (x : Network). x.bans) d.network)
 
       -- the line that is written is the one that goes out
-      pub written-line : (out : List ℕ) → length out ≡ n → written_by j.sending j a.line (message_of a.line) out ≡ relayed (network_of t) a
+      pub written-line : (out : List ℕ) → length out ≡ n → written_by j.sending a.line (message_of a.line) out ≡ relayed (network_of t) a
       unfolding message_by goes_by
       written-line out h =
           let read = (rules-none (network_of t) a passed.2).0 in
           let short = (relayed-reads (network_of t) a passed.2 passed.0).short in
-          sends-it a.line read out (omega (arith, h, passed.1)) j.sending j (goes_by (network_of t) a) (message_by (network_of t) a) d.sends (omega (arith, short, read_small a.line read))
+          sends-it a.line read out (omega (arith, h, passed.1)) j.sending (goes_by (network_of t) a) (message_by (network_of t) a) d.sends (omega (arith, short, read_small a.line read))

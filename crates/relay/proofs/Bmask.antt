@@ -8,13 +8,14 @@ use native.Mathlib.Omega.{arith}
 use lib.ListN.{length, get_or}
 use lib.Dec.{ltb}
 use borrow.Author.Tests.{not-false}
+use Rattle.std.specs.Prelude.{Result, Ok, Err}
 use Rattle.refusal.specs.Numbers.{accepted, no_such_channel, too_many_masks}
 use Rattle.refusal.specs.Rules.{◌when◌, first_of, ascend_from, place_in}
 use Rattle.refusal.proofs.Rules.{plain_rules, first_plain, skip, stop, first-nil, first-none, append-some, append-none, both-none}
 use Rattle.laws.specs.Lists.{all}
 use Rattle.octets.specs.Decimals.{value_of}
 use Rattle.channel.specs.declared.Record.{Record}
-use Rattle.channel.specs.Limits.{slot_count, ban_limit}
+use Rattle.channel.specs.Limits.{ban_limit}
 use Rattle.channel.specs.Record.{empty_record}
 use Rattle.bans.specs.Masks.{is_mask}
 use Rattle.bans.specs.WellFormed.{well_formed_list}
@@ -22,24 +23,19 @@ use Rattle.bans.specs.Putting.{Added, add_answer}
 use Rattle.bans.specs.Slots.{list_at, list_of, list_with}
 use Rattle.bans.proofs.Slots.{used-list, load-whole}
 use Rattle.bans.proofs.Uniting.{add-full, add-keeps, add-list}
-use Rattle.table.specs.declared.Found.{Found}
-use Rattle.table.specs.declared.Slot.{Slot}
-use Rattle.table.specs.declared.Slot.TheVariants.{Held, Free, Full}
 use Rattle.table.specs.Network.{Network, list_in, with_list}
 use Rattle.table.specs.Table.{is_free, good_network}
-use Rattle.table.specs.Slots.{slot_in, held_in, is_held}
+use Rattle.table.specs.Slots.{Found, Slot, Held, Free, Full, slot_in, held_in, is_held}
 use Rattle.table.proofs.Searching.{slot_held}
 use Rattle.table.proofs.WellFormed.{holding-used, list-good, list-whole, list-change}
 use Rattle.sjoin.specs.Join.{time_in, name_in}
 use Rattle.bmask.specs.Masks.{mask_list_in, listed, bmask_rules}
-use Rattle.bmask.proofs.Rules.{rules-numbered, rules-plain, named, masked as are-masks}
-use Rattle.relay.specs.declared.Command.TheVariants.{Bmask}
+use Rattle.bmask.proofs.Rules.{rules-numbered, rules-plain, masked as are-masks}
+use Rattle.relay.specs.Commands.{Bmask}
 use Rattle.relay.specs.declared.Change.{Change}
-use Rattle.relay.specs.declared.Sending.TheVariants.{AsRead}
 use Rattle.relay.specs.Arrival.{Arrival, said}
 use Rattle.relay.specs.Bmask.{is_later, masks_with, masked_rules, masked, meaning}
-use Rattle.relay.specs.Private.Work.{unchanged, adds}
-use Rattle.relay.specs.Private.Bmask.{with_masks, masks_held, masks_found}
+use Rattle.relay.specs.Private.Bmask.{with_masks, nothing, adds, masks_held, masks_found}
 use Rattle.relay.proofs.Judgements.{Judged, refused-judged, settles}
 use Rattle.relay.proofs.Lawful.{BehindReader, Lawful}
 use Rattle.relay.proofs.AsRead.{as_read}
@@ -111,26 +107,25 @@ module _ (n : Network) (a : Arrival) where
           let is = add-list l (list_in n k) well in-masks f in
           rw e (rw is at (add-keeps l (list_in n k) well in-masks f).0, is)
 
-      judged-held : slot_count ≡ slot_count → k < slot_count → (j : Change) → j ≡ masks_held k held (value_of (time_in (said a))) (mask_list_in (said a)) n.bans → Judged meaning n a j
+      judged-held : (r : Result Change ℕ) → r ≡ masks_held k held (value_of (time_in (said a))) (mask_list_in (said a)) n.bans → Judged meaning n a r
       unfolding masks_held masked
-      judged-held _ i j f = go (is_later n (said a)) refl added.full refl
+      judged-held r f = go (is_later n (said a)) refl added.full refl
         where
-          is : (t : Bool) → is_later n (said a) ≡ t → (u : Bool) → added.full ≡ u → j ≡ cond t (unchanged accepted) (cond u (unchanged too_many_masks) (adds k AsRead))
+          is : (t : Bool) → is_later n (said a) ≡ t → (u : Bool) → added.full ≡ u → r ≡ cond t (Ok nothing) (cond u (Err too_many_masks) (Ok (adds k)))
           is t g u h = f ∙ rw (sym later ∙ g, with-masks, h)
 
-          go : (t : Bool) → is_later n (said a) ≡ t → (u : Bool) → added.full ≡ u → Judged meaning n a j
-          go true g u h =
-              settles meaning n a accepted (room-decides ∙ skip _ _ (rw g) ∙ first-nil) j (unchanged accepted) refl (omega arith) (λ _. record { network = rw g; sends = ap not g }) (is true g u h)
-          go false g true h = refused-judged meaning n a too_many_masks (room-decides ∙ stop _ _ (rw (g, h))) j (λ z. omega (arith, z)) (is false g true h)
+          go : (t : Bool) → is_later n (said a) ≡ t → (u : Bool) → added.full ≡ u → Judged meaning n a r
+          go true g u h = settles meaning n a accepted (room-decides ∙ skip _ _ (rw g) ∙ first-nil) r nothing (λ _. record { inside = omega arith; network = rw g; sends = ap not g }) (is true g u h)
+          go false g true h = refused-judged meaning n a too_many_masks (room-decides ∙ stop _ _ (rw (g, h))) r (is false g true h)
           go false g false h =
-              settles meaning n a accepted (room-decides ∙ skip _ _ (rw (g, h)) ∙ first-nil) j (adds k AsRead) refl i
-              (λ _. record { network = rw (g, e, with-masks) (ap (with_list n k) (made h).1); sends = (ap not g, refl) }) (is false g false h)
+              settles meaning n a accepted (room-decides ∙ skip _ _ (rw (g, h)) ∙ first-nil) r (adds k)
+              (λ _. record { inside = omega arith; network = rw (g, e, with-masks) (ap (with_list n k) (made h).1); sends = (ap not g, refl) }) (is false g false h)
 
-    settled : good_network n ≡ true → length n.slots ≡ slot_count → (j : Change) (s : Slot) → slot_in n (name_in (said a)) ≡ s
-        → j ≡ masks_found s (held_in n.slots s) (value_of (time_in (said a))) (mask_list_in (said a)) n.bans → Judged meaning n a j
-    settled good sixteen j (Held k) e f = judged-held good k e refl (omega (arith, inside good k e)) j f
-    settled good sixteen j (Free k) e f = refused-judged meaning n a no_such_channel (absent (ap is_held e)) j (λ z. omega (arith, z)) f
-    settled good sixteen j Full e f = refused-judged meaning n a no_such_channel (absent (ap is_held e)) j (λ z. omega (arith, z)) f
+    settled : good_network n ≡ true → (r : Result Change ℕ) (s : Slot) → slot_in n (name_in (said a)) ≡ s
+        → r ≡ masks_found s (held_in n.slots s) (value_of (time_in (said a))) (mask_list_in (said a)) n.bans → Judged meaning n a r
+    settled good r (Held k) e f = judged-held good k e r f
+    settled good r (Free k) e f = refused-judged meaning n a no_such_channel (absent (ap is_held e)) r f
+    settled good r Full e f = refused-judged meaning n a no_such_channel (absent (ap is_held e)) r f
 
   -- ---- where no rule refuses it
   own-none : first_of (meaning.rules n a) ≡ accepted → (first_of (bmask_rules (said a)) ≡ accepted) × (first_of (masked_rules n (said a)) ≡ accepted)
@@ -159,12 +154,11 @@ pub lawful : Lawful Bmask
 lawful = record {
   ordered = ordered;
   first = λ n a ne. append-some (masked_rules n (said a)) (bmask_rules (said a)) ne;
-  asks = λ m c. refl;
   modes = λ c e. absurd (true≢false (sym e ∙ first_plain (bmask_rules c) (rules-plain c)));
   plain = λ n a own. first_plain (meaning.rules n a) (unplaced n a);
-  judged = λ n a good sixteen read own j e.
-      let found = name-found a.line n.slots 1 (omega arith) (named (said a) own) in
-      settled n a own good sixteen j (slot_in n (name_in (said a))) refl
+  judged = λ n a good read own r e.
+      let found = name-found a.line n.slots 1 (omega arith) in
+      settled n a own good r (slot_in n (name_in (said a))) refl
       (e ∙ ap (λ (f : Found). masks_found f.slot f.«record» (value_of (time_in (said a))) (mask_list_in (said a)) n.bans) found);
   keeps = λ n a p. keeps n a p.good p.none;
   reads = λ n a p. as_read a.line p.read;

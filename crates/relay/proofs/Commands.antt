@@ -10,9 +10,7 @@ use Rattle.refusal.specs.Rules.{◌when◌, first_of, ascend_from, place_in}
 use Rattle.refusal.proofs.Rules.{stop, first_plain}
 use Rattle.laws.specs.Lists.{same}
 use Rattle.octets.proofs.Bytes.{same_true}
-use Rattle.relay.specs.declared.Command.{Command}
-use Rattle.relay.specs.declared.Command.TheVariants.{Sjoin, Part, Quit, Bmask, Unknown}
-use Rattle.relay.specs.Commands.{meaning_of, command_among}
+use Rattle.relay.specs.Commands.{Command, Sjoin, Part, Quit, Bmask, Unknown, meaning_of, command_among}
 use Rattle.relay.proofs.Lawful.{Lawful}
 use Rattle.relay.proofs.Sjoin as joining
 use Rattle.relay.proofs.Part as parting
@@ -30,10 +28,9 @@ unfolding ascend_from place_in
 strange = record {
   ordered = λ n a. refl;
   first = λ n a ne. refl;
-  asks = λ m c. refl;
   modes = λ c e. absurd (true≢false (sym e ∙ first_plain (unknown_command when true ∷ []) refl));
   plain = λ n a own. first_plain ((meaning_of Unknown).rules n a) refl;
-  judged = λ n a good sixteen read own j e. absurd (unknown-refused own);
+  judged = λ n a good read own r e. absurd (unknown-refused own);
   keeps = λ n a p. absurd (unknown-refused p.none);
   reads = λ n a p. absurd (unknown-refused p.none);
 }

@@ -52,14 +52,13 @@ use Rattle.sjoin.specs.Join.{arguments_in, good_count, mode_rules, join_rules, c
 use Rattle.bmask.specs.Masks.{good_masks, bmask_rules}
 use Rattle.telling.specs.Telling.{letters_from, entry_of, params_of, sjoin}
 use Rattle.retelling.specs.Retelling.{Reads}
-use Rattle.relay.specs.declared.Command.TheVariants.{Sjoin, Unknown}
 use Rattle.relay.specs.Arrival.{Arrival, arrival}
 use Rattle.relay.specs.Leaving.{is_last, left_lists}
 use Rattle.relay.specs.Sjoin.{resulting, joined_rules, is_earlier, joined, outgoing}
 use Rattle.relay.specs.Part.{part_rules, parted_rules, parted}
 use Rattle.relay.specs.Quit.{quit_rules, quitted}
 use Rattle.relay.specs.Bmask.{is_later, masks_with, masked_rules, masked}
-use Rattle.relay.specs.Commands.{command_among, command_in}
+use Rattle.relay.specs.Commands.{Sjoin, Unknown, command_among, command_in}
 use Rattle.relay.specs.Relay.{taken_rules, entering_rules, network_by, goes_by, message_by, relayed, refused, process_answer}
 use Rattle.relay.proofs.Entering.{enters}
 use Rattle.relay.proofs.Results.{OneChanged}

@@ -26,12 +26,10 @@ use Rattle.sjoin.proofs.Former.{formerly, formerly-plain, same-formerly, append-
 use Rattle.octets.specs.Bytes.{capital}
 use Rattle.octets.proofs.Bytes.{same_refl, same_true}
 use Rattle.table.specs.Slots.{slot_rules}
-use Rattle.relay.specs.declared.Command.{Command}
-use Rattle.relay.specs.declared.Command.TheVariants.{Sjoin, Unknown}
 use Rattle.relay.specs.Arrival.{Arrival, said}
 use Rattle.relay.specs.Sjoin.{joined_rules}
 use Rattle.telling.specs.Telling.{sjoin}
-use Rattle.relay.specs.Commands.{commands, meaning_of, command_in}
+use Rattle.relay.specs.Commands.{Command, Sjoin, Unknown, commands, meaning_of, command_in}
 use Rattle.relay.specs.Relay.{meaning_in, taken_rules, entering_rules, process_rules, refused, taken, process_answer, sent}
 use Rattle.relay.specs.Former.{former_in, former_rules, former_answer, former_sent, rest_of, Splits}
 use Rattle.relay.proofs.Commands.{word_of}

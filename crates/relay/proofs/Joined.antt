@@ -26,17 +26,15 @@ use Rattle.channel.proofs.Proper.{Proper}
 use Rattle.bans.specs.Slots.{list_at, empty_list}
 use Rattle.bans.proofs.Slots.{stored_same, empty-whole}
 use Rattle.merging.specs.Merging.{merge}
-use Rattle.table.specs.declared.Slot.TheVariants.{Held, Free}
 use Rattle.table.specs.Network.{Table, Network, network_of, with_slots, emptied_if}
 use Rattle.table.specs.Table.{good_table}
-use Rattle.table.specs.Slots.{slot_in}
+use Rattle.table.specs.Slots.{Held, Free, slot_in}
 use Rattle.sjoin.specs.Join.{mode_rules, join_rules, channel_in}
 use Rattle.sjoin.proofs.Wellformed.{read-proper}
 use Rattle.telling.specs.Telling.{sjoin}
-use Rattle.relay.specs.declared.Command.TheVariants.{Sjoin}
 use Rattle.relay.specs.Arrival.{Arrival, said}
 use Rattle.relay.specs.Sjoin.{resulting, joined_rules, is_earlier, joined}
-use Rattle.relay.specs.Commands.{command_among, command_in}
+use Rattle.relay.specs.Commands.{Sjoin, command_among, command_in}
 use Rattle.relay.specs.Relay.{meaning_in, taken_rules, process_rules}
 use Rattle.relay.proofs.Results.{slot-told, room-left, earlier-free}
 

@@ -1,6 +1,6 @@
 -- Laws of taking a line, for the functions of this crate and for the crates above, and examples.
 mod Words
-mod Refusals
+mod Told
 mod Users
 mod Judgements
 mod Lawful
@@ -17,6 +17,7 @@ mod Commands
 pub mod Taking
 mod Acted
 pub mod Answering
+mod Deciding
 pub mod Joined
 pub mod IllFormed
 pub mod Places

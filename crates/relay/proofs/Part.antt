@@ -5,7 +5,9 @@ use mathlib.Core.Bool.{Bool, true, false, not, false≢true, true≢false}
 use mathlib.Core.List.{List, [], ◌∷◌}
 use native.Mathlib.Omega.{arith}
 use lib.ListN.{length, get_or, set}
-use borrow.Author.Tests.{le-leb, lt-leb, not-false}
+use lib.Dec.{leb}
+use borrow.Author.Tests.{le-leb, leb-true, not-false}
+use Rattle.std.specs.Prelude.{Result}
 use Rattle.refusal.specs.Numbers.{accepted, wrong_param_count, bad_source, bad_name, no_such_channel, not_on_channel}
 use Rattle.refusal.specs.Rules.{◌when◌, first_of, ascend_from, place_in}
 use Rattle.refusal.proofs.Rules.{plain_rules, first_plain, skip, stop, first-nil, first-none, numbered, append-some, append-none, both-none}
@@ -16,16 +18,13 @@ use Rattle.channel.specs.Limits.{slot_count}
 use Rattle.channel.specs.Members.{has_member, without}
 use Rattle.channel.specs.Record.{decode, empty_record}
 use Rattle.bans.specs.Slots.{list_at}
-use Rattle.table.specs.declared.Found.{Found}
-use Rattle.table.specs.declared.Slot.{Slot}
-use Rattle.table.specs.declared.Slot.TheVariants.{Held, Free, Full}
 use Rattle.table.specs.Network.{Network, with_slots, with_bans, emptied_if}
 use Rattle.table.specs.Table.{good_network}
-use Rattle.table.specs.Slots.{slot_in, held_in, is_held, place_of}
+use Rattle.table.specs.Slots.{Found, Slot, Held, Free, Full, slot_in, held_in, is_held, place_of}
 use Rattle.table.proofs.Searching.{slot_held}
-use Rattle.table.proofs.WellFormed.{slots-good, slots-distinct, list-good, slot-change}
+use Rattle.table.proofs.WellFormed.{slots-few, slots-good, slots-distinct, list-good, slot-change}
 use Rattle.table.proofs.Changing.{good-at, without-good, without-keeps, kept_set, distinct-kept}
-use Rattle.relay.specs.declared.Command.TheVariants.{Part}
+use Rattle.relay.specs.Commands.{Part}
 use Rattle.relay.specs.declared.Change.{Change}
 use Rattle.relay.specs.Arrival.{Arrival, said}
 use Rattle.relay.specs.Leaving.{is_last}
@@ -43,42 +42,33 @@ module _ (c : Content) where
   unfolding part_rules
   own-numbered = refl
 
-  -- too few parameters
-  pub part-few : length c.params < 1 → first_of (part_rules c) ≡ wrong_param_count
+  -- too few or too many parameters
+  pub part-miscounted : (1 ≤ length c.params → length c.params ≤ 2 → ⊥) → first_of (part_rules c) ≡ wrong_param_count
   unfolding part_rules
-  part-few h = stop _ _ (rw (lt-leb 1 (length c.params) h))
+  part-miscounted ne = go (leb 1 (length c.params)) refl (leb (length c.params) 2) refl
+    where
+      go : (t : Bool) → leb 1 (length c.params) ≡ t → (u : Bool) → leb (length c.params) 2 ≡ u → first_of (part_rules c) ≡ wrong_param_count
+      go true h true k = absurd (ne (leb-true 1 (length c.params) h) (leb-true (length c.params) 2 k))
+      go true h false k = stop _ _ (rw (h, k))
+      go false h u k = stop _ _ (rw h)
 
-  module _ (h : 1 ≤ length c.params) where
-    -- too many
-    pub part-many : 2 < length c.params → first_of (part_rules c) ≡ wrong_param_count
+  module _ (h : 1 ≤ length c.params) (l : length c.params ≤ 2) where
+    part-counted : first_of (part_rules c) ≡ first_of (bad_source when not (prefix_is is_user_id c.prefix) ∷ bad_name when not (is_channel (parted_in c)) ∷ [])
     unfolding part_rules
-    part-many k = stop _ _ (rw (le-leb 1 (length c.params) h, lt-leb (length c.params) 2 k))
+    part-counted = skip _ _ (rw (le-leb 1 (length c.params) h, le-leb (length c.params) 2 l))
 
-    module _ (l : length c.params ≤ 2) where
-      part-counted : first_of (part_rules c) ≡ first_of (bad_source when not (prefix_is is_user_id c.prefix) ∷ bad_name when not (is_channel (parted_in c)) ∷ [])
-      unfolding part_rules
-      part-counted = skip _ _ (rw (le-leb 1 (length c.params) h, le-leb (length c.params) 2 l))
+    -- no user
+    pub part-unsourced : prefix_is is_user_id c.prefix ≡ false → first_of (part_rules c) ≡ bad_source
+    part-unsourced u = part-counted ∙ stop _ _ (ap not u)
 
-      -- no user
-      pub part-unsourced : prefix_is is_user_id c.prefix ≡ false → first_of (part_rules c) ≡ bad_source
-      part-unsourced u = part-counted ∙ stop _ _ (ap not u)
+    module _ (u : prefix_is is_user_id c.prefix ≡ true) where
+      -- no channel's name
+      pub part-unnamed : is_channel (parted_in c) ≡ false → first_of (part_rules c) ≡ bad_name
+      part-unnamed m = part-counted ∙ skip _ _ (ap not u) ∙ stop _ _ (ap not m)
 
-      module _ (u : prefix_is is_user_id c.prefix ≡ true) where
-        -- no channel's name
-        pub part-unnamed : is_channel (parted_in c) ≡ false → first_of (part_rules c) ≡ bad_name
-        part-unnamed m = part-counted ∙ skip _ _ (ap not u) ∙ stop _ _ (ap not m)
-
-        -- nothing to refuse
-        pub part-passes : is_channel (parted_in c) ≡ true → first_of (part_rules c) ≡ accepted
-        part-passes m = part-counted ∙ skip _ _ (ap not u) ∙ skip _ _ (ap not m) ∙ first-nil
-
-  -- where none applies, it names a channel
-  names-channel : first_of (part_rules c) ≡ accepted → is_channel (parted_in c) ≡ true
-  unfolding part_rules
-  names-channel e =
-      let counted = first-none _ _ (λ z. omega arith) e in
-      let sourced = first-none _ _ (λ z. omega arith) counted.1 in
-      not-false _ (first-none _ _ (λ z. omega arith) sourced.1).0
+      -- nothing to refuse
+      pub part-passes : is_channel (parted_in c) ≡ true → first_of (part_rules c) ≡ accepted
+      part-passes m = part-counted ∙ skip _ _ (ap not u) ∙ skip _ _ (ap not m) ∙ first-nil
 
 -- ---- in its slot
 module _ (n : Network) (a : Arrival) where
@@ -110,19 +100,19 @@ module _ (n : Network) (a : Arrival) where
       unfolding parted_rules
       user-decides = rest ∙ rw e (skip _ _ refl)
 
-      judged-held : k < slot_count → (j : Change) → j ≡ parts_held k held (source_in (said a)) → Judged meaning n a j
+      judged-held : k < slot_count → (r : Result Change ℕ) → r ≡ parts_held k held (source_in (said a)) → Judged meaning n a r
       unfolding parts_held parted
-      judged-held i j f = go present refl
+      judged-held i r f = go present refl
         where
-          go : (t : Bool) → present ≡ t → Judged meaning n a j
+          go : (t : Bool) → present ≡ t → Judged meaning n a r
           go true h =
-              settles meaning n a accepted (user-decides ∙ skip _ _ (ap not h) ∙ first-nil) j (parts k held (source_in (said a))) refl i (λ _. record { network = rw e; sends = (refl, refl) }) (f ∙ rw h)
-          go false h = refused-judged meaning n a not_on_channel (user-decides ∙ stop _ _ (ap not h)) j (λ z. omega (arith, z)) (f ∙ rw h)
+              settles meaning n a accepted (user-decides ∙ skip _ _ (ap not h) ∙ first-nil) r (parts k held (source_in (said a))) (λ _. record { inside = i; network = rw e; sends = (refl, refl) }) (f ∙ rw h)
+          go false h = refused-judged meaning n a not_on_channel (user-decides ∙ stop _ _ (ap not h)) r (f ∙ rw h)
 
-    settled : length n.slots ≡ slot_count → (j : Change) (s : Slot) → slot_in n (parted_in (said a)) ≡ s → j ≡ parts_found s (held_in n.slots s) (source_in (said a)) → Judged meaning n a j
-    settled sixteen j (Held k) e f = judged-held k e (omega (arith, (slot_held n.slots (parted_in (said a)) empty_record k e).inside)) j f
-    settled sixteen j (Free k) e f = refused-judged meaning n a no_such_channel (absent (ap is_held e)) j (λ z. omega (arith, z)) f
-    settled sixteen j Full e f = refused-judged meaning n a no_such_channel (absent (ap is_held e)) j (λ z. omega (arith, z)) f
+    settled : good_network n ≡ true → (r : Result Change ℕ) (s : Slot) → slot_in n (parted_in (said a)) ≡ s → r ≡ parts_found s (held_in n.slots s) (source_in (said a)) → Judged meaning n a r
+    settled good r (Held k) e f = judged-held k e (omega (arith, (slot_held n.slots (parted_in (said a)) empty_record k e).inside, slots-few n good)) r f
+    settled good r (Free k) e f = refused-judged meaning n a no_such_channel (absent (ap is_held e)) r f
+    settled good r Full e f = refused-judged meaning n a no_such_channel (absent (ap is_held e)) r f
 
   -- ---- where no rule refuses it
   -- it names a channel that is there
@@ -162,12 +152,11 @@ pub lawful : Lawful Part
 lawful = record {
   ordered = ordered;
   first = λ n a ne. append-some (parted_rules n (said a)) (part_rules (said a)) ne;
-  asks = λ m c. refl;
   modes = λ c e. absurd (true≢false (sym e ∙ first_plain (part_rules c) (own-unplaced c)));
   plain = λ n a own. first_plain (meaning.rules n a) (unplaced n a);
-  judged = λ n a good sixteen read own j e.
-      let found = name-found a.line n.slots 0 (omega arith) (names-channel (said a) own) in
-      settled n a own sixteen j (slot_in n (parted_in (said a))) refl (e ∙ ap (λ (f : Found). parts_found f.slot f.«record» (source_in (said a))) found);
+  judged = λ n a good read own r e.
+      let found = name-found a.line n.slots 0 (omega arith) in
+      settled n a own good r (slot_in n (parted_in (said a))) refl (e ∙ ap (λ (f : Found). parts_found f.slot f.«record» (source_in (said a))) found);
   keeps = λ n a p. keeps n a p.good (names-held n a p.none);
   reads = λ n a p. as_read a.line p.read;
 }

@@ -23,10 +23,8 @@ use Rattle.sjoin.proofs.Faults.{mode-some}
 use Rattle.sjoin.proofs.Judged.{faulty}
 use Rattle.sjoin.proofs.Answers.{place_none, place-some, reader-plain}
 use Rattle.sjoin.proofs.Places.{located}
-use Rattle.relay.specs.declared.Command.{Command}
-use Rattle.relay.specs.declared.Command.TheVariants.{Sjoin}
 use Rattle.relay.specs.Arrival.{Arrival, said}
-use Rattle.relay.specs.Commands.{meaning_of, command_in}
+use Rattle.relay.specs.Commands.{Command, Sjoin, meaning_of, command_in}
 use Rattle.relay.specs.Relay.{meaning_in, taken_rules, entering_rules, process_rules, process_answer}
 use Rattle.relay.specs.Places.{PointsAt, Points}
 use Rattle.relay.specs.Private.Commands.{work_of}

@@ -1,11 +1,12 @@
 -- QUIT is lawful: nothing in the network refuses it, a slot that loses a member stays good, and the line goes out as read. Assumes nothing.
-use Prim.Native.Nat.{◌≤◌, ◌<◌}
+use Prim.Native.Nat.{ℕ, ◌≤◌, ◌<◌}
 use mathlib.Core.Path.{◌≡◌, refl, ap, ◌∙◌, sym}
 use mathlib.Core.Bool.{true, false, not, true≢false}
 use mathlib.Core.List.{[], ◌∷◌, map}
 use native.Mathlib.Omega.{arith}
 use lib.ListN.{length, length-map}
 use borrow.Author.Tests.{le-leb, lt-leb}
+use Rattle.std.specs.Prelude.{Result, Ok}
 use Rattle.refusal.specs.Numbers.{accepted, wrong_param_count, bad_source}
 use Rattle.refusal.specs.Rules.{◌when◌, first_of, ascend_from, place_in}
 use Rattle.refusal.proofs.Rules.{plain_rules, first_plain, skip, stop, first-nil}
@@ -18,12 +19,11 @@ use Rattle.table.specs.Table.{good_network}
 use Rattle.table.specs.Private.Parts.{good_record}
 use Rattle.table.proofs.WellFormed.{network-made, slots-few, slots-good, slots-distinct}
 use Rattle.table.proofs.Changing.{without-good, without-keeps, kept_map, distinct-kept}
-use Rattle.relay.specs.declared.Command.TheVariants.{Quit}
+use Rattle.relay.specs.Commands.{Quit}
 use Rattle.relay.specs.declared.Change.{Change}
-use Rattle.relay.specs.declared.Sending.TheVariants.{AsRead}
 use Rattle.relay.specs.Arrival.{Arrival, said}
 use Rattle.relay.specs.Quit.{quit_rules, quitted, meaning}
-use Rattle.relay.specs.Private.Work.{drops}
+use Rattle.relay.specs.Private.Quit.{quits}
 use Rattle.relay.proofs.Judgements.{Judged, settles}
 use Rattle.relay.proofs.Lawful.{BehindReader, Lawful}
 use Rattle.relay.proofs.AsRead.{as_read}
@@ -59,9 +59,9 @@ module _ (n : Network) (a : Arrival) where
   unfolding quit_rules
   unplaced = refl
 
-  judged : first_of (quit_rules (said a)) ≡ accepted → (j : Change) → j ≡ drops (source_in (said a)) AsRead → Judged meaning n a j
+  judged : first_of (quit_rules (said a)) ≡ accepted → (r : Result Change ℕ) → r ≡ Ok (quits (source_in (said a))) → Judged meaning n a r
   unfolding quitted
-  judged own j e = settles meaning n a accepted own j (drops (source_in (said a)) AsRead) refl (omega arith) (λ _. record { network = refl; sends = (refl, refl) }) e
+  judged own r e = settles meaning n a accepted own r (quits (source_in (said a))) (λ _. record { inside = omega arith; network = refl; sends = (refl, refl) }) e
 
   keeps : good_network n ≡ true → good_network (quitted n (said a)) ≡ true
   unfolding quitted
@@ -80,10 +80,9 @@ pub lawful : Lawful Quit
 lawful = record {
   ordered = ordered;
   first = λ n a ne. refl;
-  asks = λ m c. refl;
   modes = λ c e. absurd (true≢false (sym e ∙ first_plain (quit_rules c) (own-unplaced c)));
   plain = λ n a own. first_plain (meaning.rules n a) (unplaced n a);
-  judged = λ n a good sixteen read own j e. judged n a own j e;
+  judged = λ n a good read own r e. judged n a own r e;
   keeps = λ n a p. keeps n a p.good;
   reads = λ n a p. as_read a.line p.read;
 }

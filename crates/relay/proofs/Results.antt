@@ -30,11 +30,9 @@ use Rattle.bans.proofs.Slots.{used-list, free-list, unused-well}
 use Rattle.merging.specs.Merging.{Combined, merge, answered, room_rules, combined}
 use Rattle.merging.proofs.Proper.{proper-merge}
 use Rattle.merging.proofs.Answers.{combined-merge}
-use Rattle.table.specs.declared.Slot.{Slot}
-use Rattle.table.specs.declared.Slot.TheVariants.{Held, Free, Full}
 use Rattle.table.specs.Network.{Network, with_slots, with_bans, emptied_if}
 use Rattle.table.specs.Table.{is_free, holds, distinct, good_network}
-use Rattle.table.specs.Slots.{slot_in, slot_number, place_of, slot_rules}
+use Rattle.table.specs.Slots.{Slot, Held, Free, Full, slot_in, slot_number, place_of, slot_rules}
 use Rattle.table.proofs.First.{IsFirst}
 use Rattle.table.proofs.Searching.{slot_held, slot-free, number_is}
 use Rattle.table.proofs.WellFormed.{holding-used, holding-name, slots-good, slots-distinct, list-good, slot-change}

@@ -2,10 +2,11 @@
 -- as the line's, at a time that is no later. Assumes nothing.
 use mathlib.Core.Path.{◌≡◌, refl, sym, ap, ap₂, ◌∙◌}
 use mathlib.Core.Bool.{Bool, true, false}
-use Prim.Native.Nat.{ℕ}
+use Prim.Native.Nat.{ℕ, ◌<◌}
 use native.Mathlib.Omega.{arith}
-use lib.ListN.{length, get_or}
+use lib.ListN.{get_or}
 use lib.Dec.{eqb, ltb}
+use Rattle.std.specs.Prelude.{Result}
 use Rattle.refusal.specs.Numbers.{accepted, no_free_slot, is_mode_number}
 use Rattle.refusal.specs.Rules.{first_of, ascend_from, place_in}
 use Rattle.refusal.proofs.Rules.{first_plain, append-some, append-none, both-none, append-plain}
@@ -20,19 +21,17 @@ use Rattle.channel.specs.Standing.{counts, settings_at, standing, bare}
 use Rattle.channel.proofs.Proper.{Proper, proper-fits}
 use Rattle.channel.proofs.Records.{decode-encode}
 use Rattle.merging.specs.Merging.{Combined, combined}
-use Rattle.table.specs.declared.Found.{Found}
-use Rattle.table.specs.declared.Slot.{Slot}
-use Rattle.table.specs.declared.Slot.TheVariants.{Held, Free, Full}
 use Rattle.table.specs.Network.{Network}
 use Rattle.table.specs.Table.{good_network}
-use Rattle.table.specs.Slots.{slot_in, held_in, found_for, place_of, slot_rules}
+use Rattle.table.specs.Slots.{Found, Slot, Held, Free, Full, slot_in, held_in, found_for, place_of, slot_rules}
+use Rattle.table.proofs.WellFormed.{slots-few}
 use Rattle.sjoin.specs.Join.{mode_rules, join_rules, channel_in}
 use Rattle.telling.specs.Telling.{join_message}
 use Rattle.sjoin.proofs.Judged.{rules-numbered}
 use Rattle.sjoin.proofs.Wellformed.{read-proper}
 use Rattle.retelling.proofs.Retold.{retold-reads}
 use Rattle.retelling.specs.Retelling.{Reads}
-use Rattle.relay.specs.declared.Command.TheVariants.{Sjoin}
+use Rattle.relay.specs.Commands.{Sjoin}
 use Rattle.relay.specs.declared.Change.{Change}
 use Rattle.relay.specs.Arrival.{Arrival, said}
 use Rattle.relay.specs.Sjoin.{resulting, joined_rules, is_earlier, joined, outgoing, meaning}
@@ -71,33 +70,30 @@ module _ (n : Network) (a : Arrival) where
     rest = append-none (joined_rules n incoming) (join_rules (said a)) (rules-numbered (said a)) own
 
     -- ---- the judgement
-    module _ (good : good_network n ≡ true) (sixteen : length n.slots ≡ slot_count) (j : Change) where
+    module _ (good : good_network n ≡ true) (r : Result Change ℕ) where
       -- slot k is to hold what results
-      joins-it : (k : ℕ) (emptied : Bool) (result : Record) → place_of n.slots (slot_in n incoming.name) ≡ k → emptied ≡ is_earlier n incoming → result ≡ encode (resulting n incoming)
-          → first_of (joined_rules n incoming) ≡ accepted → Does meaning n a (joins k emptied result (encode incoming))
+      joins-it : (k : ℕ) (emptied : Bool) (result : Record) → k < slot_count → place_of n.slots (slot_in n incoming.name) ≡ k → emptied ≡ is_earlier n incoming → result ≡ encode (resulting n incoming)
+          → first_of (joined_rules n incoming) ≡ accepted → Does meaning n a (joins k result emptied (encode incoming))
       unfolding joined
-      joins-it k emptied result e g f none =
+      joins-it k emptied result i e g f none =
           let whole = decode-encode (resulting n incoming) (proper-fits _ (result-proper n good incoming proper none)) in
           let told = told-stands result (encode incoming) ∙ ap₂ outgoing (ap decode f ∙ whole) (back n incoming proper) in
-          record { network = rw (e, g, f); sends = (refl, ap (join_message (source_in (said a))) told) }
+          record { inside = i; network = rw (e, g, f); sends = (refl, ap (join_message (source_in (said a))) told) }
 
-      abbrev Sjoined : Type 0
-      Sjoined = Judged meaning n a j
-
-      settled : (s : Slot) → slot_in n incoming.name ≡ s → j ≡ joins_found s (held_in n.slots s) (encode incoming) → Sjoined
+      settled : (s : Slot) → slot_in n incoming.name ≡ s → r ≡ joins_found s (held_in n.slots s) (encode incoming) → Judged meaning n a r
       unfolding joins_held
       settled (Held k) e f =
           let there = get_or n.slots k empty_record in
           let answer : Combined = combined there (encode incoming) in
           let number : first_of (joined_rules n incoming) ≡ answer.number = sym (held_number n incoming proper k e) in
           let earlier = ltb (encode incoming).time there.time in
-          settles meaning n a answer.number (rest ∙ number) j (joins k earlier answer.result (encode incoming)) refl (omega (arith, held-inside n incoming proper k e))
-          (λ z. joins-it k earlier answer.result (ap (place_of n.slots) e) (sym (earlier-held n incoming k e)) (held-answer n incoming proper k e (number ∙ z)) (number ∙ z)) f
+          settles meaning n a answer.number (rest ∙ number) r (joins k answer.result earlier (encode incoming))
+          (λ z. joins-it k earlier answer.result (omega (arith, held-inside n incoming proper k e, slots-few n good)) (ap (place_of n.slots) e) (sym (earlier-held n incoming k e)) (held-answer n incoming proper k e (number ∙ z)) (number ∙ z)) f
       settled (Free k) e f =
           let none = free-rules n incoming proper k e in
-          settles meaning n a accepted (rest ∙ none) j (joins k false (encode incoming) (encode incoming)) refl (omega (arith, free-inside n incoming proper k e))
-          (λ _. joins-it k false (encode incoming) (ap (place_of n.slots) e) (sym (earlier-free n incoming k e)) (ap encode (sym (free-result n incoming proper k e))) none) f
-      settled Full e f = refused-judged meaning n a no_free_slot (rest ∙ full-rules n incoming e) j (λ z. omega (arith, z)) f
+          settles meaning n a accepted (rest ∙ none) r (joins k (encode incoming) false (encode incoming))
+          (λ _. joins-it k false (encode incoming) (omega (arith, free-inside n incoming proper k e, slots-few n good)) (ap (place_of n.slots) e) (sym (earlier-free n incoming k e)) (ap encode (sym (free-result n incoming proper k e))) none) f
+      settled Full e f = refused-judged meaning n a no_free_slot (rest ∙ full-rules n incoming e) r f
 
   -- ---- where no rule refuses it
   module _ (p : Unrefused meaning n a) where
@@ -114,10 +110,9 @@ module _ (n : Network) (a : Arrival) where
         retold-reads a.line p.read own-none p.word (resulting n incoming).name (resulting n incoming).time h.0 h.1 h.2 h.3
 
 -- the slot that is looked for is that of its channel
-found : (n : Network) (a : Arrival) → is_read a.line ≡ true → first_of (join_rules (said a)) ≡ accepted
-    → looked_up n.slots a.line (get_or (message_of a.line).params 1 nowhere) ≡ found_for n.slots (channel_in (said a)).name
+found : (n : Network) (a : Arrival) → looked_up n.slots a.line (get_or (message_of a.line).params 1 nowhere) ≡ found_for n.slots (channel_in (said a)).name
 unfolding channel_in
-found n a read own = name-found a.line n.slots 1 (omega arith) (proper n a read own).name
+found n a = name-found a.line n.slots 1 (omega arith)
 
 ordered : (n : Network) (a : Arrival) → BehindReader (meaning.rules n a)
 unfolding ascend_from place_in join_rules mode_rules joined_rules slot_rules
@@ -134,12 +129,11 @@ pub lawful : Lawful Sjoin
 lawful = record {
   ordered = ordered;
   first = λ n a ne. append-some (joined_rules n (channel_in (said a))) (join_rules (said a)) ne;
-  asks = λ m c. refl;
   modes = λ c e. refl;
   plain = plain;
-  judged = λ n a good sixteen read own j e.
-      settled n a read own good sixteen j (slot_in n (channel_in (said a)).name) refl
-      (e ∙ ap (λ (f : Found). joins_found f.slot f.«record» (encode (channel_in (said a)))) (found n a read own));
+  judged = λ n a good read own r e.
+      settled n a read own good r (slot_in n (channel_in (said a)).name) refl
+      (e ∙ ap (λ (f : Found). joins_found f.slot f.«record» (encode (channel_in (said a)))) (found n a));
   keeps = keeps;
   reads = reads;
 }

@@ -21,12 +21,10 @@ use Rattle.table.specs.Slots.{slot_in, place_of}
 use Rattle.sjoin.specs.Join.{channel_in}
 use Rattle.sjoin.proofs.Wellformed.{read-proper}
 use Rattle.retelling.specs.Retelling.{Reads}
-use Rattle.relay.specs.declared.Command.{Command}
-use Rattle.relay.specs.declared.Command.TheVariants.{Sjoin, Part, Quit, Bmask, Unknown}
 use Rattle.relay.specs.Arrival.{Arrival, said}
 use Rattle.relay.specs.Sjoin.{resulting, joined}
 use Rattle.relay.specs.Bmask.{bmask, is_later, masked}
-use Rattle.relay.specs.Commands.{commands, meaning_of, command_in}
+use Rattle.relay.specs.Commands.{Command, Sjoin, Part, Quit, Bmask, Unknown, commands, meaning_of, command_in}
 use Rattle.relay.specs.Relay.{meaning_in, taken_rules, network_by, goes_by, message_by, relayed, entering_rules, process_rules, process_answer, sent}
 use Rattle.relay.proofs.Lawful.{Unrefused}
 use Rattle.relay.proofs.Commands.{unknown-refused, lawful, word_of}

@@ -1,59 +1,70 @@
--- Laws of a word compared with a name in capitals, at a place of both; and of the first of some commands that has a word. Assumes nothing.
-use mathlib.Core.Path.{◌≡◌, refl, sym, ◌∙◌}
+-- Laws of the command that a word is, letters compared without case. Assumes nothing.
+use mathlib.Core.Path.{◌≡◌, refl, sym, ap, ap₂, ◌∙◌}
 use mathlib.Core.Bool.{Bool, true, false}
 use mathlib.Core.List.{List, [], ◌∷◌, map}
-use Prim.Native.Nat.{ℕ, ◌+◌, ◌≤◌, ◌<◌}
-use lib.ListN.{length, drop, get_or}
-use lib.Dec.{eqb}
-use borrow.Author.Tests.{eq-eqb, ne_eqb}
-use Rattle.octets.specs.Bytes.{capital}
+use Prim.Native.Nat.{ℕ}
+use native.Mathlib.Omega.{arith}
+use Rattle.std.specs.Char.{to_ascii_lowercase}
+use Rattle.std.proofs.lemmas.Bool.Decides.{nat_tests}
+use Rattle.octets.specs.Bytes.{within, capital}
+use Rattle.octets.proofs.Bytes.{same_true}
 use Rattle.laws.specs.Lists.{same, same_by}
-use Rattle.laws.proofs.Lists.{same_by-differ, same_by-map-left, same_by-past, same_by-stop, same_by-go}
-use Rattle.relay.specs.declared.Command.{Command}
-use Rattle.relay.specs.declared.Command.TheVariants.{Unknown}
-use Rattle.relay.specs.Commands.{meaning_of, command_among}
+use Rattle.relay.specs.Commands.{Command, Sjoin, Part, Quit, Bmask, Unknown, meaning_of, commands, command_among, command_of}
 
--- the word in capitals is the name
-abbrev pub is_word : List ℕ → List ℕ → Bool
-is_word word name = same (map capital word) name
+-- ---- a byte
+capital-small : (b : ℕ) → capital (to_ascii_lowercase b) ≡ capital b
+unfolding capital within
+capital-small b = grind (arith, nat_tests)
 
-abbrev same_byte : ℕ → ℕ → Bool
-same_byte x y = eqb (capital x) y
+small-capital : (b : ℕ) → to_ascii_lowercase (capital b) ≡ to_ascii_lowercase b
+unfolding capital within
+small-capital b = grind (arith, nat_tests)
 
-word_bytes : (word name : List ℕ) → is_word word name ≡ same_by same_byte word name
-word_bytes word name = same_by-map-left eqb capital word name
+-- ---- a word
+abbrev small : List ℕ → List ℕ
+small word = map to_ascii_lowercase word
 
-module _ (word name : List ℕ) (i : ℕ) where
-  module _ (h : i < length word) (k : i < length name) where
-    -- another byte makes another word
-    pub word-stop : (capital (get_or word i 0) ≡ get_or name i 0 → ⊥) → is_word (drop i word) (drop i name) ≡ false
-    word-stop ne = word_bytes (drop i word) (drop i name) ∙ same_by-stop same_byte word name i 0 h k (ne_eqb _ _ ne)
+capitals-small : (word : List ℕ) → map capital (small word) ≡ map capital word
+capitals-small [] = refl
+capitals-small (b ∷ s) = ap₂ ◌∷◌ (capital-small b) (capitals-small s)
 
-    -- behind equal bytes the others decide
-    pub word-go : capital (get_or word i 0) ≡ get_or name i 0 → is_word (drop i word) (drop i name) ≡ is_word (drop (i + 1) word) (drop (i + 1) name)
-    word-go e = word_bytes (drop i word) (drop i name) ∙ same_by-go same_byte word name i 0 h k (eq-eqb _ _ e) ∙ sym (word_bytes (drop (i + 1) word) (drop (i + 1) name))
+small-capitals : (word : List ℕ) → small (map capital word) ≡ small word
+small-capitals [] = refl
+small-capitals (b ∷ s) = ap₂ ◌∷◌ (small-capital b) (small-capitals s)
 
-  -- past both there is nothing that could differ
-  pub word-past : length word ≤ i → length name ≤ i → is_word (drop i word) (drop i name) ≡ true
-  word-past h k = word_bytes (drop i word) (drop i name) ∙ same_by-past same_byte word name i h k
+-- words that are the same but for case have the same capitals, and only they do
+capitals-same : (word name : List ℕ) → small word ≡ small name → map capital word ≡ map capital name
+capitals-same word name e = sym (capitals-small word) ∙ ap (map capital) e ∙ capitals-small name
 
--- a word of another length is another word
-pub lengths_differ : (word name : List ℕ) → (length word ≡ length name → ⊥) → is_word word name ≡ false
-lengths_differ word name ne = word_bytes word name ∙ same_by-differ same_byte word name ne
+same-capitals : (word name : List ℕ) → map capital word ≡ name → small word ≡ small name
+same-capitals word name e = sym (small-capitals word) ∙ ap small e
 
--- ---- the first of some commands that has the word
-module _ (k : Command) (s : List Command) (word : List ℕ) where
-  -- it is the first
-  pub among-here : is_word word (meaning_of k).word ≡ true → command_among (k ∷ s) (map capital word) ≡ k
+-- ---- the command
+module _ (word : List ℕ) where
+  pub word-join : small word ≡ small (meaning_of Sjoin).word → command_of word ≡ Sjoin
+  unfolding capital within command_among same_by
+  word-join e = ap (command_among commands) (capitals-same word (meaning_of Sjoin).word e)
+
+  pub word-part : small word ≡ small (meaning_of Part).word → command_of word ≡ Part
+  unfolding capital within command_among same_by
+  word-part e = ap (command_among commands) (capitals-same word (meaning_of Part).word e)
+
+  pub word-quit : small word ≡ small (meaning_of Quit).word → command_of word ≡ Quit
+  unfolding capital within command_among same_by
+  word-quit e = ap (command_among commands) (capitals-same word (meaning_of Quit).word e)
+
+  pub word-mask : small word ≡ small (meaning_of Bmask).word → command_of word ≡ Bmask
+  unfolding capital within command_among same_by
+  word-mask e = ap (command_among commands) (capitals-same word (meaning_of Bmask).word e)
+
+  other : (k : Command) → (small word ≡ small (meaning_of k).word → ⊥) → same (map capital word) (meaning_of k).word ≡ false
+  other k ne = go (same (map capital word) (meaning_of k).word) refl
+    where
+      go : (t : Bool) → same (map capital word) (meaning_of k).word ≡ t → same (map capital word) (meaning_of k).word ≡ false
+      go true e = absurd (ne (same-capitals word (meaning_of k).word (same_true (map capital word) (meaning_of k).word e)))
+      go false e = e
+
+  pub word-unknown : (small word ≡ small (meaning_of Sjoin).word → ⊥) → (small word ≡ small (meaning_of Part).word → ⊥) → (small word ≡ small (meaning_of Quit).word → ⊥)
+      → (small word ≡ small (meaning_of Bmask).word → ⊥) → command_of word ≡ Unknown
   unfolding command_among
-  among-here e = rw e
-
-  -- it is none but those behind the first
-  pub among_next : is_word word (meaning_of k).word ≡ false → command_among (k ∷ s) (map capital word) ≡ command_among s (map capital word)
-  unfolding command_among
-  among_next e = rw e
-
--- none is left
-pub among_none : (word : List ℕ) → command_among [] (map capital word) ≡ Unknown
-unfolding command_among
-among_none word = refl
+  word-unknown a b c d = rw (other Sjoin a, other Part b, other Quit c, other Bmask d)

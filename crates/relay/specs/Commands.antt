@@ -6,14 +6,20 @@ use Rattle.laws.specs.Lists.{same}
 use Rattle.octets.specs.Bytes.{capital}
 use Rattle.writer.specs.Form.{in_capitals}
 use Rattle.message.specs.Reading.{content_of}
-use Rattle.relay.specs.declared.Command.{Command}
-use Rattle.relay.specs.declared.Command.TheVariants.{Sjoin, Part, Quit, Bmask, Unknown}
 use Rattle.relay.specs.Arrival.{said}
 use Rattle.relay.specs.Meaning.{Meaning}
 use Rattle.relay.specs.Sjoin as joining
 use Rattle.relay.specs.Part as parting
 use Rattle.relay.specs.Quit as quitting
 use Rattle.relay.specs.Bmask as masking
+
+-- the commands, and any other
+pub data Command : Type 0 where
+  Sjoin : Command
+  Part : Command
+  Quit : Command
+  Bmask : Command
+  Unknown : Command
 
 -- those that it knows
 abbrev pub commands : List Command

@@ -7,9 +7,8 @@ use Rattle.message.specs.Grammar.{param_limit, params}
 use Rattle.message.specs.Reading.{body_of, is_read}
 use Rattle.message.specs.Former.{former_params, former_line_rules}
 use Rattle.table.specs.Network.{Table}
-use Rattle.relay.specs.declared.Command.TheVariants.{Unknown}
 use Rattle.relay.specs.Arrival.{Arrival, said}
-use Rattle.relay.specs.Commands.{command_in}
+use Rattle.relay.specs.Commands.{Unknown, command_in}
 use Rattle.relay.specs.Relay.{entering_rules, refused, process_answer}
 
 -- A line of fifteen parameters that arrives at a table, with n bytes of lent output: no rule of table, output and link applies, and it is read.

@@ -1,17 +1,21 @@
 -- Taking a line (document 01, 'SJOIN', 'What goes out' and 'The numbers a caller may get'; document 02, §2 and §6): the rules in their order, the network after, the line that
 -- goes out, and the answer. From rule 4 on, all depends on the network and the arrival alone; the links enter rule 3 and the relay set.
-use Rattle.std.specs.Prelude.{ℕ, Bool, not, cond, List, [], ◌∷◌, ◌++◌, length, eqb, ltb}
+use Rattle.std.specs.Prelude.{ℕ, Bool, not, cond, List, [], ◌∷◌, ◌++◌, Result, Ok, Err, length, eqb, ltb}
 use Rattle.refusal.specs.Numbers.{accepted, not_well_formed, output_too_short, bad_link}
 use Rattle.refusal.specs.Rules.{Rule, ◌when◌, first_of, emitted}
+use Rattle.refusal.specs.Refusals as refusals
+use Rattle.refusal.specs.declared.Fault.{Fault}
 use Rattle.message.specs.Grammar.{line_limit}
 use Rattle.message.specs.Content.{Content}
 use Rattle.message.specs.Reading.{line_rules}
 use Rattle.writer.specs.Form.{written}
 use Rattle.links.specs.declared.Links.{Links}
 use Rattle.links.specs.Links.{has_link, relay_set, links_in}
+use Rattle.table.specs.declared.Head.{Head}
 use Rattle.table.specs.Network.{Table, Network, head_of, network_of, with_network}
 use Rattle.table.specs.Table.{good_table}
 use Rattle.sjoin.specs.Join.{line_place}
+use Rattle.relay.specs.declared.Relayed.{Relayed}
 use Rattle.relay.specs.declared.Taken.{Taken}
 use Rattle.relay.specs.Arrival.{Arrival}
 use Rattle.relay.specs.Meaning.{Meaning}
@@ -94,6 +98,11 @@ process_answer t a n =
 -- what comes back of it by value: the ban lists are lent
 abbrev pub taken_of : Outcome → Taken
 taken_of o = record { number = o.number; place = o.place; head = head_of o.table; len = o.len; set = o.set; count = o.count }
+
+-- what the code answers, with the head after: the links and the length of a line that is taken, or why one is refused, with its place
+abbrev pub taken_by : Head → Result Relayed Fault → Taken
+taken_by h (Ok r) = record { number = accepted; place = 0; head = h; len = r.len; set = r.set; count = length (links_in r.set) }
+taken_by h (Err f) = record { number = refusals.number_of f.refusal; place = f.place; head = h; len = 0; set = 0; count = 0 }
 
 -- what is written to the front of the output
 unfoldable pub sent : Table → Arrival → ℕ → List ℕ

@@ -5,10 +5,8 @@ use Rattle.channel.specs.Channel.{Channel}
 use Rattle.channel.specs.Record.{encode, decode}
 use Rattle.channel.specs.Standing.{channel_at}
 use Rattle.merging.specs.Merging.{merge, room_rules}
-use Rattle.table.specs.declared.Slot.{Slot}
-use Rattle.table.specs.declared.Slot.TheVariants.{Held, Free, Full}
 use Rattle.table.specs.Network.{Network, with_slots, with_bans, emptied_if}
-use Rattle.table.specs.Slots.{slot_in, held_in, place_of, slot_rules}
+use Rattle.table.specs.Slots.{Slot, Held, Free, Full, slot_in, held_in, place_of, slot_rules}
 use Rattle.sjoin.specs.Join.{join_rules, channel_in}
 use Rattle.telling.specs.Telling.{sjoin, join_message}
 use Rattle.message.specs.Content.{source_in}

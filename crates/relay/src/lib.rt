@@ -14,57 +14,45 @@ ghost use Rattle.std.specs.Prelude.{◌≡◌, length};
 ghost use Rattle.octets.specs.Room.{front};
 ghost use Rattle.relay.specs.Arrival.{arrival};
 ghost use Rattle.table.specs.Network.{table_with};
-ghost use Rattle.relay.specs.Relay.{process_answer, taken_of, sent};
-ghost use Rattle.relay.specs.Private.Work.{refusing};
+ghost use Rattle.relay.specs.Relay.{process_answer, taken_of, taken_by, sent};
 
-use acting::{changed, receivers, send};
+use acting::{act, receivers, send};
 use bans::BanList;
 use channel::Record;
-use judging::{entry_number, settled, slot_of};
+use judging::{entry, settled};
 use links::count;
 use message::{Span, parse};
 use names::USER_ID;
-use refusal::ACCEPTED;
+use refusal::{ACCEPTED, Fault};
 use requests::requested;
 use table::{Head, is_well_formed};
 
-// The commands that the relay takes, and any other.
+// What a line asks for by itself: that a channel comes in, that a user leaves a channel or all of them, or that a channel gets masks of a time. A name is a part of
+// the line.
 #[derive(Clone, Copy)]
-enum Command {
-    Sjoin,
-    Part,
-    Quit,
-    Bmask,
-    Unknown,
+enum Request {
+    Sjoin { name: Span, incoming: Record },
+    Part { name: Span, user: [u8; USER_ID] },
+    Quit { user: [u8; USER_ID] },
+    Bmask { name: Span, time: u32 },
 }
 
-// What a message asks for by itself: the number of its refusal, or ACCEPTED, its command, the name of the channel that it is about, as a part of the
-// line, the user who leaves, and the time of masks; and the place in the line of what is wrong with its modes. What doesn't belong to the command is zero: the name of
-// no channel is empty.
-#[derive(Clone, Copy)]
-struct Request {
-    name: Span,
-    user: [u8; USER_ID],
-    time: u32,
-    command: Command,
-    number: u8,
-    place: usize,
-}
-
-// A request, and the record that came with it; else the empty one.
-#[derive(Clone, Copy)]
-struct Asked {
-    request: Request,
-    incoming: Record,
-}
-
-// What is done: nothing; a slot set to another record; a user dropped from every slot; the masks that the line lists added to those of a slot.
+// What is done: nothing; a slot set to another record, its ban list emptied if so; a user dropped from every slot; the masks that the line lists added to those of a
+// slot.
 #[derive(Clone, Copy)]
 enum Deed {
     Nothing,
-    Set,
-    Drop,
-    Add,
+    Set {
+        slot: usize,
+        record: Record,
+        emptied: bool,
+    },
+    Drop {
+        user: [u8; USER_ID],
+    },
+    Add {
+        slot: usize,
+    },
 }
 
 // What goes out: nothing; the line as read; an SJOIN that tells of a record anew.
@@ -72,21 +60,21 @@ enum Deed {
 enum Sending {
     Silent,
     AsRead,
-    Anew,
+    Anew { told: Record },
 }
 
-// What a request comes to: the number of its refusal, or ACCEPTED; what is done, with the slot, whether its ban list is emptied, and its record, or the user;
-// and what goes out, with the record that is told of. What isn't needed is zero.
+// What a request comes to.
 #[derive(Clone, Copy)]
 struct Change {
-    number: u8,
     deed: Deed,
     sending: Sending,
-    slot: usize,
-    emptied: bool,
-    record: Record,
-    told: Record,
-    user: [u8; USER_ID],
+}
+
+// The links that a line goes to, and how many bytes of it were written.
+#[derive(Clone, Copy, Debug, PartialEq, Eq)]
+pub struct Relayed {
+    pub set: u32,
+    pub len: usize,
 }
 
 // The head after, or as given; how many bytes were written; the place in the line of what is wrong with its modes, 0 with any other number and with none (document 02,
@@ -103,23 +91,32 @@ pub struct Taken {
     pub number: u8,
 }
 
-// Nothing changes, and nothing goes out.
-fn refused(t: Head, number: u8, place: usize) -> Taken
-    ensures { result ≡ refusing t number place }
+// Takes a line that came from a link: table, output and link are tested, then the line by itself, which is read once, then what it comes to in the slot
+// that its channel's name uses; unless one of them refuses it, the line that goes out is written to the front of the output, and the head and the lent ban lists
+// change.
+pub fn take(
+    t: &mut Head,
+    bans: &mut [u8; BanList::BANS],
+    link: u32,
+    line: &[u8],
+    out: &mut [u8],
+) -> Result<Relayed, Fault>
+    ensures answer { taken_by t.new result ≡ taken_of (process_answer (table_with t.old bans.old) (arrival link line.now) (length out.old)) }
+    ensures lists { bans.new ≡ (process_answer (table_with t.old bans.old) (arrival link line.now) (length out.old)).table.bans }
+    ensures output { out.new ≡ front (sent (table_with t.old bans.old) (arrival link line.now) (length out.old)) out.old }
 {
-    Taken {
-        head: t,
-        len: 0,
-        place,
-        set: 0,
-        count: 0,
-        number,
-    }
+    let good = is_well_formed(t, bans);
+    entry(good, out.len(), t.links, link)?;
+    let m = parse(line)?;
+    let request = requested(line, m)?;
+    let change = settled(t, bans, line, m, &request)?;
+    let len = send(line, m, &change.sending, out);
+    let set = receivers(&change.sending, t.links, link);
+    act(t, bans, line, m, &change.deed);
+    Ok(Relayed { set, len })
 }
 
-// Takes a line that came from a link: table, output and link are tested, then the line by itself, which is read once, then what it comes to in the slot
-// that its channel's name uses; unless a number refuses it, the head and the lent ban lists change, and the line that goes out is written to the front of the
-// output. The head is handed to few functions, since each copies it.
+// The same with the head by value, and an answer that C reads.
 pub fn process(
     t: Head,
     bans: &mut [u8; BanList::BANS],
@@ -131,36 +128,23 @@ pub fn process(
     ensures lists { bans.new ≡ (process_answer (table_with t bans.old) (arrival link line.now) (length out.old)).table.bans }
     ensures output { out.new ≡ front (sent (table_with t bans.old) (arrival link line.now) (length out.old)) out.old }
 {
-    let entry = entry_number(is_well_formed(t, bans), out.len(), t.links, link);
-    if entry != ACCEPTED {
-        return refused(t, entry, 0);
-    }
-    let m = match parse(line) {
-        Ok(m) => m,
-        Err(refusal) => return refused(t, refusal.number(), 0),
-    };
-    let asked = requested(line, m);
-    let request = asked.request;
-    let asks = request.number;
-    if asks != ACCEPTED {
-        return refused(t, asks, request.place);
-    }
-    let change = settled(line, m, asked, slot_of(t, line, request.name), bans);
-    let number = change.number;
-    if number != ACCEPTED {
-        return refused(t, number, 0);
-    }
-    let len = send(line, m, change, out);
-    let sending = change.sending;
-    let set = receivers(sending, t.links, link);
-    let n = count(set);
-    let head = changed(t, bans, line, m, change);
-    Taken {
-        head,
-        len,
-        place: 0,
-        set,
-        count: n,
-        number,
+    let mut head = t;
+    match take(&mut head, bans, link, line, out) {
+        Ok(Relayed { set, len }) => Taken {
+            head,
+            len,
+            place: 0,
+            set,
+            count: count(set),
+            number: ACCEPTED,
+        },
+        Err(fault) => Taken {
+            head,
+            len: 0,
+            place: fault.place,
+            set: 0,
+            count: 0,
+            number: fault.refusal.number(),
+        },
     }
 }

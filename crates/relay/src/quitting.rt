@@ -1,57 +1,21 @@
-// QUIT: what its line asks for, and what that comes to. It names no channel. Nothing is written.
+// QUIT: what its line asks for. It names no channel. Nothing is written.
 ghost use Rattle.std.specs.Prelude.{◌≡◌};
-ghost use Rattle.relay.specs.declared.Command.TheVariants.{Quit};
-ghost use Rattle.relay.specs.declared.Sending.TheVariants.{AsRead};
-ghost use Rattle.relay.specs.Private.Work.{drops};
-ghost use Rattle.relay.specs.Private.Commands.{asked_by};
+ghost use Rattle.message.specs.Parts.{content_by};
+ghost use Rattle.relay.specs.Private.Work.{by_number, ruled};
+ghost use Rattle.relay.specs.Private.Quit.{work};
 
-use crate::requests::nothing;
-use crate::{Asked, Change, Command, Deed, Request, Sending};
-use channel::Record;
-use message::spans::prefix_in;
-use message::{Message, Span};
-use names::{USER_ID, is_user_id, user_id};
-use refusal::{ACCEPTED, BAD_SOURCE, WRONG_PARAM_COUNT};
+use crate::Request;
+use crate::requests::user_in;
+use message::Message;
+use refusal::Refusal;
 
 // QUIT: the user who leaves every channel.
-pub(crate) fn quit_request(line: &[u8], m: Message) -> Asked
-    ensures { result ≡ asked_by Quit line.now m }
+pub(crate) fn quit_request(line: &[u8], m: Message) -> Result<Request, Refusal>
+    ensures { by_number result ≡ ruled (work.own (content_by line.now m)) (work.asks m (content_by line.now m)) }
 {
-    let count = m.count;
-    if 1 < count {
-        return nothing(WRONG_PARAM_COUNT, 0);
+    if 1 < m.count {
+        return Err(Refusal::WrongParamCount);
     }
-    let source = prefix_in(line, m);
-    if !is_user_id(source) {
-        return nothing(BAD_SOURCE, 0);
-    }
-    let request = Request {
-        name: Span { start: 0, end: 0 },
-        user: user_id(source),
-        time: 0,
-        command: Command::Quit,
-        number: ACCEPTED,
-        place: 0,
-    };
-    Asked {
-        request,
-        incoming: Record::empty(),
-    }
-}
-
-// The user is to leave every channel.
-pub(crate) fn quits(user: [u8; USER_ID]) -> Change
-    ensures { result ≡ drops user AsRead }
-{
-    let none = Record::empty();
-    Change {
-        number: ACCEPTED,
-        deed: Deed::Drop,
-        sending: Sending::AsRead,
-        slot: 0,
-        emptied: false,
-        record: none,
-        told: none,
-        user,
-    }
+    let user = user_in(line, m)?;
+    Ok(Request::Quit { user })
 }

@@ -1,77 +1,52 @@
-// What a line asks for by itself: its command, and the channel and the user that it is about, or the number of its refusal. No table is looked at, and
-// nothing is written.
-ghost use Rattle.std.specs.Prelude.{◌≡◌, true, map};
-ghost use Rattle.octets.specs.Bytes.{capital as capital_of};
-ghost use Rattle.laws.specs.Lists.{same};
-ghost use Rattle.message.specs.Reading.{is_read, message_of};
-ghost use Rattle.relay.specs.Private.Work.{nothing as nothing_of};
-ghost use Rattle.relay.specs.Private.Commands.{asked_of};
+// What a line asks for by itself: its command, and the channel and the user that it is about, or why it is refused. No table is looked at, and nothing is
+// written.
+ghost use Rattle.std.specs.Prelude.{◌≡◌, ◌≤◌, cond, length, Ok, Err};
+ghost use Rattle.refusal.specs.Numbers.{bad_source};
+ghost use Rattle.names.specs.Names.{is_user_id as is_user_of};
+ghost use Rattle.message.specs.Grammar.{line_limit};
+ghost use Rattle.message.specs.Content.{prefix_is, source_in};
+ghost use Rattle.message.specs.Parts.{content_by};
+ghost use Rattle.relay.specs.Commands.{command_of};
+ghost use Rattle.relay.specs.Private.Work.{by_number, by_place};
+ghost use Rattle.relay.specs.Private.Commands.{asked_by};
 
+use crate::Request;
 use crate::joining::join_request;
 use crate::masking::mask_request;
 use crate::parting::part_request;
 use crate::quitting::quit_request;
-use crate::{Asked, Command, Request};
-use channel::Record;
-use message::spans::command_in;
-use message::{Message, Span};
-use names::USER_ID;
-use octets::capital;
-use refusal::UNKNOWN_COMMAND;
+use message::Message;
+use message::spans::{command_in, prefix_in};
+use names::{USER_ID, is_user_id, user_id};
+use refusal::{Fault, Refusal};
 
-// Whether a word is the name in capitals, letters compared without case.
-fn is_word(word: &[u8], name: &[u8]) -> bool
-    ensures { result ≡ same (map capital_of word.now) name.now }
+// The user that a line comes from.
+pub(crate) fn user_in(line: &[u8], m: Message) -> Result<[u8; USER_ID], Refusal>
+    ensures { by_number result ≡ cond (prefix_is is_user_of (content_by line.now m).prefix) (Ok (source_in (content_by line.now m))) (Err bad_source) }
 {
-    if word.len() != name.len() {
-        return false;
-    }
-    let mut i = 0;
-    while i < word.len() {
-        if capital(word[i]) != name[i] {
-            return false;
-        }
-        i += 1;
-    }
-    true
-}
-
-// Nothing is asked for: the number of a refusal, and its place in the line, or 0.
-pub(crate) fn nothing(number: u8, place: usize) -> Asked
-    ensures { result ≡ nothing_of number place }
-{
-    let request = Request {
-        name: Span { start: 0, end: 0 },
-        user: [0u8; USER_ID],
-        time: 0,
-        command: Command::Unknown,
-        number,
-        place,
-    };
-    Asked {
-        request,
-        incoming: Record::empty(),
+    let source = prefix_in(line, m);
+    if is_user_id(source) {
+        Ok(user_id(source))
+    } else {
+        Err(Refusal::BadSource)
     }
 }
 
-// What a line asks for that is read, with its parts: the first of the numbers 11 to 16, 32 to 36, 18 and 26 that applies, or the request.
-pub(crate) fn requested(line: &[u8], m: Message) -> Asked
-    requires read { is_read line.now ≡ true }
-    requires parts { m ≡ message_of line.now }
-    ensures { result ≡ asked_of line.now }
+// What a line asks for, by its parts: the first of the refusals 11 to 16, 32 to 36, 18 and 26 that applies, or the request.
+pub(crate) fn requested(line: &[u8], m: Message) -> Result<Request, Fault>
+    requires { length line.now ≤ line_limit }
+    ensures { by_place result ≡ asked_by (command_of (content_by line.now m).command) line.now m }
 {
     let word = command_in(line, m);
-    if is_word(word, b"SJOIN") {
-        return join_request(line, m);
+    if word.eq_ignore_ascii_case(b"SJOIN") {
+        join_request(line, m)
+    } else if word.eq_ignore_ascii_case(b"PART") {
+        Ok(part_request(line, m)?)
+    } else if word.eq_ignore_ascii_case(b"QUIT") {
+        Ok(quit_request(line, m)?)
+    } else if word.eq_ignore_ascii_case(b"BMASK") {
+        Ok(mask_request(line, m)?)
+    } else {
+        Err(Refusal::UnknownCommand.into())
     }
-    if is_word(word, b"PART") {
-        return part_request(line, m);
-    }
-    if is_word(word, b"QUIT") {
-        return quit_request(line, m);
-    }
-    if is_word(word, b"BMASK") {
-        return mask_request(line, m);
-    }
-    nothing(UNKNOWN_COMMAND, 0)
 }

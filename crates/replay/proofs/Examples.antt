@@ -41,7 +41,7 @@ use Rattle.bans.proofs.Slots.{list-there, list-stored, empty-size, lists-empty, 
 use Rattle.merging.specs.Merging.{merge}
 use Rattle.links.specs.Links.{has_link, all_links}
 use Rattle.links.proofs.Sets.{has_all}
-use Rattle.table.specs.declared.Slot.TheVariants.{Held, Free}
+use Rattle.table.specs.Slots.{Held, Free}
 use Rattle.table.specs.Network.{Table, Network, network_of, table_of, with_slots, with_bans, list_in, with_list, empty_network}
 use Rattle.table.specs.Table.{holds, good_table}
 use Rattle.table.specs.Slots.{slot_in, first_at, slot_for}

@@ -3,14 +3,16 @@
 use Rattle.std.specs.Prelude.{ℕ, ◌+◌, Bool, cond, List, [], ◌∷◌, eqb}
 use Rattle.std.proofs.Math.Option.{Option, some, none}
 use Rattle.refusal.specs.Numbers.{accepted}
+use Rattle.refusal.specs.Refusals.{fault_number, fault_place}
 use Rattle.message.specs.Grammar.{line_limit}
 use Rattle.links.specs.Links.{all_links}
+use Rattle.table.specs.declared.Head.{Head}
 use Rattle.table.specs.Network.{Table, head_of, table_of, empty_network}
 use Rattle.relay.specs.Arrival.{arrival}
 use Rattle.relay.specs.Relay.{Outcome, process_answer}
 use Rattle.journal.specs.Reading.{Entry, size_of, Fault, log_from, log_of}
 use Rattle.journal.specs.Pieces.{fault_if}
-use Rattle.replay.specs.declared.Replayed.{Replayed}
+use Rattle.replay.specs.declared.Replayed as code
 
 -- What a replay comes to: the table, the place behind the last record that was taken, and the number and place of what stopped it, or zeros.
 pub record Replay : Type 0 where
@@ -56,6 +58,16 @@ replay_from last t at s = replay_of t at (log_from at s).entries (fault_if last 
 unfoldable pub replay_answer : Table → List ℕ → Bool → Replay
 replay_answer t s last = replay_from last t 0 s
 
--- what comes back of it by value: the ban lists are lent
+-- What comes back of it by value: the ban lists are lent.
+pub record Replayed : Type 0 where
+  pub head : Head
+  pub used : ℕ
+  pub place : ℕ
+  pub number : ℕ
+
 abbrev pub replayed_of : Replay → Replayed
 replayed_of r = record { head = head_of r.table; used = r.used; place = r.place; number = r.number }
+
+-- the same of what the code answers
+abbrev pub replayed_by : code.Replayed → Replayed
+replayed_by r = record { head = r.head; used = r.used; place = fault_place r.stopped; number = fault_number r.stopped }

@@ -4,9 +4,8 @@ use Rattle.std.specs.declared.ops.ControlFlow.{ControlFlow}
 use Rattle.std.specs.ControlFlow.{MatchControlFlow}
 use Rattle.std.specs.Io.KnownBytes.{Consumes}
 use Rattle.refusal.specs.Numbers.{accepted}
-use Rattle.replay.specs.declared.Replayed.{Replayed}
 use Rattle.table.specs.Network.{table_with}
-use Rattle.replay.specs.Replay.{Replay, replayed, replay_answer}
+use Rattle.replay.specs.Replay.{Replay, Replayed, replayed, replay_answer}
 use Rattle.replay.specs.Pieces.{replay_over}
 use Rattle.laws.specs.Joins.{concatenated}
 use Rattle.logfile.specs.declared.FileReplay.{FileReplay}

@@ -15,7 +15,6 @@ use Rattle.links.specs.Links.{relay_set}
 use Rattle.table.specs.declared.Head.{Head}
 use Rattle.table.specs.Network.{Network, with_slots, with_bans, emptied_if, with_list}
 use Rattle.telling.specs.Telling.{join_message, tell_rules}
-use Rattle.relay.specs.declared.Change.{Change}
 use Rattle.relay.specs.declared.Deed.{Deed}
 use Rattle.relay.specs.declared.Deed.TheVariants.{Nothing, Set, Drop, Add}
 use Rattle.relay.specs.declared.Sending.{Sending}
@@ -28,11 +27,18 @@ use Rattle.relay.specs.Private.Bmask.{with_masks}
 abbrev pub head_with : Head → List Record → Head
 head_with h slots = record { slots = slots; links = h.links }
 
-abbrev pub done_by : Deed → Change → Content → Network → Network
-done_by Nothing j c n = n
-done_by Set j c n = with_bans (with_slots n (set n.slots j.slot j.«record»)) (emptied_if j.emptied j.slot n.bans)
-done_by Drop j c n = with_bans (with_slots n (map (without j.user) n.slots)) (left_lists j.user 0 n.slots n.bans)
-done_by Add j c n = with_list n j.slot (with_masks n.bans j.slot (mask_list_in c)).list
+-- a deed sets one of the slots
+abbrev pub slot_set : Deed → ℕ
+slot_set Nothing = 0
+slot_set (Set k r emptied) = k
+slot_set (Drop user) = 0
+slot_set (Add k) = 0
+
+abbrev pub done_by : Deed → Content → Network → Network
+done_by Nothing c n = n
+done_by (Set k r emptied) c n = with_bans (with_slots n (set n.slots k r)) (emptied_if emptied k n.bans)
+done_by (Drop user) c n = with_bans (with_slots n (map (without user) n.slots)) (left_lists user 0 n.slots n.bans)
+done_by (Add k) c n = with_list n k (with_masks n.bans k (mask_list_in c)).list
 
 -- ---- what is written: nothing, the message as read, or an SJOIN that tells of a record
 abbrev pub passed_on : List ℕ → Message → List ℕ → List ℕ
@@ -43,13 +49,13 @@ told_anew line m told out =
     let sid : List ℕ = source_in (content_by line m) in
     emitted (tell_rules sid (decode told) out) (written (join_message sid (decode told)))
 
-abbrev pub written_by : Sending → Change → List ℕ → Message → List ℕ → List ℕ
-written_by Silent j line m out = []
-written_by AsRead j line m out = passed_on line m out
-written_by Anew j line m out = told_anew line m j.told out
+abbrev pub written_by : Sending → List ℕ → Message → List ℕ → List ℕ
+written_by Silent line m out = []
+written_by AsRead line m out = passed_on line m out
+written_by (Anew told) line m out = told_anew line m told out
 
 -- ---- the links that it goes to: every registered one but its own, or none
 abbrev pub sent_to : Sending → Links → ℕ → ℕ
 sent_to Silent links link = 0
 sent_to AsRead links link = relay_set links link
-sent_to Anew links link = relay_set links link
+sent_to (Anew told) links link = relay_set links link

@@ -4,6 +4,7 @@ use mathlib.Core.Path.{refl, ◌∙◌}
 use native.Mathlib.Omega.{arith}
 use Rattle.std.proofs.Common.{rules}
 use Rattle.std.proofs.lemmas.Grind.{common_steps}
+use Rattle.logfile.proofs.Stopping.{some-number, no-number}
 use Rattle.logfile.proofs.Pieces.{near, left-few, piece-ends, piece-left}
 use Rattle.logfile.proofs.progress.Progress.go_on.Goals as goal
 
@@ -12,9 +13,9 @@ placed-requires c =
     let n = near _ _ _ _ c.replay-r.ensures.answer (omega (arith, c.as_slice-bytes.ensures.fits)) in
     (c.requires.0, n.1, n.2)
 
-pub returns-then-r-ne-ACCEPTED : goal.returns-then-r-ne-ACCEPTED
-returns-then-r-ne-ACCEPTED c =
-    rw c.placed.ensures (piece-ends c.args.self.now c.args.bans.now _ _ _ _ (c.as_slice-bytes.ensures.value ∙ c.joined-joined.ensures) c.replay-r.ensures.answer c.replay-r.ensures.lists c.if-r-ne-ACCEPTED.true)
+pub returns-then-is_err : goal.returns-then-is_err
+returns-then-is_err c =
+    rw c.placed.ensures (piece-ends c.args.self.now c.args.bans.now _ _ _ _ (c.as_slice-bytes.ensures.value ∙ c.joined-joined.ensures) c.replay-r.ensures.answer c.replay-r.ensures.lists (some-number c.replay-r.result.stopped _ c.is_err.ensures.value c.if-is_err.true))
 
 pub overflow_add-self : goal.overflow_add-self
 overflow_add-self c =
@@ -31,6 +32,6 @@ slice_bounds-left-start c =
 
 pub returns : goal.returns
 returns c =
-    let few = left-few _ _ _ c.replay-r.ensures.answer c.if-r-ne-ACCEPTED.false in
-    piece-left c.args.self.now c.args.bans.now _ _ _ _ (c.as_slice-bytes.ensures.value ∙ c.joined-joined.ensures) c.replay-r.ensures.answer c.replay-r.ensures.lists c.if-r-ne-ACCEPTED.false
+    let few = left-few _ _ _ c.replay-r.ensures.answer (no-number c.replay-r.result.stopped _ c.is_err.ensures.value c.if-is_err.false) in
+    piece-left c.args.self.now c.args.bans.now _ _ _ _ (c.as_slice-bytes.ensures.value ∙ c.joined-joined.ensures) c.replay-r.ensures.answer c.replay-r.ensures.lists (no-number c.replay-r.result.stopped _ c.is_err.ensures.value c.if-is_err.false)
     (omega (arith, c.as_slice-bytes.ensures.fits)) _ refl refl (grind (arith, common_steps))

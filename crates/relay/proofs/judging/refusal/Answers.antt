@@ -1,6 +1,0 @@
--- `refusal` meets its contract: every part but the number is zero. Assumes nothing.
-use Rattle.relay.proofs.judging.refusal.Goals as goal
-
-pub returns : goal.returns
-returns c =
-    rw c.empty-none.ensures.value
