@@ -107,7 +107,10 @@ pub fn take(
 {
     let good = is_well_formed(t, bans);
     entry(good, out.len(), t.links, link)?;
-    let m = parse(line)?;
+    let answer = parse(line);
+    let Ok(m) = answer else {
+        return Err(answer.unwrap_err().into());
+    };
     let request = requested(line, m)?;
     let change = settled(t, bans, line, m, &request)?;
     let len = send(line, m, &change.sending, out);

@@ -27,24 +27,24 @@ returns-in_err-entry c =
     let is = c.in_err-entry.ensures ∙ ap (λ (g : Bool). first_of (entry_rules g (length a.out.now) a.t.now.links a.link)) c.is_well_formed-good.ensures in
     let r = entry-refused (table_with a.t.now a.bans.now) (arrival a.link a.line.now) a.out.now _ is in record { answer = rw (p.1, p.2) r.answer; lists = r.lists; output = r.output }
 
-pub returns-in_err-m : goal.returns-in_err-m
-returns-in_err-m c =
+pub returns-in_default : goal.returns-in_default
+returns-in_default c =
     let a = c.args in
-    let p = err_from_is_err_and c.from_residual-in_err-m.result c.from_residual-in_err-m.ensures.1 in
     let passes = ap (λ (g : Bool). first_of (entry_rules g (length a.out.now) a.t.now.links a.link)) (sym c.is_well_formed-good.ensures) ∙ sym c.in_ok-entry.ensures in
-    let r = reader-refused (table_with a.t.now a.bans.now) (arrival a.link a.line.now) a.out.now passes _ c.in_err-m.ensures.number in record { answer = rw (p.1, p.2) r.answer; lists = r.lists; output = r.output }
+    let r = reader-refused (table_with a.t.now a.bans.now) (arrival a.link a.line.now) a.out.now passes _ (rw c.unwrap_err.ensures at c.parse-answer.ensures.number) in
+    record { answer = rw c.into.ensures r.answer; lists = r.lists; output = r.output }
 
 pub requested-requires : goal.requested-requires
 requested-requires c =
-    read_small c.args.line.now (read-line c.args.line.now c.in_ok-m.ensures.number)
+    read_small c.args.line.now (read-line c.args.line.now c.in-Ok.ensures.number)
 
 pub returns-in_err-request : goal.returns-in_err-request
 returns-in_err-request c =
     let a = c.args in
     let p = err_from_is_err_and c.from_residual-in_err-request.result c.from_residual-in_err-request.ensures.1 in
     let passes = ap (λ (g : Bool). first_of (entry_rules g (length a.out.now) a.t.now.links a.link)) (sym c.is_well_formed-good.ensures) ∙ sym c.in_ok-entry.ensures in
-    let read = read-line a.line.now c.in_ok-m.ensures.number in
-    let asks = c.in_err-request.ensures ∙ parts-ask a.line.now c.in_ok-m.m (message-is c.args.line.now c.in_ok-m.m c.in_ok-m.ensures.parsed) in
+    let read = read-line a.line.now c.in-Ok.ensures.number in
+    let asks = c.in_err-request.ensures ∙ parts-ask a.line.now c.in-Ok.m (message-is c.args.line.now c.in-Ok.m c.in-Ok.ensures.parsed) in
     let r = request-refused (table_with a.t.now a.bans.now) (arrival a.link a.line.now) a.out.now passes read _ asks in record { answer = rw (p.1, p.2) r.answer; lists = r.lists; output = r.output }
 
 pub returns-in_err-change : goal.returns-in_err-change
@@ -53,9 +53,9 @@ returns-in_err-change c =
     let t : Table = table_with a.t.now a.bans.now in
     let p = err_from_is_err_and c.from_residual-in_err-change.result c.from_residual-in_err-change.ensures.1 in
     let passes = ap (λ (g : Bool). first_of (entry_rules g (length a.out.now) a.t.now.links a.link)) (sym c.is_well_formed-good.ensures) ∙ sym c.in_ok-entry.ensures in
-    let read = read-line a.line.now c.in_ok-m.ensures.number in
-    let asks = c.in_ok-request.ensures ∙ parts-ask a.line.now c.in_ok-m.m (message-is c.args.line.now c.in_ok-m.m c.in_ok-m.ensures.parsed) in
-    let says = ap (content_by a.line.now) (message-is c.args.line.now c.in_ok-m.m c.in_ok-m.ensures.parsed) ∙ message-holds a.line.now in
+    let read = read-line a.line.now c.in-Ok.ensures.number in
+    let asks = c.in_ok-request.ensures ∙ parts-ask a.line.now c.in-Ok.m (message-is c.args.line.now c.in-Ok.m c.in-Ok.ensures.parsed) in
+    let says = ap (content_by a.line.now) (message-is c.args.line.now c.in-Ok.m c.in-Ok.ensures.parsed) ∙ message-holds a.line.now in
     let is = c.in_err-change.ensures ∙ ap (settled_in (network_of t) a.line.now c.in_ok-request.request) says in
     let r = change-refused t (arrival a.link a.line.now) a.out.now passes read _ asks _ is in record { answer = rw (p.1, p.2) r.answer; lists = r.lists; output = r.output }
 
@@ -64,9 +64,9 @@ act-requires c =
     let a = c.args in
     let t : Table = table_with a.t.now a.bans.now in
     let passes = ap (λ (g : Bool). first_of (entry_rules g (length a.out.now) a.t.now.links a.link)) (sym c.is_well_formed-good.ensures) ∙ sym c.in_ok-entry.ensures in
-    let read = read-line a.line.now c.in_ok-m.ensures.number in
-    let asks = c.in_ok-request.ensures ∙ parts-ask a.line.now c.in_ok-m.m (message-is c.args.line.now c.in_ok-m.m c.in_ok-m.ensures.parsed) in
-    let says = ap (content_by a.line.now) (message-is c.args.line.now c.in_ok-m.m c.in_ok-m.ensures.parsed) ∙ message-holds a.line.now in
+    let read = read-line a.line.now c.in-Ok.ensures.number in
+    let asks = c.in_ok-request.ensures ∙ parts-ask a.line.now c.in-Ok.m (message-is c.args.line.now c.in-Ok.m c.in-Ok.ensures.parsed) in
+    let says = ap (content_by a.line.now) (message-is c.args.line.now c.in-Ok.m c.in-Ok.ensures.parsed) ∙ message-holds a.line.now in
     let is = c.in_ok-change.ensures ∙ ap (settled_in (network_of t) a.line.now c.in_ok-request.request) says in
     change-inside t (arrival a.link a.line.now) a.out.now passes read _ asks _ is
 
@@ -76,11 +76,11 @@ returns c =
     let t : Table = table_with a.t.now a.bans.now in
     let j = c.in_ok-change.change in
     let passes = ap (λ (g : Bool). first_of (entry_rules g (length a.out.now) a.t.now.links a.link)) (sym c.is_well_formed-good.ensures) ∙ sym c.in_ok-entry.ensures in
-    let read = read-line a.line.now c.in_ok-m.ensures.number in
-    let asks = c.in_ok-request.ensures ∙ parts-ask a.line.now c.in_ok-m.m (message-is c.args.line.now c.in_ok-m.m c.in_ok-m.ensures.parsed) in
-    let says = ap (content_by a.line.now) (message-is c.args.line.now c.in_ok-m.m c.in_ok-m.ensures.parsed) ∙ message-holds a.line.now in
+    let read = read-line a.line.now c.in-Ok.ensures.number in
+    let asks = c.in_ok-request.ensures ∙ parts-ask a.line.now c.in-Ok.m (message-is c.args.line.now c.in-Ok.m c.in-Ok.ensures.parsed) in
+    let says = ap (content_by a.line.now) (message-is c.args.line.now c.in-Ok.m c.in-Ok.ensures.parsed) ∙ message-holds a.line.now in
     let is = c.in_ok-change.ensures ∙ ap (settled_in (network_of t) a.line.now c.in_ok-request.request) says in
-    let writes = ap (λ (m : Message). written_by j.sending a.line.now m a.out.now) (message-is c.args.line.now c.in_ok-m.m c.in_ok-m.ensures.parsed) in
+    let writes = ap (λ (m : Message). written_by j.sending a.line.now m a.out.now) (message-is c.args.line.now c.in-Ok.m c.in-Ok.ensures.parsed) in
     let r = change-made t (arrival a.link a.line.now) a.out.now passes read _ asks j is _ _ _ _ _
     c.receivers-set.ensures
     (c.send-len.ensures.answer ∙ ap (λ (l : List ℕ). length l) writes)

@@ -1,14 +1,11 @@
 -- `take_all` meets its contract: a record that is taken leads on, and what is refused or at fault, and the end, stop the replay. Assumes nothing.
-use mathlib.Core.Path.{◌≡◌, sym, ap, ap₂, ◌∙◌}
-use mathlib.Core.List.{List}
-use Prim.Native.Nat.{ℕ}
+use mathlib.Core.Path.{sym, ap, ap₂, ◌∙◌}
 use native.Mathlib.Omega.{arith}
 use Rattle.std.proofs.lemmas.Result.{err_from_is_err_and}
 use Rattle.refusal.proofs.Refusals.{number-given}
 use Rattle.table.specs.Network.{Table, table_with}
 use Rattle.relay.specs.declared.Taken.{Taken}
 use Rattle.relay.specs.Relay.{Outcome, taken_of}
-use Rattle.replay.specs.Replay.{taking}
 use Rattle.replay.proofs.Steps.{stops, stands, line-taken, turn-taken, turn-refused}
 use Rattle.replay.proofs.take_all.Goals as goal
 

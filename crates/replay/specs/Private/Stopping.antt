@@ -1,5 +1,5 @@
 -- What the records of a piece come to, one after the other.
-use Rattle.std.specs.Prelude.{ℕ, Bool, true, not, cond, ◌&&◌, List, Result, ⊤, eqb}
+use Rattle.std.specs.Prelude.{ℕ, Bool, not, cond, ◌&&◌, List, Result, ⊤, eqb}
 use Rattle.refusal.specs.Numbers.{accepted, log_cut}
 use Rattle.refusal.specs.Refusals.{fault_number, fault_place}
 use Rattle.refusal.specs.declared.Fault.{Fault}
