@@ -19,6 +19,7 @@ fn differing(a: &[u8; BLOCK], b: &[u8; BLOCK]) -> u8
     ensures { result ≡ 0 → map fold_of a.now ≡ map fold_of b.now }
 {
     let mut bits = 0;
+    // Kept (3): one index into two arrays of one size; a zip of the two reads no plainer.
     for j in 0..BLOCK {
         bits |= unlike(a[j], b[j]);
     }
@@ -79,6 +80,7 @@ pub(crate) fn place_for(s: &[u8], m: &[u8]) -> Result<usize, usize>
     ensures { PlacedIn (room_of m.now) (used_rooms s.now) result }
 {
     let n = mask_count(s);
+    // Kept (3): the index is what is answered.
     for at in 0..n {
         match compare_folds(m, mask_in(room_at(s, at))) {
             Ordering::Less => return Err(at),

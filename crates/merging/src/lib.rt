@@ -22,6 +22,7 @@ use sides::{Given, Side};
 use uniting::united;
 
 // The number of a refusal, or ACCEPTED, and the merged record with its list, or the first one as given.
+// Kept (1): C's struct.
 #[repr(C)]
 #[derive(Clone, Copy)]
 pub struct Merged {
