@@ -169,10 +169,11 @@ fn describe(r: Record, out: &mut [u8]) -> Result<usize, Refusal>
     if !channel::is_well_formed(&r) {
         return Err(Refusal::NotWellFormed);
     }
-    match telling::describe(r, out) {
-        0 => Err(Refusal::NoRoom),
-        len => Ok(len),
+    let len = telling::describe(r, out);
+    if len == 0 {
+        return Err(Refusal::NoRoom);
     }
+    Ok(len)
 }
 
 // Writes what an SJOIN tells of a record, as a text of its own, to the front of the output.

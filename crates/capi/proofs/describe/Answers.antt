@@ -1,4 +1,4 @@
--- `relay_describe` meets its contract: each refusal is the first rule that applies, and an accepted record's text is what was put. Assumes nothing.
+-- `describe` meets its contract: each refusal is the first rule that applies, and an accepted record's text is what was put. Assumes nothing.
 use Prim.Native.Nat.{ℕ}
 use mathlib.Core.Path.{refl, sym, ap, ◌∙◌}
 use mathlib.Core.List.{List}
@@ -11,7 +11,7 @@ use Rattle.writer.proofs.Answers.{answers-refused, answers-written}
 use Rattle.telling.specs.Telling.{described, described_in}
 use Rattle.capi.specs.Describing.{describe_rules}
 use Rattle.capi.proofs.Describing.{ill, full, whole, blank}
-use Rattle.capi.proofs.relay_describe.Goals as goal
+use Rattle.capi.proofs.describe.Goals as goal
 
 pub returns-then-not-is_well_formed : goal.returns-then-not-is_well_formed
 returns-then-not-is_well_formed c =
