@@ -90,6 +90,12 @@ pub length_front : (s : List ℕ) (n : ℕ) → n ≤ ban_limit → length (take
 length_front s n h = length-take-le n (rooms s) (omega (arith, length-rooms s))
 
 -- ---- nothing where there are no bytes
+-- no bytes as a list have no masks
+pub count_none : (s : List ℕ) → length s ≡ 0 → 0 ≡ mask_count s
+unfolding mask_count
+count_none [] = λ h. omega arith
+count_none (x ∷ s) = λ h. absurd (omega arith)
+
 -- no bytes have the empty mask
 pub mask_none : (r : List ℕ) → length r ≡ 0 → r ≡ mask_in r
 unfolding mask_in

@@ -24,9 +24,9 @@ use Rattle.message.specs.Grammar.{param_limit}
 use Rattle.message.specs.Parts.{content_by}
 use Rattle.message.proofs.SpanContents.{params-count}
 use Rattle.message.proofs.Prefixes.{prefix-told}
-use Rattle.sjoin.specs.Join.{time_in, name_in, head_rules}
-use Rattle.sjoin.proofs.Judged.{Heads, heads, time-bounds}
-use Rattle.bmask.specs.Masks.{param_count, type_in, mask_list_in, ban_type, listed, good_masks, source_rules, masks_rules, telling_rules, bmask_rules, listing_in}
+use Rattle.sjoin.specs.Join.{time_in, name_in, time_of, head_rules}
+use Rattle.sjoin.proofs.Judged.{Heads, heads, time-said, time-bounds}
+use Rattle.bmask.specs.Masks.{Listing, param_count, type_in, mask_list_in, ban_type, listed, good_masks, source_rules, masks_rules, telling_rules, bmask_rules, listing_in}
 
 -- The rules stand in the order of their numbers: the first in it that applies is given.
 pub rules-ascend : (c : Content) → ascend (bmask_rules c) ≡ true
@@ -42,6 +42,45 @@ rules-numbered c = refl
 pub rules-plain : (c : Content) → plain_rules (bmask_rules c) ≡ true
 unfolding bmask_rules
 rules-plain c = refl
+
+-- ---- the numbers, in their order
+module _ (c : Content) where
+  -- another count of parameters gives the number of a wrong count
+  pub uncounted : (length c.params ≡ param_count → ⊥) → wrong_param_count ≡ first_of (bmask_rules c)
+  unfolding bmask_rules
+  uncounted ne = sym (stop _ _ (ap not (ne_eqb (length c.params) param_count ne)))
+
+  module _ (n : length c.params ≡ param_count) where
+    -- with the right one, a source that is no server id gives its number
+    pub unsourced : prefix_is is_server_id c.prefix ≡ false → bad_source ≡ first_of (bmask_rules c)
+    unfolding bmask_rules
+    unsourced e = sym (skip _ _ (ap not (eq-eqb (length c.params) param_count n)) ∙ stop _ _ (ap not e))
+
+    module _ (s : prefix_is is_server_id c.prefix ≡ true) where
+      telling-decides : first_of (bmask_rules c) ≡ first_of (telling_rules c)
+      unfolding bmask_rules
+      telling-decides = skip _ _ (ap not (eq-eqb (length c.params) param_count n)) ∙ skip _ _ (ap not s)
+
+      -- behind these a rule of time and name that applies decides
+      pub head-decides : (first_of (head_rules c) ≡ accepted → ⊥) → first_of (bmask_rules c) ≡ first_of (head_rules c)
+      head-decides ne = telling-decides ∙ append-some (masks_rules c) (head_rules c) ne
+
+      module _ (h : first_of (head_rules c) ≡ accepted) where
+        masks-decide : first_of (bmask_rules c) ≡ first_of (masks_rules c)
+        masks-decide = telling-decides ∙ append-none (masks_rules c) (head_rules c) refl h
+
+        -- behind these another type gives the number of bad masks
+        pub untyped : same (type_in c) ban_type ≡ false → bad_masks ≡ first_of (bmask_rules c)
+        untyped e = sym (masks-decide ∙ stop _ _ (rw e))
+
+        module _ (t : same (type_in c) ban_type ≡ true) where
+          -- a bad list gives it as well
+          pub unmasked : good_masks (mask_list_in c) ≡ false → bad_masks ≡ first_of (bmask_rules c)
+          unmasked e = sym (masks-decide ∙ stop _ _ (rw (t, e)))
+
+          -- where the list is good too, no rule refuses the message
+          pub taken : good_masks (mask_list_in c) ≡ true → accepted ≡ first_of (bmask_rules c)
+          taken e = sym (masks-decide ∙ skip _ _ (rw (t, e)) ∙ first-nil)
 
 -- ---- what is known of a message that no rule refuses
 module _ (c : Content) (none : first_of (bmask_rules c) ≡ accepted) where
@@ -67,6 +106,20 @@ module _ (c : Content) (none : first_of (bmask_rules c) ≡ accepted) where
   masked =
       let e = not-false _ (first-none _ _ (λ z. omega arith) telling.1).0 in
       and_right (not (is_nil (listed (mask_list_in c)))) _ (and_right (same (type_in c) ban_type) _ e)
+
+-- ---- the answer to a message whose parts are spans
+module _ (text : List ℕ) (m : Message) (k : ℕ) (is : k ≡ first_of (bmask_rules (content_by text m))) where
+  -- the number of a rule that applies, and no time
+  pub in-refused : (k ≡ accepted → ⊥) → ◌≡◌ {A = Listing} (record { number = k; time = 0 }) (listing_in text m)
+  unfolding listing_in
+  in-refused ne = rw (← is, ne_eqb k accepted ne)
+
+  -- where none applies, the time that is read
+  pub in_taken : (time : ℕ) → k ≡ accepted → time ≡ time_of (time_in (content_by text m)) → ◌≡◌ {A = Listing} (record { number = k; time = time }) (listing_in text m)
+  unfolding listing_in
+  in_taken time e t =
+      let v : time ≡ value_of (time_in (content_by text m)) = t ∙ time-said (time_in (content_by text m)) (headed (content_by text m) (sym is ∙ e)).time in
+      rw (← is, eq-eqb k accepted e, v)
 
 -- ---- what the code finds of a message whose parts are spans
 -- its count of parameters is the right one exactly if the message's is

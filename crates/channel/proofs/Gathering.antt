@@ -1,16 +1,17 @@
 -- A list of members gathered one behind the other, in room whose unused places are vacant. Assumes nothing.
 use mathlib.Core.Path.{◌≡◌, refl, ap}
 use mathlib.Core.List.{List, [], ◌∷◌, ◌++◌}
-use Prim.Native.Nat.{ℕ, ◌+◌, ◌≤◌}
+use Prim.Native.Nat.{ℕ, ◌+◌, ◌≤◌, ◌<◌}
 use native.Mathlib.Omega.{arith}
 use lib.ListN.{length, take, set, length-append}
+use borrow.Author.Tests.{lt-ltb}
 use Rattle.laws.specs.Lists.{padded}
 use Rattle.laws.proofs.Lists.{take-padded, set-padded}
 use Rattle.channel.specs.declared.Member.{Member}
 use Rattle.channel.specs.declared.Roster.{Roster}
 use Rattle.channel.specs.Limits.{member_limit}
 use Rattle.channel.specs.Record.{nobody}
-use Rattle.channel.specs.Members.{roster, pushed}
+use Rattle.channel.specs.Members.{roster, pushed, pushed_in_room}
 
 -- The list holds the members l, and no other.
 pub record Gathers (list : List Member) (count : ℕ) (l : List Member) : Type 0 where
@@ -39,6 +40,11 @@ pub gathers-take : (list : List Member) (count : ℕ) (l : List Member) → coun
 gathers-take list count l h g = rw (g.holds, g.counts) (take-padded nobody member_limit l (omega (arith, g.counts)))
 
 -- ---- a roster, and one member more
+-- where there is room it is put behind the others
+pub pushed-room : (r : Roster) (m : Member) → r.count < member_limit → pushed_in_room r m ≡ pushed r m
+unfolding pushed_in_room
+pushed-room r m h = rw (lt-ltb r.count member_limit h)
+
 pub pushed-roster : (l : List Member) (m : Member) → pushed (roster l) m ≡ roster (l ++ (m ∷ []))
 unfolding roster
 pushed-roster l m = let g = gathers-more (roster l).list (length l) l m (roster-gathers (roster l) l refl) in gathers-roster _ _ (l ++ (m ∷ [])) g

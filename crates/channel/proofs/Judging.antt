@@ -3,18 +3,19 @@
 use mathlib.Core.Path.{◌≡◌, refl}
 use mathlib.Core.Bool.{Bool, true, false, ◌&&◌, and-true, and-false, and_assoc}
 use mathlib.Core.List.{List, [], ◌∷◌}
-use Prim.Native.Nat.{ℕ}
+use Prim.Native.Nat.{ℕ, ◌≤◌}
 use native.Mathlib.Omega.{arith}
 use lib.ListN.{length, take, drop, length-take}
 use lib.Dec.{leb}
 use borrow.Author.Tests.{le-leb, lt-leb, leb-true, leb-false}
 use Rattle.laws.specs.Lists.{all}
+use Rattle.laws.proofs.Bools.{and_right}
 use Rattle.octets.specs.Bytes.{is_zero}
 use Rattle.ascending.specs.Ascending.{ascends}
-use Rattle.names.specs.Names.{is_channel}
+use Rattle.names.specs.Names.{name_limit, is_channel}
 use Rattle.channel.specs.declared.Member.{Member}
 use Rattle.channel.specs.declared.Record.{Record}
-use Rattle.channel.specs.Limits.{member_limit}
+use Rattle.channel.specs.Limits.{member_limit, key_limit}
 use Rattle.channel.specs.Channel.{by_id}
 use Rattle.channel.specs.Record.{decode}
 use Rattle.channel.specs.WellFormed.{is_vacant, good_time, good_settings, good_member, good_members, channel_tests, in_room, clear, well_formed}
@@ -48,6 +49,13 @@ tests r =
     ∷ all is_vacant (drop r.count r.members)
     ∷ (all good_member (take r.count r.members) && ascends by_id (take r.count r.members))
     ∷ []
+
+-- once what is in use keeps to its room, there are no more members than there is room for
+pub in-room-count : (r : Record) → in_room r ≡ true → r.count ≤ member_limit
+unfolding in_room
+in-room-count r e =
+    let k : leb r.key_len key_limit && leb r.count member_limit ≡ true = and_right (leb r.name_len name_limit) (leb r.key_len key_limit && leb r.count member_limit) e in
+    leb-true r.count member_limit (and_right (leb r.key_len key_limit) (leb r.count member_limit) k)
 
 -- of an array of members some are in use exactly if the count isn't 0, and never too many
 module _ (l : List Member) (n : ℕ) (h : length l ≡ member_limit) where

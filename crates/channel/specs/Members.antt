@@ -1,5 +1,5 @@
 -- Member lists in their room, which ids and statuses they give, and a member removed.
-use Rattle.std.specs.Prelude.{ℕ, Bool, false, cond, ◌||◌, ◌+◌, List, [], ◌∷◌, length, set}
+use Rattle.std.specs.Prelude.{ℕ, Bool, false, cond, ◌||◌, ◌+◌, List, [], ◌∷◌, length, set, ltb}
 use Rattle.std.specs.Int.Bits.{bit_or}
 use Rattle.laws.specs.Lists.{is_nil, padded, same}
 use Rattle.laws.specs.Joins.{total}
@@ -18,6 +18,10 @@ roster l = record { list = padded member_limit nobody l; count = length l }
 -- with one member more, behind the others
 abbrev pub pushed : Roster → Member → Roster
 pushed r m = record { list = set r.list r.count m; count = r.count + 1 }
+
+-- the same where there is room for one more, else the roster as it is
+unfoldable pub pushed_in_room : Roster → Member → Roster
+pushed_in_room r m = cond (ltb r.count member_limit) (pushed r m) r
 
 -- every id once, ascending, an id given twice having both statuses
 abbrev pub ordered : List Member → List Member

@@ -1,12 +1,12 @@
 // Member lists: those of a record, a member removed, and lists put in order.
-ghost use Rattle.std.specs.Prelude.{◌≡◌, ◌<◌, ◌≤◌, [], length, take};
+ghost use Rattle.std.specs.Prelude.{◌≡◌, ◌≤◌, [], length, take};
 ghost use Rattle.octets.specs.Order.{compare, is_less};
 ghost use Rattle.ascending.specs.Ascending.{put};
 ghost use Rattle.channel.specs.Limits.{member_limit};
 ghost use Rattle.channel.specs.Record.{decode};
 ghost use Rattle.channel.specs.Channel.{by_id};
 ghost use Rattle.channel.specs.Private.Rosters.{Sorted};
-ghost use Rattle.channel.specs.Members.{roster, pushed, ordered as ordered_of, has_member, others as others_of, without as without_of};
+ghost use Rattle.channel.specs.Members.{roster, pushed_in_room, ordered as ordered_of, has_member, others as others_of, without as without_of};
 
 use crate::{Member, Record, Roster};
 use names::USER_ID;
@@ -41,13 +41,15 @@ impl Roster {
         &self.list[..self.count.min(Record::MEMBERS)]
     }
 
-    // One member more, behind the others.
+    // One member more, behind the others, where there is room.
+    #[tactic(auto, unfolding(crate::specs::Members::pushed_in_room))]
     pub fn push(&mut self, m: Member)
-        requires { self.old.count < member_limit }
-        ensures { self.new ≡ pushed self.old m }
+        ensures { self.new ≡ pushed_in_room self.old m }
     {
-        self.list[self.count] = m;
-        self.count += 1;
+        if self.count < Record::MEMBERS {
+            self.list[self.count] = m;
+            self.count += 1;
+        }
     }
 
     // One member more, in its place among the others. Where the id is there already, it has both statuses.

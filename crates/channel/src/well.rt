@@ -19,15 +19,15 @@ use names::is_channel;
 const BOTH: u8 = Member::VOICE + Member::OPERATOR;
 
 impl Member {
-    // The bits of its bytes, joined by or, each byte's in a place of its own, so that eight are read at once: none exactly if its place is unused.
+    // The bits of its bytes, joined by or, each byte's in a place of its own, the status last, so that eight are read at once: none exactly if its place is unused.
     fn bits(self) -> u64
         ensures { is_zero result ≡ is_vacant self }
     {
-        let mut bits = u64::from(self.status);
+        let mut bits = 0;
         for (i, b) in self.id.iter().enumerate() {
             bits |= u64::from(*b) << (8 * (i % 8));
         }
-        bits
+        bits | u64::from(self.status)
     }
 
     // Whether it is a user id with a status that there is.

@@ -17,7 +17,7 @@ use Rattle.table.specs.Network.{Table}
 use Rattle.table.specs.Banned.{banned_answer}
 use Rattle.wording.specs.Wording.{bytes_of, table, words_in}
 use Rattle.console.specs.declared.requests.Request.TheVariants.{Register, Unregister, Take, Banned, Channels, Unknown, Help, Nothing}
-use Rattle.console.specs.Lines.{kept, first_line}
+use Rattle.console.specs.Lines.{kept, first_line, begun, lines_of}
 use Rattle.console.specs.Requests.{plus, minus, question, ended, taking_in, question_in, worded_in, request_in, line_from, name_in, text_in}
 use Rattle.console.specs.Showing.{shown_byte, shown, pointer, pointed_line}
 use Rattle.console.specs.Answers.{exclamation, spaced, place_text, numbered_text, refused_text, IsPlaceIn, links_text, relayed_text}
@@ -76,6 +76,11 @@ answered t = kept-question t (bytes_of "banned #a x\n") 9 10 refl
 first : first_line (65 ∷ lf ∷ 66 ∷ lf ∷ []) ≡ 65 ∷ lf ∷ []
 unfolding first_line
 first = refl
+
+-- the lines of pieces: two that end, of which one has nothing but its LF; one that ends, and one under way; and none
+split : map lines_of ((65 ∷ lf ∷ lf ∷ []) ∷ (65 ∷ lf ∷ 66 ∷ 67 ∷ []) ∷ [] ∷ []) ≡ ((65 ∷ lf ∷ []) ∷ (lf ∷ []) ∷ []) ∷ ((65 ∷ lf ∷ []) ∷ (66 ∷ 67 ∷ []) ∷ []) ∷ [] ∷ []
+unfolding begun lines_of
+split = refl
 
 -- ---- answers
 -- mode n stands twice, at 17 and at 18

@@ -178,22 +178,21 @@ fn write_synced(mut file: &File, records: &[u8]) -> io::Result<()> {
     file.sync_data()
 }
 
-// Keeps a group's records in the file. Where they can't be kept, it is cut back to its length before them.
-fn keep_in(mut file: &File, records: &[u8]) -> Result<(), Stop> {
+// Keeps a group's records in the file. Where they can't be kept, why is said, and then the file is cut back to its length before them: whoever ends the program in
+// between knows that they aren't kept.
+fn keep_in(rt: &HostRuntime, mut file: &File, records: &[u8]) -> Result<(), Stop> {
     let before = file.seek(SeekFrom::End(0)).map_err(Stop::DayLog)?;
     let Err(added) = write_synced(file, records) else {
         return Ok(());
     };
-    match cut(file, before) {
-        Ok(()) => Err(Stop::DayLog(added)),
-        Err(cut) => Err(Stop::CutBack { added, cut }),
-    }
+    Stop::DayLog(added).say(&rt.stderr());
+    Err(cut(file, before).map_or_else(Stop::CutBack, |()| Stop::Said))
 }
 
 // Keeps a group's records, where there is a day log.
-pub(crate) fn keep(journal: Option<&File>, records: &[u8]) -> Result<(), Stop> {
+pub(crate) fn keep(rt: &HostRuntime, journal: Option<&File>, records: &[u8]) -> Result<(), Stop> {
     match journal {
-        Some(file) if !records.is_empty() => keep_in(file, records),
+        Some(file) if !records.is_empty() => keep_in(rt, file, records),
         _ => Ok(()),
     }
 }

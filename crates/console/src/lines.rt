@@ -1,9 +1,11 @@
 // The line under way. The input comes in pieces of any size, holds any bytes, and its lines are of any length; of a longer line than a request can be, the rest is
 // passed over.
 ghost use Rattle.std.specs.Prelude.{◌≡◌, [], ◌++◌, ◌≤◌, length};
-ghost use Rattle.console.specs.Lines.{input_limit, held_in, kept, ends_in_lf};
+ghost use Rattle.std.specs.Iterator.{YieldsFirstRef, item_count};
+ghost use Rattle.console.specs.Lines.{input_limit, held_in, kept, lines_of, lines_left, ends_in_lf};
 
 use arrayvec::ArrayVec;
+use octets::place_of;
 
 // The most bytes that are kept of an input line. A number of nine digits, a SPACE, and of the line behind them one byte more than the relay takes are 523; a
 // question needs more: `banned`, a SPACE, a name of 50 bytes, a SPACE, a text of one byte more than is matched, and CR LF.
@@ -39,6 +41,40 @@ impl Pending {
     {
         let n = more.len().min(self.bytes.remaining_capacity());
         let _ = self.bytes.try_extend_from_slice(&more[..n]);
+    }
+}
+
+// The lines that are left of a piece: each up to and including its LF, and what stands behind the last LF.
+#[derive(Drop)]
+pub(crate) struct Lines<'a> {
+    rest: &'a [u8],
+}
+
+impl<'a> Lines<'a> {
+    // Those of a piece.
+    pub(crate) fn of(piece: &'a [u8]) -> Lines<'a>
+        ensures { lines_left result ≡ lines_of piece.now }
+    {
+        Lines { rest: piece }
+    }
+}
+
+impl<'a> Iterator for Lines<'a> {
+    type Item = &'a [u8];
+
+    ghost next_gives = { YieldsFirstRef lines_left };
+
+    ghost remaining = { item_count lines_left };
+
+    // The first line that is left.
+    fn next(&mut self) -> Option<&'a [u8]> {
+        let text = self.rest;
+        if text.is_empty() {
+            return None;
+        }
+        let end = text.len().min(place_of(text, b'\n') + 1);
+        self.rest = &text[end..];
+        Some(&text[..end])
     }
 }
 

@@ -25,7 +25,7 @@ use answers::{
 use bans::BanList;
 use daylog::{PATH, keep, open_journal, restore};
 use groups::Group;
-use lines::{Pending, ends_in_lf};
+use lines::{Lines, Pending, ends_in_lf};
 use message::LINE_LIMIT;
 use octets::part;
 use refusal::ACCEPTED;
@@ -71,7 +71,7 @@ impl Session {
     fn close_group(&mut self, rt: &HostRuntime) -> Result<(), Stop>
         ensures { OnOk result (self.new.group ≡ no_lines) }
     {
-        keep(self.journal.as_ref(), self.group.records())?;
+        keep(rt, self.journal.as_ref(), self.group.records())?;
         print(rt, self.group.answers()).map_err(Stop::Output)?;
         self.group.clear();
         Ok(())
@@ -178,7 +178,7 @@ impl Session {
 
     // A piece of the input, which may begin and end anywhere in a line.
     fn take_piece(&mut self, rt: &HostRuntime, piece: &[u8]) -> Result<(), Stop> {
-        for part in piece.split_inclusive(|b| *b == b'\n') {
+        for part in Lines::of(piece) {
             self.pending.extend(part);
             if ends_in_lf(part) {
                 self.finish(rt)?;

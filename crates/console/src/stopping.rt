@@ -20,11 +20,14 @@ pub(crate) enum Stop {
     // the day log can't be read or written
     DayLog(io::Error),
 
-    // records can't be added to the day log, nor can it be cut back to its length before them
-    CutBack { added: io::Error, cut: io::Error },
+    // records can't be added to the day log, nor can it be cut back to its length before them: of the first it was said already
+    CutBack(io::Error),
 
     // the day can't go on where its log ends
     Refused { number: u8, place: u64 },
+
+    // what it is was said already
+    Said,
 }
 
 // Says that the day can't go on where its log ends.
@@ -41,11 +44,9 @@ impl Stop {
             Stop::Input(why) => fail(to, b"relay: standard input", why),
             Stop::Output(why) => fail(to, b"relay: standard output", why),
             Stop::DayLog(why) => fail(to, b"relay: day log", why),
-            Stop::CutBack { added, cut } => {
-                fail(to, b"relay: day log", added);
-                fail(to, b"relay: day log, cutting it back", cut);
-            }
+            Stop::CutBack(why) => fail(to, b"relay: day log, cutting it back", why),
             Stop::Refused { number, place } => say_refused(to, number, place),
+            Stop::Said => {}
         }
     }
 }

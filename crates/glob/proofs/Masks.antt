@@ -1,15 +1,16 @@
 -- Laws of what a mask matches: after a run, and by the next byte of mask and text. Assumes nothing.
 use mathlib.Core.Path.{◌≡◌, refl, sym, ap, ◌∙◌}
-use mathlib.Core.Bool.{Bool, true, false, true≢false, or-true}
+use mathlib.Core.Bool.{Bool, true, false, true≢false, or-true, ◌||◌}
 use mathlib.Core.List.{List, [], ◌∷◌}
 use Prim.Native.Nat.{ℕ, ◌+◌, ◌≤◌, ◌<◌}
 use native.Mathlib.Numerals.{add-one}
 use lib.ListN.{length, drop, get_or, drop_of_length-le}
 use lib.Seq.{drop-drop}
+use lib.Dec.{ltb}
 use borrow.Author.Tests.{eq-eqb, ne_eqb, le-ltb}
-use Rattle.refusal.specs.Numbers.{accepted}
-use Rattle.refusal.specs.Rules.{first_of, ascend, ascend_from, place_in}
-use Rattle.refusal.proofs.Rules.{skip, first-nil}
+use Rattle.refusal.specs.Numbers.{accepted, text_too_long}
+use Rattle.refusal.specs.Rules.{◌when◌, first_of, ascend, ascend_from, place_in}
+use Rattle.refusal.proofs.Rules.{skip, stop, first-nil}
 use Rattle.laws.proofs.Bools.{and_right}
 use Rattle.laws.proofs.Lists.{drop-step}
 use Rattle.glob.specs.declared.Match.{Match}
@@ -22,6 +23,11 @@ rules-ascend mask text = refl
 
 -- ---- a mask and a text within the limit get the match
 module _ (mask text : List ℕ) where
+  -- a mask or text over the limit is refused
+  pub answers-long : (ltb text_limit (length mask) || ltb text_limit (length text)) ≡ true → record { number = text_too_long; yes = false } ≡ match_answer mask text
+  unfolding match_answer match_rules
+  answers-long e = rw (stop (text_too_long when (ltb text_limit (length mask) || ltb text_limit (length text))) [] e)
+
   pub answers-within : length mask ≤ text_limit → length text ≤ text_limit → (t : Bool) → t ≡ matches mask text → record { number = accepted; yes = t } ≡ match_answer mask text
   unfolding match_answer match_rules
   answers-within m s t e =

@@ -14,7 +14,7 @@ ghost use Rattle.journal.specs.Private.Logged.{logged_by};
 use faults::{byte_at, check_record, length_in};
 use links::Links;
 use message::{LINE_LIMIT, Span};
-use octets::part;
+use octets::{part, put};
 use refusal::{ACCEPTED, Fault, Refusal, number};
 
 // The bytes of a record before its line: mark, link and length.
@@ -74,8 +74,8 @@ fn put_record(link: u32, line: &[u8], log: &mut [u8]) -> Result<usize, Refusal>
         return Err(Refusal::NoRoom);
     }
     let [high, low] = (line.len() as u16).to_be_bytes();
-    log[..HEAD].copy_from_slice(&[FIRST_MARK, SECOND_MARK, link as u8, high, low]);
-    log[HEAD..size].copy_from_slice(line);
+    put(log, 0, &[FIRST_MARK, SECOND_MARK, link as u8, high, low]);
+    put(log, HEAD, line);
     Ok(size)
 }
 

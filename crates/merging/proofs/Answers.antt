@@ -14,7 +14,7 @@ use Rattle.refusal.specs.Numbers.{accepted, not_well_formed, bad_name, too_many_
 use Rattle.refusal.specs.Rules.{Rule, ◌when◌, first_of}
 use Rattle.std.specs.Prelude.{Option, Some, None, Ok, Err}
 use Rattle.refusal.specs.declared.Refusal.{Refusal}
-use Rattle.refusal.specs.declared.Refusal.TheVariants.{TooManyMembers, TooManyMasks}
+use Rattle.refusal.specs.declared.Refusal.TheVariants.{TooManyMembers}
 use Rattle.refusal.specs.Refusals.{number_of}
 use Rattle.refusal.proofs.Refusals.{number-given}
 use Rattle.refusal.proofs.Rules.{skip, stop, first-nil, append-some, append-none}
@@ -48,7 +48,7 @@ use Rattle.bans.proofs.Slots.{empty-masks, empty-well}
 use Rattle.merging.specs.declared.sides.Given.{Given}
 use Rattle.merging.specs.Settings.{greater, join_settings}
 use Rattle.merging.specs.Merging.{Combined, combined_as, merge_by, merge, answer_of, answered, room_rules, combined, merged_masks, merged_whole, merge_rules, merge_answer}
-use Rattle.merging.specs.Private.Answers.{merged_as, refused_by, merged_lists}
+use Rattle.merging.specs.Private.Answers.{merged_by, refused_by, merged_lists}
 use Rattle.merging.specs.Private.Sides.{settings_of, as_given}
 use Rattle.merging.proofs.Masks.{Lists, lists-merged, masks-none, list-none}
 
@@ -140,7 +140,7 @@ module _ (a b : WholeRecord) (whole-both : well_formed_whole a && well_formed_wh
     numbered = sym (ap (λ (q : Combined). q.number) joined)
 
   -- more members than there is room for
-  pub merge-over : (e : Refusal) → combined_as a.«record» (Err e) ≡ combined a.«record» b.«record» → merged_as a (Err e) ≡ merge_answer a b
+  pub merge-over : (e : Refusal) → combined_as a.«record» (Err e) ≡ combined a.«record» b.«record» → merged_by (number_of e) a ≡ merge_answer a b
   merge-over e is = sym (answer-over a b whole-both s (number_of e) (numbered (combined_as a.«record» (Err e)) is) (number-given e))
 
   module _ (r : Record) (is : combined_as a.«record» (Ok r) ≡ combined a.«record» b.«record») where
@@ -151,16 +151,16 @@ module _ (a b : WholeRecord) (whole-both : well_formed_whole a && well_formed_wh
     held l lists = rw lists (lists-merged a b (whole_says a own-well).1 (whole_says b other-well).1)
 
     -- more masks than there is room for
-    pub merge-full : added a.bans None ≡ merged_lists a.«record».time a.bans b.«record».time b.bans → merged_as a (Err TooManyMasks) ≡ merge_answer a b
+    pub merge-full : added a.bans None ≡ merged_lists a.«record».time a.bans b.«record».time b.bans → merged_by too_many_masks a ≡ merge_answer a b
     merge-full lists = sym (answer-full a b whole-both s fits (sym (held None lists).full))
 
     -- else the two are merged, and their lists
-    pub merge-both : (l : BanList) → added a.bans (Some l) ≡ merged_lists a.«record».time a.bans b.«record».time b.bans → merged_as a (Ok (whole r l)) ≡ merge_answer a b
+    pub merge-both : (l : BanList) → added a.bans (Some l) ≡ merged_lists a.«record».time a.bans b.«record».time b.bans → merged_by accepted (whole r l) ≡ merge_answer a b
     unfolding merged_whole
     merge-both l lists =
         let h = held (Some l) lists in
         let result : r ≡ encode (merged_channel a b) = ap (λ (q : Combined). q.result) (joined (combined_as a.«record» (Ok r)) is ∙ room_fits (merged_channel a b) a.«record» fits) in
-        ap₂ (λ (q : Record) (x : BanList). merged_as a (Ok (whole q x))) result (h.list refl) ∙ sym (answer-merged a b whole-both s fits (sym h.full))
+        ap₂ (λ (q : Record) (x : BanList). merged_by accepted (whole q x)) result (h.list refl) ∙ sym (answer-merged a b whole-both s fits (sym h.full))
 
 -- ---- the records of two channels without masks
 -- the record of a proper channel is well formed without masks

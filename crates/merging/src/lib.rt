@@ -9,15 +9,16 @@ mod uniting;
 
 ghost use Rattle.std.specs.Prelude.{◌≡◌, cond};
 ghost use Rattle.octets.specs.Order.{compare as compare_of, is_less};
+ghost use Rattle.refusal.specs.Refusals.{answered};
 ghost use Rattle.merging.specs.Merging.{merge_answer, combined_as, combined};
-ghost use Rattle.merging.specs.Private.Answers.{merged_as};
+ghost use Rattle.merging.specs.Private.Answers.{merged_by};
 
 use bans::{WholeRecord, is_whole};
 use channel::Record;
 use lists::merged_list;
 use names::equal;
 use octets::{compare, padded};
-use refusal::{ACCEPTED, Refusal};
+use refusal::{Refusal, number};
 use sides::{Given, Side};
 use uniting::united;
 
@@ -35,23 +36,19 @@ pub struct Merged {
 pub fn merge(a: WholeRecord, b: WholeRecord) -> Merged
     ensures { result ≡ merge_answer a b }
 {
-    match try_merge(a, b) {
-        Ok(result) => Merged {
-            number: ACCEPTED,
-            result,
-        },
-        Err(refusal) => Merged {
-            number: refusal.number(),
-            result: a,
-        },
+    let mut result = a;
+    let answer = merge_in(&mut result, &b);
+    Merged {
+        number: number(&answer),
+        result,
     }
 }
 
-// The two merged, or why they aren't.
-fn try_merge(a: WholeRecord, b: WholeRecord) -> Result<WholeRecord, Refusal>
-    ensures { merged_as a result ≡ merge_answer a b }
+// The second merged into the first, or why it isn't: then the first is as it was.
+fn merge_in(a: &mut WholeRecord, b: &WholeRecord) -> Result<(), Refusal>
+    ensures { merged_by (answered result) a.new ≡ merge_answer a.old b.now }
 {
-    if !(is_whole(a) && is_whole(b)) {
+    if !(is_whole(*a) && is_whole(*b)) {
         return Err(Refusal::NotWellFormed);
     }
     if !equal(a.record.name(), b.record.name()) {
@@ -61,7 +58,8 @@ fn try_merge(a: WholeRecord, b: WholeRecord) -> Result<WholeRecord, Refusal>
     let bans = merged_list(a.record.time, a.bans, b.record.time, b.bans).ok_or(
         Refusal::TooManyMasks,
     )?;
-    Ok(WholeRecord { record, bans })
+    *a = WholeRecord { record, bans };
+    Ok(())
 }
 
 // Two records merged that are known to be well formed and of one channel: neither is tested again. Refused where more members would result than a record has

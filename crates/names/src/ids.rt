@@ -53,10 +53,9 @@ pub fn is_before(a: [u8; USER_ID], b: [u8; USER_ID]) -> bool
     less
 }
 
-// Whether two ids are the same, byte by byte.
-#[tactic(auto, using(laws::proofs::Chains::same_pointwise))]
+// Whether two ids are the same, byte by byte, up to the first that differs.
 pub fn is_same(a: [u8; USER_ID], b: [u8; USER_ID]) -> bool
     ensures { result ≡ same a b }
 {
-    a == b
+    a.iter().zip(&b).all(|(x, y)| x == y)
 }

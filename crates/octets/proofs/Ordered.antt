@@ -1,20 +1,22 @@
 -- `compare` orders byte lists of any length: it is reflexive, antisymmetric, total and transitive, and goes by the first bytes before the rest.
 -- Assumes nothing.
 use mathlib.Core.Path.{◌≡◌, refl, sym, ap, ◌∙◌}
-use mathlib.Core.Bool.{Bool, true, false}
+use mathlib.Core.Bool.{Bool, true, false, true≢false}
 use mathlib.Core.Logic.{◌⊎◌, inl, inr}
 use mathlib.Core.List.{List, [], ◌∷◌}
-use Prim.Native.Nat.{ℕ, zero, suc, ◌<◌}
+use Prim.Native.Nat.{ℕ, zero, suc, ◌+◌, ◌<◌, min}
 use native.Mathlib.Omega.{arith}
-use lib.ListN.{take, drop}
-use lib.Dec.{eqb, ltb}
-use borrow.Author.Tests.{eq-eqb, ne_eqb, lt-ltb, le-ltb, eqb-true, eqb-false, ltb-true, ltb-false}
+use lib.ListN.{length, take, drop, get_or, length-drop}
+use lib.Dec.{eqb, ltb, leb}
+use borrow.Author.Tests.{eq-eqb, ne_eqb, lt-ltb, le-ltb, eqb-true, eqb-false, ltb-true, ltb-false, leb-true, leb-false}
 use Rattle.std.specs.declared.cmp.Ordering.{Ordering}
 use Rattle.std.specs.declared.cmp.Ordering.TheVariants.{Less, Equal, Greater}
-use Rattle.std.specs.Ordering.{nat_cmp}
+use Rattle.std.specs.Ordering.{nat_cmp, is_ne}
+use Rattle.std.specs.Cmp.{nat_cmp_is}
 use Rattle.std.specs.Cmp.Lexicographic.{slice_cmp}
 use Rattle.octets.specs.Order.{compare, opposite}
 use Rattle.laws.specs.Lists.{same}
+use Rattle.laws.proofs.Lists.{drop-step}
 use Rattle.octets.proofs.Bytes.{same_true}
 
 -- ---- the first byte of each
@@ -125,6 +127,49 @@ compare-parts (suc n) (x ∷ s) (y ∷ t) = go (eqb x y) refl (ltb x y) refl (co
     go true e v f ih = rw e ih
     go false e true f ih = rw (e, f)
     go false e false f ih = rw (e, f)
+
+-- ---- byte by byte
+-- an order of two bytes that isn't that of one and the same
+pub ordered-apart : (o rest : Ordering) → true ≡ is_ne o → then_by o rest ≡ o
+ordered-apart Less rest e = refl
+ordered-apart Equal rest e = absurd (true≢false e)
+ordered-apart Greater rest e = refl
+
+-- and one that is
+pub ordered-same : (o rest : Ordering) → false ≡ is_ne o → then_by o rest ≡ rest
+ordered-same Less rest e = absurd (true≢false (sym e))
+ordered-same Equal rest e = refl
+ordered-same Greater rest e = absurd (true≢false (sym e))
+
+-- the first bytes decide, or else those behind them
+by_first : (x y : ℕ) (s t : List ℕ) → compare (x ∷ s) (y ∷ t) ≡ then_by (nat_cmp x y) (compare s t)
+by_first x y s t = go (trichotomy x y)
+  where
+    go : (x < y) ⊎ ((x ≡ y) ⊎ (y < x)) → compare (x ∷ s) (y ∷ t) ≡ then_by (nat_cmp x y) (compare s t)
+    go (inl l) = heads-less x y s t l ∙ ap (λ (o : Ordering). then_by o (compare s t)) (nat_cmp_is x y Less l)
+    go (inr (inl e)) = heads-same x y s t e ∙ ap (λ (o : Ordering). then_by o (compare s t)) (nat_cmp_is x y Equal e)
+    go (inr (inr l)) = heads-more x y s t l ∙ ap (λ (o : Ordering). then_by o (compare s t)) (nat_cmp_is x y Greater l)
+
+-- so do those at a place
+pub compare-at : (a b : List ℕ) (i : ℕ) → i < length a → i < length b
+    → compare (drop i a) (drop i b) ≡ then_by (nat_cmp (get_or a i 0) (get_or b i 0)) (compare (drop (i + 1) a) (drop (i + 1) b))
+compare-at a b i h k = rw (drop-step a i 0 h, drop-step b i 0 k) (by_first (get_or a i 0) (get_or b i 0) (drop (i + 1) a) (drop (i + 1) b))
+
+-- where one has ended the lengths decide
+ended : (s t : List ℕ) (m n : ℕ) → length s + n ≡ length t + m → (length s ≡ 0) ⊎ (length t ≡ 0) → nat_cmp m n ≡ compare s t
+unfolding compare
+ended [] [] m n e h = let q : m ≡ n = omega arith in sym (nat_cmp_is m n Equal q)
+ended [] (y ∷ t) m n e h = let q : m < n = omega arith in sym (nat_cmp_is m n Less q)
+ended (x ∷ s) [] m n e h = let q : n < m = omega arith in sym (nat_cmp_is m n Greater q)
+ended (x ∷ s) (y ∷ t) m n e (inl h) = absurd (omega arith)
+ended (x ∷ s) (y ∷ t) m n e (inr h) = absurd (omega arith)
+
+pub compare-ends : (a b : List ℕ) (i : ℕ) → i ≡ min (length a) (length b) → nat_cmp (length a) (length b) ≡ compare (drop i a) (drop i b)
+compare-ends a b i e = ended (drop i a) (drop i b) (length a) (length b) (omega (arith, length-drop i a, length-drop i b)) (go (leb (length a) (length b)) refl)
+  where
+    go : (t : Bool) → leb (length a) (length b) ≡ t → (length (drop i a) ≡ 0) ⊎ (length (drop i b) ≡ 0)
+    go true q = inl (omega (arith, length-drop i a, leb-true (length a) (length b) q))
+    go false q = inr (omega (arith, length-drop i b, leb-false (length a) (length b) q))
 
 -- ---- the library's order of lists of numbers is the same
 pub compare_library : (a b : List ℕ) → slice_cmp nat_cmp a b ≡ compare a b

@@ -6,7 +6,7 @@ use Prim.Native.Nat.{ℕ, suc, ◌+◌, ◌-◌, ◌≤◌, ◌<◌, min}
 use native.Mathlib.Nat.{zero-add}
 use native.Mathlib.Omega.{arith}
 use lib.ListN.{length, take, drop, get_or, replicate, length-append, length-take, length-drop, length-replicate, get_or-replicate, take-append-drop, drop_of_length-le}
-use lib.Seq.{take-append_seam, take-append-le, drop-append-le, take-add, drop-append-add, drop-drop, drop_at, take_at, take_all, length-take-le, get_or-append-add, get_or-drop}
+use lib.Seq.{paste, take-append_seam, take-append-le, drop-append-le, take-add, drop-append-add, drop-drop, drop_at, take_at, take_all, length-take-le, get_or-append-add, get_or-drop}
 use Rattle.std.proofs.lemmas.List.{take_min, drop-replicate}
 use borrow.Author.Tests.{le-leb, leb-true, leb-false, lt-leb}
 use Rattle.laws.specs.Lists.{padded}
@@ -37,6 +37,10 @@ length_part s start end h = length-take-le (end - start) (drop start s) (omega (
 pub part-short : (s : List ℕ) (start end : ℕ) → length (part s start end) ≤ end - start
 unfolding part
 part-short s start end = omega (arith, length-take (end - start) (drop start s))
+
+-- ---- all of a list copied over another of its length
+pub pasted-whole : (out p : List ℕ) → length out ≡ length p → paste out 0 p (length p) ≡ p
+pasted-whole out p e = let past : length out ≤ 0 + length p = omega (arith, e) in rw (take_all (length p) p (omega arith), drop_of_length-le out past) (append-nil p)
 
 -- ---- what is put
 module _ (out : List ℕ) (at : ℕ) (p : List ℕ) where

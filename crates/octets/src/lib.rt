@@ -123,12 +123,18 @@ pub fn place_of(s: &[u8], b: u8) -> usize
     s.len() - rest.len() + first_in(rest, b)
 }
 
-// How a stands to b: by the first byte that differs, a proper beginning being smaller.
-#[tactic(auto, using(crate::proofs::Ordered::compare_library))]
+// How a stands to b: byte by byte, by the first that differs, a proper beginning being smaller.
 pub fn compare(a: &[u8], b: &[u8]) -> Ordering
     ensures { result ≡ compare_of a.now b.now }
 {
-    a.cmp(b)
+    // Kept (3): one index into both; the library's `cmp` of two iterators, or a zip, tests two ends for each byte, and its `cmp` of slices compares eight at once.
+    for i in 0..a.len().min(b.len()) {
+        let order = a[i].cmp(&b[i]);
+        if order.is_ne() {
+            return order;
+        }
+    }
+    a.len().cmp(&b.len())
 }
 
 // The bytes from `start` up to, not including, `end`, as that part of the lent slice. What lies past the slice's end is left off.
@@ -139,6 +145,17 @@ pub fn part(s: &[u8], start: usize, end: usize) -> &[u8]
     let stop = end.min(s.len());
     let from = start.min(stop);
     &s[from..stop]
+}
+
+// Copies p, byte by byte, into a room of its length. The library's `copy_from_slice` asks the C library for `memmove`, where the compiler makes `memcpy` of this, or a loop:
+// the archive for C needs no more from outside than `memcpy` and `memset`.
+fn copy(room: &mut [u8], p: &[u8])
+    requires { length room.old ≡ length p.now }
+    ensures { room.new ≡ p.now }
+{
+    for (i, b) in p.iter().enumerate() {
+        room[i] = *b;
+    }
 }
 
 // Puts p at the place `at` and answers where it ends. If there isn't room for all of it, nothing is put, and the answer is one past the room.
@@ -152,7 +169,7 @@ pub fn put(out: &mut [u8], at: usize, p: &[u8]) -> usize
         return room + 1;
     }
     let end = at + p.len();
-    out[at..end].copy_from_slice(p);
+    copy(&mut out[at..end], p);
     end
 }
 
@@ -162,7 +179,7 @@ pub fn padded<const N: usize>(s: &[u8]) -> [u8; N]
 {
     let mut room = [0u8; N];
     let n = s.len().min(N);
-    room[..n].copy_from_slice(&s[..n]);
+    copy(&mut room[..n], &s[..n]);
     room
 }
 

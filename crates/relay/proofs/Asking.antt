@@ -43,12 +43,12 @@ module _ (k : Command) (line : List ℕ) (m : Message) where
   content = content_by line m
 
   -- its own rules refuse it
-  asked-refused : (first_of ((work_of k).own content) ≡ accepted → ⊥) → asked_by k line m ≡ Err (fault (first_of ((work_of k).own content)) (span_place (first_of ((work_of k).own content)) line m))
+  pub asked-refused : (first_of ((work_of k).own content) ≡ accepted → ⊥) → asked_by k line m ≡ Err (fault (first_of ((work_of k).own content)) (span_place (first_of ((work_of k).own content)) line m))
   unfolding asked_by
   asked-refused ne = rw (ne_eqb (first_of ((work_of k).own content)) accepted ne)
 
   -- or none does
-  asked-passes : first_of ((work_of k).own content) ≡ accepted → asked_by k line m ≡ Ok ((work_of k).asks m content)
+  pub asked-passes : first_of ((work_of k).own content) ≡ accepted → asked_by k line m ≡ Ok ((work_of k).asks m content)
   unfolding asked_by
   asked-passes e = rw e
 

@@ -1,7 +1,7 @@
 -- A line of fifteen parameters gets 11 or 12, since no command takes so many; a line that got 10 is one. A line that is taken has fewer, and so is read as it was. Assumes nothing.
 use Prim.Native.Nat.{ℕ}
 use mathlib.Core.Path.{◌≡◌, refl, sym, ap, ◌∙◌}
-use mathlib.Core.Bool.{Bool, true, false, not}
+use mathlib.Core.Bool.{Bool, true, false}
 use mathlib.Core.Logic.{◌⊎◌, inl, inr}
 use mathlib.Core.List.{List, ◌++◌}
 use native.Mathlib.Omega.{arith}
@@ -22,7 +22,7 @@ use Rattle.table.specs.Network.{Table, Network, network_of}
 use Rattle.sjoin.specs.Join.{source_rules, telling_rules, join_rules}
 use Rattle.sjoin.proofs.Judged.{many}
 use Rattle.sjoin.proofs.Answers.{place_none}
-use Rattle.bmask.specs.Masks.{bmask_rules}
+use Rattle.bmask.proofs.Rules.{uncounted}
 use Rattle.relay.specs.Arrival.{Arrival, said}
 use Rattle.relay.specs.Commands.{Command, Sjoin, Part, Quit, Bmask, Unknown, meaning_of, command_in}
 use Rattle.relay.specs.Private.Commands.{work_of}
@@ -36,11 +36,11 @@ use Rattle.relay.proofs.Taking.{rules-none, answer-number}
 
 -- ---- the number of a message of fifteen parameters, by its command
 fifteen-own : (c : Content) → length c.params ≡ param_limit → (k : Command) → (k ≡ Unknown) ⊎ (first_of ((work_of k).own c) ≡ wrong_param_count)
-unfolding join_rules bmask_rules
+unfolding join_rules
 fifteen-own c h Sjoin = let wrong = many c (omega (arith, h)) in inr (append-some (telling_rules c) (source_rules c) (λ z. omega (arith, wrong, z)) ∙ sym wrong)
 fifteen-own c h Part = inr (part-miscounted c (λ k l. omega (arith, h, l)))
 fifteen-own c h Quit = inr (quit-many c (omega (arith, h)))
-fifteen-own c h Bmask = inr (stop _ _ (ap not (ne_eqb (length c.params) 4 (λ z. omega (arith, h, z)))))
+fifteen-own c h Bmask = inr (sym (uncounted c (λ z. omega (arith, h, z))))
 fifteen-own c h Unknown = inl refl
 
 module _ (n : Network) (a : Arrival) where

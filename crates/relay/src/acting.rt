@@ -62,7 +62,9 @@ fn add_masks(bans: &mut [u8; BanList::BANS], k: usize, list: &[u8])
     store(bans, k, add_listed(held, list).unwrap_or(held));
 }
 
-// Does what is asked for: the head and the ban lists change.
+// Does what is asked for: the head and the ban lists change. Inlined, so that the compiler sees that the record lies apart from the head and copies it by `memcpy`; else it
+// asks the C library for `memmove`.
+#[inline(always)]
 pub(crate) fn act(
     t: &mut Head,
     bans: &mut [u8; BanList::BANS],

@@ -155,6 +155,9 @@ fault-numbered modes args f e =
     let letters = parametered (letters_of modes) in
     every_given Numbered (modes_checks modes args) f (every_append Numbered (own_checks modes) (count_checks letters args) (sign-numbered modes) (count-numbered letters args)) e
 
+pub letter-numbered : (modes : List ℕ) (f : Fault Site) → first_fault (own_checks modes) ≡ some f → is_mode_number f.number ≡ true
+letter-numbered modes f e = every_given Numbered (own_checks modes) f (sign-numbered modes) e
+
 -- one of theirs is no other number
 mode-bounds : (n : ℕ) → is_mode_number n ≡ true → (unknown_mode ≤ n) × (n ≤ bad_limit)
 mode-bounds n e = (leb-true unknown_mode n (and_left (leb unknown_mode n) (leb n bad_limit) e), leb-true n bad_limit (and_right (leb unknown_mode n) (leb n bad_limit) e))

@@ -1,5 +1,5 @@
 -- What is known of a line that no rule refuses: each test is passed, and key and limit fit their letters. Assumes nothing.
-use Prim.Native.Nat.{ℕ, suc}
+use Prim.Native.Nat.{ℕ, suc, ◌≤◌}
 use mathlib.Core.Path.{◌≡◌, refl, sym, ap, ◌∙◌}
 use mathlib.Core.Bool.{Bool, true, false, true≢false, ◌&&◌}
 use mathlib.Core.Logic.{◌⊎◌, inl, inr}
@@ -16,9 +16,11 @@ use Rattle.laws.specs.Lists.{all, same}
 use Rattle.octets.specs.Decimals.{zero_digit, is_decimal, value_from, value_of}
 use Rattle.laws.proofs.Bools.{and_left, and_right}
 use Rattle.names.specs.Names.{is_channel, is_server_id}
+use Rattle.channel.specs.Limits.{key_limit}
 use Rattle.channel.specs.Modes.{place_among}
+use Rattle.channel.proofs.Keys.{key-length}
 use Rattle.message.specs.Content.{Content, prefix_is}
-use Rattle.sjoin.specs.Modes.{limit_letter, letters_of, lacks, has_parameter, parametered, is_limit, good_letters, good_argument, good_arguments, argument_among, argument_of, is_modes}
+use Rattle.sjoin.specs.Modes.{key_letter, limit_letter, letters_of, lacks, has_parameter, parametered, is_limit, good_letters, good_argument, good_arguments, argument_among, argument_of, is_modes}
 use Rattle.sjoin.specs.Entries.{good_entries}
 use Rattle.sjoin.specs.Join.{time_in, name_in, modes_in, list_in, arguments_in, good_count, is_time, head_rules, mode_rules, join_rules}
 use Rattle.sjoin.specs.Private.Parts.{limit_in}
@@ -105,6 +107,12 @@ exact (x ∷ s) (a ∷ args) h = ap suc (exact s args (and_right (good_argument 
 pub arguments-exact : (modes : List ℕ) (args : List (List ℕ)) → is_modes modes args ≡ true → length (parametered (letters_of modes)) ≡ length args
 unfolding is_modes
 arguments-exact modes args h = exact (parametered (letters_of modes)) args (and_right (good_letters modes) (good_arguments (parametered (letters_of modes)) args) h)
+
+-- the key keeps to its room
+pub key-short : (s k : List ℕ) → Suits key_letter s k → length k ≤ key_limit
+unfolding good_argument
+key-short s k (inl g) = rw g.1 (omega arith)
+key-short s k (inr g) = key-length k g.1
 
 -- the limit is the value of its text
 pub limit-read : (s l : List ℕ) → Suits limit_letter s l → unwrap_or (limit_in l) 0 ≡ value_of l

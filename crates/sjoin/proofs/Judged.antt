@@ -8,15 +8,16 @@ use native.Mathlib.Omega.{arith}
 use lib.ListN.{length}
 use lib.Dec.{eqb, leb}
 use borrow.Author.Tests.{eq-eqb, ne_eqb, eqb-true, eqb-false, lt-ltb, le-ltb, le-leb, lt-leb, leb-true, not-false}
-use Rattle.refusal.specs.Numbers.{accepted, line_too_long, wrong_param_count, bad_source, bad_members, is_mode_number}
+use Rattle.std.specs.Prelude.{Some, None}
+use Rattle.refusal.specs.Numbers.{accepted, line_too_long, wrong_param_count, bad_source, bad_time, zero_time, bad_name, bad_members, is_mode_number}
 use Rattle.refusal.specs.Rules.{◌when◌, first_of, ascend, ascend_from, place_in}
 use Rattle.refusal.specs.Faults.{Fault, number_of}
 use Rattle.refusal.proofs.Rules.{skip, stop, first-nil, first-none, first_plain, numbered, append-some, append-none}
 use Rattle.laws.specs.Lists.{same}
 use Rattle.laws.proofs.Bools.{and_left, and_right, both_ways}
-use Rattle.octets.specs.Decimals.{zero_digit, is_decimal, value_from, value_of, digits_of}
+use Rattle.octets.specs.Decimals.{zero_digit, is_decimal, value_from, value_of, digits_of, decimal_up_to}
 use Rattle.octets.proofs.Bytes.{same_refl, same_true}
-use Rattle.octets.proofs.Digits.{digits-one, digits_value}
+use Rattle.octets.proofs.Digits.{digits-one, value-digits, decimal-digits, digits_value, decimal-read, value_in}
 use Rattle.names.specs.Names.{is_channel, is_server_id}
 use Rattle.channel.specs.Limits.{time_limit}
 use Rattle.message.specs.declared.Message.{Message}
@@ -27,7 +28,7 @@ use Rattle.message.specs.Reading.{body_rules, line_rules}
 use Rattle.sjoin.specs.Modes.{is_modes}
 use Rattle.sjoin.specs.Entries.{good_entries}
 use Rattle.sjoin.specs.Faults.{Site}
-use Rattle.sjoin.specs.Join.{time_in, name_in, modes_in, list_in, arguments_in, fewest, most, good_count, is_time, source_rules, head_rules, fault_in, mode_rules, lead_rules, telling_rules, join_rules, span_rules, line_join_rules}
+use Rattle.sjoin.specs.Join.{time_in, name_in, modes_in, list_in, arguments_in, fewest, most, good_count, is_time, time_of, source_rules, head_rules, fault_in, mode_rules, lead_rules, telling_rules, join_rules, span_rules, line_join_rules}
 use Rattle.sjoin.proofs.Faults.{modes-good, fault-numbered, mode-some, mode-number}
 
 -- The rules stand in the order of their numbers: the first in it that applies is given.
@@ -46,6 +47,35 @@ unfolding join_rules mode_rules
 rules-numbered c = refl
 
 -- ---- the time
+-- a text that is read as a number is a time, and the number its value
+pub time-value : (s : List ℕ) (n : ℕ) → decimal_up_to time_limit s ≡ Some n → (is_time s ≡ true) × (value_of s ≡ n)
+unfolding is_time
+time-value s n e =
+    let r = decimal-read time_limit n s e in
+    (rw (r.1, decimal-digits n, value-digits n, le-leb n time_limit r.0), rw r.1 (value-digits n))
+
+-- a text that isn't read is no time
+pub time-none : (s : List ℕ) → decimal_up_to time_limit s ≡ None → is_time s ≡ false
+unfolding decimal_up_to is_time
+time-none s e = go (is_decimal s) refl (leb (value_of s) time_limit) refl
+  where
+    go : (t : Bool) → is_decimal s ≡ t → (u : Bool) → leb (value_of s) time_limit ≡ u → is_time s ≡ false
+    go true f true g =
+        let d : decimal_up_to time_limit s ≡ Some (value_of s) = rw f (value_in time_limit s (leb-true (value_of s) time_limit g)) in
+        let z : ◌≡◌ {A = ℕ} 0 1 = cc in absurd (omega arith)
+    go true f false g = rw (f, g)
+    go false f u g = rw f
+
+-- a time says its value
+pub time-said : (s : List ℕ) → is_time s ≡ true → time_of s ≡ value_of s
+unfolding time_of
+time-said s t = rw t
+
+-- a text that is no time says 0
+pub time-unsaid : (s : List ℕ) → is_time s ≡ false → time_of s ≡ 0
+unfolding time_of
+time-unsaid s t = rw t
+
 -- one that is good is `0` exactly if its value is 0
 pub time_zero : (s : List ℕ) → is_time s ≡ true → same s (zero_digit ∷ []) ≡ eqb (value_of s) 0
 unfolding is_time value_from
@@ -91,9 +121,27 @@ module _ (c : Content) where
   source-counts e = not-false _ (first-none _ _ (λ z. omega arith) e).0
 
 -- ---- those of time and name
--- where both are good, no rule of theirs applies
-pub headed : (c : Content) → is_time (time_in c) ≡ true → (value_of (time_in c) ≡ 0 → ⊥) → is_channel (name_in c) ≡ true → accepted ≡ first_of (head_rules c)
-headed c t z e = sym (skip _ _ (ap not t) ∙ skip _ _ (time_zero (time_in c) t ∙ ne_eqb (value_of (time_in c)) 0 z) ∙ skip _ _ (ap not e) ∙ first-nil)
+module _ (c : Content) where
+  -- a bad time gives its number
+  pub untimed : is_time (time_in c) ≡ false → bad_time ≡ first_of (head_rules c)
+  untimed e = sym (stop _ _ (ap not e))
+
+  module _ (t : is_time (time_in c) ≡ true) where
+    -- a time that is 0 gives its number
+    pub zero-time : value_of (time_in c) ≡ 0 → zero_time ≡ first_of (head_rules c)
+    zero-time e = sym (skip _ _ (ap not t) ∙ stop _ _ (time_zero (time_in c) t ∙ eq-eqb (value_of (time_in c)) 0 e))
+
+    module _ (z : value_of (time_in c) ≡ 0 → ⊥) where
+      later : same (time_in c) (zero_digit ∷ []) ≡ false
+      later = time_zero (time_in c) t ∙ ne_eqb (value_of (time_in c)) 0 z
+
+      -- behind a good time a bad name gives its number
+      pub unnamed : is_channel (name_in c) ≡ false → bad_name ≡ first_of (head_rules c)
+      unnamed e = sym (skip _ _ (ap not t) ∙ skip _ _ later ∙ stop _ _ (ap not e))
+
+      -- where time and name are good, no rule of theirs applies
+      pub headed : is_channel (name_in c) ≡ true → accepted ≡ first_of (head_rules c)
+      headed e = sym (skip _ _ (ap not t) ∙ skip _ _ later ∙ skip _ _ (ap not e) ∙ first-nil)
 
 -- What the rules of time and name test, each passed.
 pub record Heads (c : Content) : Type 0 where

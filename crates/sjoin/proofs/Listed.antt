@@ -1,6 +1,6 @@
 -- Laws of a member list: an entry is as long as its id, so a line's list names no more members than a record has room for; and what is known of a list that is
 -- read word by word. Assumes nothing.
-use Prim.Native.Nat.{ℕ, zero, suc, ◌+◌, ◌*◌, ◌≤◌}
+use Prim.Native.Nat.{ℕ, zero, suc, ◌+◌, ◌*◌, ◌≤◌, ◌<◌}
 use mathlib.Core.Path.{◌≡◌, refl, sym, ap, ◌∙◌}
 use mathlib.Core.Bool.{Bool, true, false, not, cond, ◌&&◌, and-false}
 use mathlib.Core.List.{List, [], ◌∷◌, ◌++◌, map}
@@ -137,6 +137,10 @@ module _ (list word : List ℕ) (left rest : List (List ℕ)) (members : Roster)
 
     taken : suc user_id_length * suc members.count + room rest ≤ suc (length list)
     taken = omega (arith, g.takes, leb-true user_id_length (length word) (entry-takes word good))
+
+    -- there is room for its member
+    pub gathered-room : length list ≤ line_limit → members.count < member_limit
+    gathered-room h = omega (arith, taken, h)
 
     -- with its member gathered too, the words behind it are left
     pub gathered-next : Gathered list rest (pushed members m)

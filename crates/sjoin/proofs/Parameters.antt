@@ -29,7 +29,7 @@ use Rattle.message.specs.Content.{Content}
 use Rattle.message.specs.Parts.{content_by}
 use Rattle.message.proofs.SpanContents.{params-count, param-span-some}
 use Rattle.sjoin.specs.Modes.{key_letter, letters_of, has_parameter, parametered, good_argument, argument_of}
-use Rattle.sjoin.specs.Faults.{Site, Param, arguments_at, argument_number, argument_checks, count_checks, site_at}
+use Rattle.sjoin.specs.Faults.{Site, Param, End, arguments_at, argument_number, argument_checks, count_checks, site_at}
 use Rattle.sjoin.specs.Join.{modes_in, arguments_in}
 use Rattle.sjoin.specs.Private.Scanning.{placed, Parted, Matched, up_to}
 use Rattle.sjoin.specs.Private.Parts.{found_among}
@@ -79,6 +79,24 @@ unfolding arguments_in
 arguments-count c last e = omega (arith, length-take (length c.params - 4) (drop 3 c.params), length-drop 3 c.params, e)
 
 -- ---- how many they are, by the letters that have one
+module _ (letters : List ℕ) (args : List (List ℕ)) where
+  -- too many: the first surplus one is at fault
+  pub count-many : length letters < length args → first_fault (count_checks letters args) ≡ some (fault wrong_mode_params (Param (arguments_at + length letters)))
+  unfolding count_checks first_fault
+  count-many h = rw (lt-ltb (length letters) (length args) h)
+
+  -- too few: the line's end is at fault
+  pub count-few : length args < length letters → first_fault (count_checks letters args) ≡ some (fault wrong_mode_params End)
+  unfolding count_checks first_fault
+  count-few h = rw (le-ltb (length letters) (length args) (omega (arith, h)), lt-ltb (length args) (length letters) h)
+
+  -- as many: each is judged
+  pub count-right : length letters ≡ length args → first_fault (count_checks letters args) ≡ first_fault (argument_checks arguments_at letters args)
+  unfolding count_checks first_fault
+  count-right h =
+      rw (le-ltb (length letters) (length args) (omega (arith, h)), le-ltb (length args) (length letters) (omega (arith, h)), eq-eqb (length letters) (length args) h)
+
+-- and so of a message's own, by the places in its text
 module _ (text : List ℕ) (m : Message) (last : ℕ) (modes : List ℕ) (needed : ℕ) (p : Parted (content_by text m) last) (n : needed ≡ length (parametered (letters_of modes))) where
   abbrev pub letters : List ℕ
   letters = parametered (letters_of modes)
@@ -92,16 +110,16 @@ module _ (text : List ℕ) (m : Message) (last : ℕ) (modes : List ℕ) (needed
   -- too many: the first surplus one is at fault
   pub surplus : needed < last - 3 → length m.params ≡ param_limit → (d : Span)
       → some (fault wrong_mode_params (get_or m.params (3 + needed) d).start) ≡ placed (site_at (length text) m) (first_fault (count_checks letters args))
-  unfolding count_checks first_fault placed
+  unfolding placed
   surplus h full d =
       let k = params-count text m full in
-      rw (lt-ltb (length letters) (length args) (omega (arith, h, n, given)), ← n)
+      rw (count-many letters args (omega (arith, h, n, given)), ← n)
       (ap (λ (s : Span). some (fault wrong_mode_params s.start)) (param-span-some text m (3 + needed) d (omega (arith, h, p.count, k)) (omega (arith, h, p.few, full))))
 
   -- too few: the line's end is at fault
   pub missing : last - 3 < needed → some (fault wrong_mode_params (length text - 2)) ≡ placed (site_at (length text) m) (first_fault (count_checks letters args))
-  unfolding count_checks first_fault placed
-  missing h = rw (le-ltb (length letters) (length args) (omega (arith, h, n, given)), lt-ltb (length args) (length letters) (omega (arith, h, n, given)))
+  unfolding placed
+  missing h = rw (count-few letters args (omega (arith, h, n, given)))
 
   module _ (h : needed ≡ last - 3) where
     -- as many: each is judged
@@ -109,10 +127,7 @@ module _ (text : List ℕ) (m : Message) (last : ℕ) (modes : List ℕ) (needed
     matched = record { parted = p; exact = omega (arith, h, n, given) }
 
     pub each : first_fault (argument_checks arguments_at letters args) ≡ first_fault (count_checks letters args)
-    unfolding count_checks first_fault
-    each =
-        let e : length letters ≡ length args = omega (arith, h, n, given) in
-        sym (rw (le-ltb (length letters) (length args) (omega (arith, e)), le-ltb (length args) (length letters) (omega (arith, e)), eq-eqb (length letters) (length args) e))
+    each = sym (count-right letters args (omega (arith, h, n, given)))
 
 -- all that a counter of the parameters needs
 pub ruleset counting = (surplus, missing, matched, each)
@@ -212,7 +227,7 @@ unfolding place_among
 place-is letter s = is_position_or_len (λ l. place_among l letter) (λ x. eqb x letter) refl (λ x l. rw one-add) s
 
 -- within the part up to the last, a parameter is the one so many places on
-up_at : (params : List (List ℕ)) (last at k : ℕ) → k < last - at → get_or (up_to last at params) k [] ≡ get_or params (at + k) []
+pub up_at : (params : List (List ℕ)) (last at k : ℕ) → k < last - at → get_or (up_to last at params) k [] ≡ get_or params (at + k) []
 unfolding up_to
 up_at params last at k h = get_or-take (last - at) (drop at params) k [] h ∙ get_or-drop at params k []
 

@@ -58,6 +58,10 @@ good_count c = leb fewest (length c.params) && leb (length c.params) most
 unfoldable pub is_time : List ℕ → Bool
 is_time s = is_decimal s && leb (value_of s) time_limit
 
+-- the time that some bytes say, 0 where they say none
+unfoldable pub time_of : List ℕ → ℕ
+time_of s = cond (is_time s) (value_of s) 0
+
 -- of count and source: 12 and 13
 abbrev pub source_rules : Content → List Rule
 source_rules c =

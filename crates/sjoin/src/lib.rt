@@ -13,7 +13,7 @@ ghost use Rattle.channel.specs.Record.{encode};
 ghost use Rattle.octets.specs.Decimals.{value_of};
 ghost use Rattle.message.specs.Parts.{content_by};
 ghost use Rattle.sjoin.specs.Faults.{site_at};
-ghost use Rattle.sjoin.specs.Join.{time_in, source_rules, head_rules, fault_in, channel_in, told_in, told_by, as_told};
+ghost use Rattle.sjoin.specs.Join.{time_in, time_of, source_rules, head_rules, fault_in, channel_in, told_in, told_by, as_told};
 ghost use Rattle.sjoin.specs.Private.Scanning.{placed, Parted, Tells};
 
 use arguments::{MODES_AT, argument, check_arguments};
@@ -67,6 +67,14 @@ pub fn read_head(text: &[u8], m: Message) -> Result<u32, Refusal>
         return Err(Refusal::BadName);
     }
     Ok(time)
+}
+
+// The time that a message says, 0 where it says none.
+#[tactic(auto, unfolding(crate::specs::Join::time_of, crate::specs::Join::is_time))]
+pub fn time_of(text: &[u8], m: Message) -> u32
+    ensures { result ≡ time_of (time_in (content_by text.now m)) }
+{
+    decimal(param_in(text, m, TIME_AT), Record::TIME).unwrap_or(0)
 }
 
 // The first fault of the modes and their parameters, with its place in the text. The list is at `last`.

@@ -7,7 +7,7 @@ use mathlib.Core.List.{List, [], ◌∷◌, ◌++◌, append-nil, append_assoc}
 use native.Mathlib.Omega.{arith}
 use lib.ListN.{length, take, drop, get_or, length-append, length-take}
 use lib.Seq.{get_or-take}
-use borrow.Author.Tests.{le-leb}
+use borrow.Author.Tests.{le-leb, lt-leb}
 use Rattle.octets.specs.Bytes.{space}
 use Rattle.laws.specs.Lists.{prefixed, separated}
 use Rattle.laws.proofs.Texts.{separated-end}
@@ -115,6 +115,17 @@ module _ (c : Channel) (time : c.time < 2 ^ 32) (name : length c.name ≤ name_l
       )
 
 -- ---- what is put into lent room
+module _ (out : List ℕ) (c : Channel) where
+  -- Where it has no room, nothing is put.
+  pub described-none : length out < length (described c) → described_in out c ≡ []
+  unfolding described_in
+  described-none h = rw (lt-leb (0 + length (described c)) (length out) (omega arith))
+
+  -- Where it has room, all of it is put.
+  pub described-all : length (described c) ≤ length out → described_in out c ≡ described c
+  unfolding described_in
+  described-all h = rw (le-leb (0 + length (described c)) (length out) (omega arith))
+
 -- Where it has room, all of it is put, and else nothing, if the room that it is put together in has room for it.
 pub described_goes : (out : List ℕ) (c : Channel) (n : ℕ) → length (described c) ≤ n → (g : Page) → g ≡ added (fresh n) (described c)
     → (o : Option ℕ) → o ≡ option_map length (text_for out g) → (next : List ℕ) → next ≡ front (unwrap_or (text_for out g) []) out

@@ -57,6 +57,11 @@ entries-step l n k d h lt =
 pub entries-past : (l : List Member) (k : ℕ) → length l ≤ k → entries_from k (drop k l) ≡ []
 entries-past l k h = rw (drop_of_length-le l {i = k} h) (separated-end space k)
 
+-- ---- the list as the last parameter
+-- Where its text is longer than a line, so is the parameter.
+pub list_over : (k : ℕ) (p : List ℕ) (n : ℕ) → n < length p → n < length (space ∷ written_param k true p)
+list_over k p n h = omega (arith, ap (λ (l : List ℕ). length l) (colon-then k true p), length-append (cond (takes_colon k true p) (colon ∷ []) []) p)
+
 -- ---- the parameters, by whether key and limit are there
 params-text : (a b : Bool) (t n m k l s : List ℕ) → written_params 0 ((t ∷ n ∷ m ∷ []) ++ cond a (k ∷ []) [] ++ cond b (l ∷ []) [] ++ (s ∷ []))
     ≡ (space ∷ t) ++ (space ∷ n) ++ (space ∷ m) ++ cond a (space ∷ k) [] ++ cond b (space ∷ l) [] ++ (space ∷ written_param (3 + cond a 1 0 + cond b 1 0) true s)
@@ -91,8 +96,7 @@ join_over sid c n h =
       ap (λ (l : List ℕ). length l) (join_text sid c),
       length-append (head ++ (space ∷ written_param k true p)) crlf,
       length-append head (space ∷ written_param k true p),
-      ap (λ (l : List ℕ). length l) (colon-then k true p),
-      length-append (cond (takes_colon k true p) (colon ∷ []) []) p,
+      list_over k p n h,
     )
 
 -- ---- when it is written

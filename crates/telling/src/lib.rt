@@ -46,7 +46,7 @@ fn join(source: &[u8], r: Record, out: &mut [u8]) -> Result<usize, Refusal>
     };
     let mut room = [0u8; LINE_LIMIT];
     let mut line = Pen::new(&mut room);
-    put_join(&mut line, source, r, members);
+    put_join(&mut line, source, &r, members);
     line.copy_to(out).ok_or(Refusal::NoRoom)
 }
 
@@ -55,7 +55,7 @@ pub fn put_description(text: &mut Pen<'_>, r: Record)
     ensures told { text.new ≡ added text.old (described (decode r)) }
     ensures limit { (length (described (decode r)) ≤ description_limit) × (DESCRIPTION_LIMIT ≡ description_limit) }
 {
-    put_params(text, r);
+    put_params(text, &r);
 }
 
 // Puts the same at the front of the output and answers how many bytes they are; 0 where there is no room for all of them.

@@ -53,8 +53,8 @@ fn put_modes(line: &mut Pen<'_>, modes: u8)
 
 // Puts a SPACE and the key, if there is one.
 #[tactic(auto, using(octets::proofs::Pages::pieces))]
-fn put_key(line: &mut Pen<'_>, r: Record)
-    ensures { line.new ≡ added line.old (cond (has_mode r.modes key_mode) (space ∷ take r.key_len r.key) []) }
+fn put_key(line: &mut Pen<'_>, r: &Record)
+    ensures { line.new ≡ added line.old (cond (has_mode r.now.modes key_mode) (space ∷ take r.now.key_len r.now.key) []) }
 {
     if has_mode(r.modes, KEY_MODE) {
         put_spaced(line, part(&r.key, 0, r.key_len));
@@ -63,8 +63,8 @@ fn put_key(line: &mut Pen<'_>, r: Record)
 
 // Puts a SPACE and the limit, if there is one.
 #[tactic(auto, using(octets::proofs::Pages::pieces))]
-fn put_limit(line: &mut Pen<'_>, r: Record)
-    ensures { line.new ≡ added line.old (cond (has_mode r.modes limit_mode) (space ∷ digits_of r.limit) []) }
+fn put_limit(line: &mut Pen<'_>, r: &Record)
+    ensures { line.new ≡ added line.old (cond (has_mode r.now.modes limit_mode) (space ∷ digits_of r.now.limit) []) }
 {
     if has_mode(r.modes, LIMIT_MODE) {
         line.put(b" ");
@@ -74,8 +74,8 @@ fn put_limit(line: &mut Pen<'_>, r: Record)
 
 // Puts all that comes before the list, a SPACE between parameters: the time, the name and the settings.
 #[tactic(auto, using(octets::proofs::Pages::pieces), unfolding(crate::specs::Private::Pieces::lead_text, channel::specs::Record::decode))]
-fn put_lead(line: &mut Pen<'_>, r: Record)
-    ensures { line.new ≡ added line.old (lead_text (decode r)) }
+fn put_lead(line: &mut Pen<'_>, r: &Record)
+    ensures { line.new ≡ added line.old (lead_text (decode r.now)) }
 {
     line.put_decimal(u64::from(r.time));
     put_spaced(line, part(&r.name, 0, r.name_len));
@@ -120,9 +120,9 @@ pub(crate) fn put_entries(line: &mut Pen<'_>, r: Record)
 
 // Puts the line by which a server tells of a record, whose list is given: its text decides on the ':' before it.
 #[tactic(auto, using(octets::proofs::Pages::pieces, crate::proofs::Lines::join_text), unfolding(channel::specs::Record::decode))]
-pub(crate) fn put_join(line: &mut Pen<'_>, source: &[u8], r: Record, list: &[u8])
-    requires { list.now ≡ list_text (decode r).members }
-    ensures { line.new ≡ added line.old (written (join_message source.now (decode r))) }
+pub(crate) fn put_join(line: &mut Pen<'_>, source: &[u8], r: &Record, list: &[u8])
+    requires { list.now ≡ list_text (decode r.now).members }
+    ensures { line.new ≡ added line.old (written (join_message source.now (decode r.now))) }
 {
     line.put(b":");
     line.put(source);
@@ -134,10 +134,10 @@ pub(crate) fn put_join(line: &mut Pen<'_>, source: &[u8], r: Record, list: &[u8]
 
 // Puts what is told of a record, one SPACE between parameters.
 #[tactic(auto, using(octets::proofs::Pages::pieces, crate::proofs::Described::described_text))]
-pub(crate) fn put_params(text: &mut Pen<'_>, r: Record)
-    ensures { text.new ≡ added text.old (described (decode r)) }
+pub(crate) fn put_params(text: &mut Pen<'_>, r: &Record)
+    ensures { text.new ≡ added text.old (described (decode r.now)) }
 {
     put_lead(text, r);
     text.put(b" ");
-    put_entries(text, r);
+    put_entries(text, *r);
 }

@@ -9,4 +9,4 @@ use Rattle.octets.proofs.padded.Goals as goal
 pub returns : goal.returns
 returns g c =
     let n = c.min-n.result in
-    ap (λ (l : List ℕ). l ++ drop n (replicate g.row.N 0)) c.copy_from_slice.ensures.after ∙ copied-padded g.row.N n c.args.s.now c.min-n.ensures
+    ap (λ (l : List ℕ). l ++ drop n (replicate g.row.N 0)) c.copy.ensures ∙ copied-padded g.row.N n c.args.s.now c.min-n.ensures

@@ -1,12 +1,11 @@
--- `Member::bits` meets its contract. The invariant: the place is unused exactly if there are no bits so far and the bytes from i on are zero. Assumes nothing.
+-- `Member::bits` meets its contract. The invariant: the id is zero exactly if there are no bits so far and the bytes from i on are zero. Assumes nothing.
 use mathlib.Core.Path.{◌≡◌}
 use mathlib.Core.Bool.{◌&&◌}
 use lib.ListN.{drop}
 use Rattle.laws.specs.Lists.{all}
 use Rattle.octets.specs.Bytes.{is_zero}
-use Rattle.channel.specs.WellFormed.{is_vacant}
 use Rattle.channel.proofs.Member.bits.Given as goal
 
 abbrev pub invariant-loop-i : goal.invariant-loop-i
 invariant-loop-i l =
-    is_vacant l.fn.self ≡ is_zero l.bits && all is_zero (drop l.i l.fn.self.id)
+    all is_zero l.fn.self.id ≡ is_zero l.bits && all is_zero (drop l.i l.fn.self.id)

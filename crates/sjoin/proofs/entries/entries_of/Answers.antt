@@ -1,7 +1,8 @@
 -- `entries_of` meets its contract, by the laws of the members that are gathered. Assumes nothing.
 use Rattle.std.proofs.Common.{ap, ◌∙◌}
 use Rattle.message.specs.Listed.{words_left}
-use Rattle.sjoin.proofs.Listed.{gathered-first, gathered-odd, gathered-next, gathered-all}
+use Rattle.channel.proofs.Gathering.{pushed-room}
+use Rattle.sjoin.proofs.Listed.{gathered-first, gathered-odd, gathered-room, gathered-next, gathered-all}
 use Rattle.sjoin.proofs.entries.entries_of.Goals as goal
 
 pub loop-word-init : goal.loop-word-init
@@ -15,7 +16,8 @@ returns-in_err-entry_of c =
 pub loop-word-preserved : goal.loop-word-preserved
 loop-word-preserved c =
     let l = c.loop-word in
-    rw c.push.ensures (gathered-next c.args.list.now c.in-Some.word.now (words_left l.word-iterator) (words_left c.next.new.self) l.members c.in-Some.ensures.steps l.invariant _ c.in_ok-entry_of.ensures)
+    rw (c.push.ensures, pushed-room l.members _ (gathered-room c.args.list.now c.in-Some.word.now (words_left l.word-iterator) (words_left c.next.new.self) l.members c.in-Some.ensures.steps l.invariant _ c.in_ok-entry_of.ensures c.requires))
+    (gathered-next c.args.list.now c.in-Some.word.now (words_left l.word-iterator) (words_left c.next.new.self) l.members c.in-Some.ensures.steps l.invariant _ c.in_ok-entry_of.ensures)
 
 pub returns : goal.returns
 returns c =
