@@ -1,4 +1,3 @@
 -- Laws of the words, and a check that the table is whole.
 pub mod Fitting
-pub mod Found
 mod Whole

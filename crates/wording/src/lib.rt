@@ -2,11 +2,18 @@
 // the number that it belongs to; a function that answers one where its contract says the other isn't proved. Any later number adds its text to both.
 #![tactic(auto)]
 
-ghost use Rattle.std.specs.Prelude.{◌≡◌};
-ghost use Rattle.wording.specs.Wording.{words_of, text_of};
+ghost use Rattle.std.specs.Prelude.{◌≡◌, ◌≤◌, length};
+ghost use Rattle.wording.specs.Wording.{text_limit, holding, text_of};
 
 use octets::padded;
-use refusal::Refusal;
+use refusal::{
+    BAD_COMMAND, BAD_KEY, BAD_LIMIT, BAD_LINK, BAD_LOG_LENGTH, BAD_LOG_LINK, BAD_MASKS,
+    BAD_MEMBERS, BAD_NAME, BAD_SOURCE, BAD_TIME, EMPTY_LINE, EMPTY_PREFIX, FORBIDDEN_BYTE,
+    LINE_TOO_LONG, LOG_CUT, MODE_TWICE, NO_FREE_SLOT, NO_LINE_END, NO_MARK, NO_ROOM,
+    NO_SUCH_CHANNEL, NOT_ON_CHANNEL, NOT_WELL_FORMED, OUTPUT_TOO_SHORT, TEXT_TOO_LONG,
+    TOO_MANY_MASKS, TOO_MANY_MEMBERS, UNKNOWN_COMMAND, UNKNOWN_MODE, UNWRITABLE, WRONG_MODE_PARAMS,
+    WRONG_PARAM_COUNT, ZERO_TIME,
+};
 
 // The most bytes of a text.
 pub const TEXT_LIMIT: usize = 48;
@@ -20,79 +27,57 @@ pub struct Text {
     pub len: usize,
 }
 
-// The words of each refusal that a caller may get.
-const WORDS: [(Refusal, &[u8]); 34] = [
-    (
-        Refusal::NotWellFormed,
-        b"table, record or feeder not well formed",
-    ),
-    (Refusal::OutputTooShort, b"output under 512 bytes"),
-    (Refusal::BadLink, b"link above 31, or not registered"),
-    (Refusal::LineTooLong, b"line over 512 bytes"),
-    (Refusal::NoLineEnd, b"no CR LF at the end"),
-    (Refusal::ForbiddenByte, b"NUL, CR or LF before the end"),
-    (Refusal::EmptyLine, b"only CR LF"),
-    (Refusal::EmptyPrefix, b"prefix empty"),
-    (Refusal::BadCommand, b"command malformed or missing"),
-    (
-        Refusal::UnknownCommand,
-        b"command not SJOIN, PART, QUIT or BMASK",
-    ),
-    (Refusal::WrongParamCount, b"too few or too many parameters"),
-    (Refusal::BadSource, b"prefix missing or no id of its kind"),
-    (Refusal::BadTime, b"time malformed or too large"),
-    (Refusal::ZeroTime, b"time is 0"),
-    (Refusal::BadName, b"bad channel name, or names differ"),
-    (Refusal::UnknownMode, b"mode letter unknown, or '+' missing"),
-    (Refusal::ModeTwice, b"mode letter twice"),
-    (
-        Refusal::WrongModeParams,
-        b"mode parameter missing, or too many",
-    ),
-    (
-        Refusal::BadKey,
-        b"bad key: 1 to 23 bytes of 33 to 126, no comma",
-    ),
-    (Refusal::BadLimit, b"bad limit: not 1 to 65535"),
-    (Refusal::BadMembers, b"bad member list"),
-    (Refusal::BadMasks, b"bad type or mask list"),
-    (Refusal::NoSuchChannel, b"channel not in the table"),
-    (Refusal::NotOnChannel, b"user not in it"),
-    (Refusal::NoFreeSlot, b"all 16 slots used"),
-    (
-        Refusal::TooManyMembers,
-        b"more than 64 members would result",
-    ),
-    (Refusal::TooManyMasks, b"more than 32 masks would result"),
-    (Refusal::TextTooLong, b"mask or text over 512 bytes"),
-    (Refusal::Unwritable, b"message would not read back"),
-    (Refusal::NoRoom, b"no room for what is written"),
-    (Refusal::NoMark, b"no mark where a record of the log begins"),
-    (Refusal::BadLogLink, b"link above 31 in a record of the log"),
-    (
-        Refusal::BadLogLength,
-        b"length over 512 in a record of the log",
-    ),
-    (Refusal::LogCut, b"the log ends inside a record"),
-];
-
-// The words of a refusal's number; of any other number none.
-fn said(number: u8) -> &'static [u8]
-    ensures { result.now ≡ words_of number }
+// The words at the front of a room.
+#[tactic(auto, unfolding(crate::specs::Wording::holding))]
+fn held(words: &[u8]) -> Text
+    ensures { result ≡ holding words.now }
 {
-    match WORDS.iter().find(|(refusal, _)| refusal.number() == number) {
-        Some((_, words)) => words,
-        None => b"",
-    }
-}
-
-// The same at the front of a room.
-pub fn words(number: u8) -> Text
-    ensures { result ≡ text_of number }
-{
-    let words = said(number);
     Text {
         bytes: padded(words),
         len: words.len(),
+    }
+}
+
+// The words of a refusal's number; of any other number none.
+// Kept (7): the archive for C needs no data that a loader has to relocate; a table of lent texts does (docs/LOOK-BACK.md, c3).
+pub fn words(number: u8) -> Text
+    ensures { result ≡ text_of number }
+{
+    match number {
+        NOT_WELL_FORMED => held(b"table, record or feeder not well formed"),
+        OUTPUT_TOO_SHORT => held(b"output under 512 bytes"),
+        BAD_LINK => held(b"link above 31, or not registered"),
+        LINE_TOO_LONG => held(b"line over 512 bytes"),
+        NO_LINE_END => held(b"no CR LF at the end"),
+        FORBIDDEN_BYTE => held(b"NUL, CR or LF before the end"),
+        EMPTY_LINE => held(b"only CR LF"),
+        EMPTY_PREFIX => held(b"prefix empty"),
+        BAD_COMMAND => held(b"command malformed or missing"),
+        UNKNOWN_COMMAND => held(b"command not SJOIN, PART, QUIT or BMASK"),
+        WRONG_PARAM_COUNT => held(b"too few or too many parameters"),
+        BAD_SOURCE => held(b"prefix missing or no id of its kind"),
+        BAD_TIME => held(b"time malformed or too large"),
+        ZERO_TIME => held(b"time is 0"),
+        BAD_NAME => held(b"bad channel name, or names differ"),
+        UNKNOWN_MODE => held(b"mode letter unknown, or '+' missing"),
+        MODE_TWICE => held(b"mode letter twice"),
+        WRONG_MODE_PARAMS => held(b"mode parameter missing, or too many"),
+        BAD_KEY => held(b"bad key: 1 to 23 bytes of 33 to 126, no comma"),
+        BAD_LIMIT => held(b"bad limit: not 1 to 65535"),
+        BAD_MEMBERS => held(b"bad member list"),
+        BAD_MASKS => held(b"bad type or mask list"),
+        NO_SUCH_CHANNEL => held(b"channel not in the table"),
+        NOT_ON_CHANNEL => held(b"user not in it"),
+        NO_FREE_SLOT => held(b"all 16 slots used"),
+        TOO_MANY_MEMBERS => held(b"more than 64 members would result"),
+        TOO_MANY_MASKS => held(b"more than 32 masks would result"),
+        TEXT_TOO_LONG => held(b"mask or text over 512 bytes"),
+        UNWRITABLE => held(b"message would not read back"),
+        NO_ROOM => held(b"no room for what is written"),
+        NO_MARK => held(b"no mark where a record of the log begins"),
+        BAD_LOG_LINK => held(b"link above 31 in a record of the log"),
+        BAD_LOG_LENGTH => held(b"length over 512 in a record of the log"),
+        LOG_CUT => held(b"the log ends inside a record"),
+        _ => held(b""),
     }
 }

@@ -203,19 +203,19 @@ fn version_is_the_files() {
 #[test]
 fn words_are_the_sources() {
     let source = text("crates/wording/src/lib.rt");
-    let entry = |part: &str| {
-        let (name, rest) = part.split_once(',')?;
-        let (words, _) = rest.trim_start().strip_prefix("b\"")?.split_once('"')?;
-        Some((in_capitals(name), words.to_string()))
+    let arm = |line: &str| {
+        let (name, words) = line.trim().strip_suffix("\"),")?.split_once(" => held(b\"")?;
+        Some((name.to_string(), words.to_string()))
     };
-    let entries: BTreeMap<String, String> = source.split("Refusal::").filter_map(entry).collect();
+    let arms: BTreeMap<String, String> = source.lines().filter_map(arm).collect();
     let numbers = refusals();
     let without = [0, 10, 17];
-    assert_eq!(entries.len(), numbers.len() - without.len(), "a text for each other number");
+    let texts = numbers.len() - without.len() + 1;
+    assert_eq!(arms.len(), texts, "a text for each other number, and the empty one");
+    assert_eq!(arms["_"], "");
     for number in 0..=u8::MAX {
         let name = numbers.iter().find(|(_, &value)| value == u64::from(number));
-        let name = name.filter(|_| !without.contains(&number));
-        let words = name.map_or("", |(name, _)| &entries[name]);
-        assert_eq!(relay::refusal_text(number).as_bytes(), words.as_bytes(), "{number}");
+        let name = name.filter(|_| !without.contains(&number)).map_or("_", |(name, _)| name);
+        assert_eq!(relay::refusal_text(number).as_bytes(), arms[name].as_bytes(), "{number}");
     }
 }
