@@ -5,7 +5,7 @@
 ghost use Rattle.std.specs.Prelude.{◌≡◌, ◌≤◌, length};
 ghost use Rattle.wording.specs.Wording.{text_limit, holding, text_of};
 
-use octets::padded;
+use octets::put;
 use refusal::{
     BAD_COMMAND, BAD_KEY, BAD_LIMIT, BAD_LINK, BAD_LOG_LENGTH, BAD_LOG_LINK, BAD_MASKS,
     BAD_MEMBERS, BAD_NAME, BAD_SOURCE, BAD_TIME, EMPTY_LINE, EMPTY_PREFIX, FORBIDDEN_BYTE,
@@ -28,12 +28,15 @@ pub struct Text {
 }
 
 // The words at the front of a room.
-#[tactic(auto, unfolding(crate::specs::Wording::holding))]
+// Kept (2): by `padded` a text takes 1.4 times as long (docs/DESIGN-PASS.md).
 fn held(words: &[u8]) -> Text
+    requires { length words.now ≤ text_limit }
     ensures { result ≡ holding words.now }
 {
+    let mut bytes = [0u8; TEXT_LIMIT];
+    put(&mut bytes, 0, words);
     Text {
-        bytes: padded(words),
+        bytes,
         len: words.len(),
     }
 }
